@@ -1,6 +1,6 @@
 -- The laws of bags.
-use Rattle.std.proofs.Common.{◌≡◌, ℕ, ◌+◌, Bool, true, false, cond, List, [], ◌∷◌, ◌++◌, refl, sym, ap, ◌∙◌, arith, append_assoc, append-nil, Ordering, Equal}
-use Rattle.std.specs.Prelude.{ℤ, count_by}
+use Rattle.std.proofs.Common.{◌≡◌, ℕ, ◌+◌, Bool, true, false, cond, List, [], ◌∷◌, ◌++◌, refl, sym, ap, ◌∙◌, arith, append-nil, Equal}
+use Rattle.std.specs.Prelude.{ℤ}
 use Rattle.std.specs.List.{sum_by}
 use Rattle.std.specs.Ordering.{is_eq, eq_by_cmp}
 use Rattle.std.specs.Cmp.{IsTotalOrder, int_cmp_total}
@@ -9,7 +9,7 @@ use Rattle.std.specs.FinMap.{slice_cmp-IsAntisymmetric, int_cmp-IsAntisymmetric}
 use Rattle.std.proofs.lemmas.List.Sums.{sum_by-cons}
 use Rattle.std.proofs.lemmas.List.Recursion.{is_count_by}
 use Rattle.flame_rows.specs.Order.{row_order}
-use Rattle.flame_rows.specs.Sorted.{IsAscending, sorted_by}
+use Rattle.flame_rows.specs.Sorted.{IsAscending}
 use Rattle.flame_rows.specs.Bags.{ascending, merge, count_of, weigh}
 use Rattle.flame_rows.specs.Laws.{AscendingIsUnique, EqualByCounts, EqualByWeighings, AscendingKeepsCounts, MergeCommutes, MergeAssociates, EmptyIsUnit, MergeAddsCounts, MergeAddsWeights}
 use Rattle.flame_rows.proofs.Sorting.{sum_by-sorted_by, IsAscending-sorted_by, ascending_once, sorted_by-IsAscending}
@@ -105,7 +105,7 @@ merge_associates rows more last =
       merge_adds_weights weight (merge rows more) last,
       merge_adds_weights weight rows more,
       merge_adds_weights weight rows (merge more last),
-      merge_adds_weights weight more last
+      merge_adds_weights weight more last,
     ))
 
 pub empty_is_unit : EmptyIsUnit

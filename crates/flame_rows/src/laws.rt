@@ -7,8 +7,7 @@ ghost use Rattle.flame_rows.specs.Laws.{AscendingIsUnique, EqualByCounts, EqualB
 pub fn equal_bags()
     ensures by_counts { EqualByCounts }
     ensures by_weighings { EqualByWeighings }
-{
-}
+{}
 
 /// Merging is the union of multisets: it commutes and associates, the empty bag is its unit, and how often a row
 /// stands in it, and what it weighs, is the sum of both sides.
@@ -20,5 +19,4 @@ pub fn merged_bags()
     ensures unit { EmptyIsUnit }
     ensures counts { MergeAddsCounts }
     ensures weights { MergeAddsWeights }
-{
-}
+{}

@@ -6,10 +6,9 @@ pub mod blob;
 pub mod laws;
 pub mod row;
 pub mod seq;
-pub mod text;
-
 #[cfg(test)]
 mod tests;
+pub mod text;
 
 use std::alloc::{AllocError, AllocFailed};
 
