@@ -37,3 +37,14 @@ impl Text {
         self.text.as_str()
     }
 }
+
+/// The text that the string holds, taken over without a copy.
+impl From<String> for Text {
+    ghost use Rattle.std.specs.Prelude.{string_bytes};
+
+    ghost from_gives = { λ string text. text ≡ string_bytes string };
+
+    fn from(string: String) -> Text {
+        Text { text: string }
+    }
+}
