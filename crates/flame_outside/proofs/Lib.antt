@@ -1,0 +1,6 @@
+mod AnswerLemmas
+mod PutLemmas
+mod RaisedLemmas
+mod StoredLemmas
+mod TotalLemmas
+mod TransferLemmas

@@ -1,0 +1,19 @@
+-- Real files and streams, of which only the counts of failures are told.
+use Rattle.std.specs.Prelude.{ℕ, ◌+◌, ◌-◌, ◌^◌, nat_lt, if◌then◌else◌}
+
+-- how many reads and how many puts of real files failed
+pub record HostFaults : Type 0 where
+  pub reads : ℕ
+  pub puts : ℕ
+
+-- one more failure, up to the last number of 64 bits
+abbrev pub raised : ℕ → ℕ
+raised faults = if nat_lt faults (2 ^ 64 - 1) then faults + 1 else faults
+
+-- a read failed
+abbrev pub with_failed_read : HostFaults → HostFaults
+with_failed_read faults = record faults { reads = raised faults.reads }
+
+-- a put failed
+abbrev pub with_failed_put : HostFaults → HostFaults
+with_failed_put faults = record faults { puts = raised faults.puts }

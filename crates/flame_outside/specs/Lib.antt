@@ -1,0 +1,9 @@
+pub mod Rose
+pub mod Files
+pub mod Told
+pub mod Bytes
+pub mod Calls
+pub mod Memory
+pub mod Stored
+pub mod Codes
+pub mod Host

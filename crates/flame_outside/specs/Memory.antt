@@ -1,0 +1,75 @@
+-- A depot and a sink in memory, and what each call makes of them.
+use Rattle.std.specs.Prelude.{ℕ, ◌+◌, ◌/◌, List, [], ◌++◌, length, take, sum_by}
+use Rattle.std.specs.FinMap as map
+use Rattle.flame_outside.specs.Files.{Files}
+use Rattle.flame_outside.specs.Calls.{Calls, counted_on}
+
+-- the first half, rounded down
+abbrev pub first_half : List ℕ → List ℕ
+first_half bytes = take (length bytes / 2) bytes
+
+-- its files, its calls, and how many of the reads and of the puts among them failed
+pub record DepotInMemory : Type 0 where
+  pub files : Files
+  pub calls : Calls
+  pub read_faults : ℕ
+  pub put_faults : ℕ
+
+-- no file and no call so far
+abbrev pub new_depot : List ℕ → DepotInMemory
+new_depot failing = record {
+  files = map.empty;
+  calls = record { failing = failing; counted = 0 };
+  read_faults = 0;
+  put_faults = 0;
+}
+
+-- these bytes are the file of that name
+abbrev pub with_file : DepotInMemory → List ℕ → List ℕ → DepotInMemory
+with_file depot name bytes = record depot { files = map.insert depot.files name bytes }
+
+-- a call was made
+abbrev pub after_call : DepotInMemory → DepotInMemory
+after_call depot = record depot { calls = counted_on depot.calls }
+
+-- a read was made, and it failed
+abbrev pub after_failed_read : DepotInMemory → DepotInMemory
+after_failed_read depot = record depot { calls = counted_on depot.calls; read_faults = depot.read_faults + 1 }
+
+-- a put was made
+abbrev pub after_put : DepotInMemory → List ℕ → List ℕ → DepotInMemory
+after_put depot name bytes = after_call (with_file depot name bytes)
+
+-- a put was made, and it failed: the first half of the bytes is the file
+abbrev pub after_failed_put : DepotInMemory → List ℕ → List ℕ → DepotInMemory
+after_failed_put depot name bytes = record depot {
+  files = map.insert depot.files name (first_half bytes);
+  calls = counted_on depot.calls;
+  put_faults = depot.put_faults + 1;
+}
+
+-- the bytes of all files together
+abbrev pub total_of : Files → ℕ
+total_of files = sum_by (λ entry. length entry.1) (map.entries files)
+
+-- its bytes, its calls, and how many of them failed
+pub record SinkInMemory : Type 0 where
+  pub written : List ℕ
+  pub calls : Calls
+  pub faults : ℕ
+
+-- no byte and no call so far
+abbrev pub new_sink : List ℕ → SinkInMemory
+new_sink failing = record { written = []; calls = record { failing = failing; counted = 0 }; faults = 0 }
+
+-- a write was made
+abbrev pub after_write : SinkInMemory → List ℕ → SinkInMemory
+after_write sink bytes = record sink { written = sink.written ++ bytes; calls = counted_on sink.calls }
+
+-- a write was made, and it failed: the first half of the bytes was appended
+abbrev pub after_failed_write : SinkInMemory → List ℕ → SinkInMemory
+after_failed_write sink bytes = record sink {
+  written = sink.written ++ first_half bytes;
+  calls = counted_on sink.calls;
+  faults = sink.faults + 1;
+}
