@@ -54,9 +54,9 @@ macro_rules! answer {
 /// What the operator gives for two numbers of `int`, by its value over whole numbers without a bound. A quotient is
 /// truncated towards zero (C standard, 6.5.5), and a comparison gives 1 or 0 (6.5.8, 6.5.9).
 ///
-/// `DivideByZero` comes exactly where the operator is `/` or `%` and `b` is 0. `Overflow` comes exactly where the value
-/// is outside -2147483648 to 2147483647 (which 6.5 leaves open), and for `%` where the quotient is: of -2147483648 by
-/// -1 neither quotient nor remainder is given, as 6.5.5 has it. `Fuel` never comes.
+/// `DivideByZero` comes exactly where the operator is `/` or `%` and `b` is 0. Else `Overflow` comes exactly where the
+/// value is outside -2147483648 to 2147483647 (which 6.5 leaves open), and for `%` where the quotient is: of
+/// -2147483648 by -1 neither quotient nor remainder is given, as 6.5.5 has it. `Fuel` never comes.
 pub fn apply(op: Op, a: i32, b: i32) -> Result<i32, Cause>
     ensures { result ≡ applied op a b }
 {

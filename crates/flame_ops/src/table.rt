@@ -1,6 +1,7 @@
 //! Tables of spellings.
 
-ghost use Rattle.std.specs.Prelude.{◌≡◌, ◌<◌, ◌≤◌, length, slice_get, Contains, IfSome, IfNone};
+ghost use Rattle.std.specs.List.{starts_with};
+ghost use Rattle.std.specs.Prelude.{nat_eq, ◌≡◌, ◌<◌, ◌≤◌, length, slice_get, Contains, IfSome, IfNone};
 ghost use Rattle.flame_ops.specs.Spellings.{spelling, IsTable, IsLongest, NoneStands};
 
 use crate::spelling::Spelling;
@@ -67,11 +68,26 @@ impl<const N: usize> Table<N> {
         let mut most = 0;
         for (number, spelling) in self.spellings.iter().enumerate() {
             let text = spelling.bytes();
-            if text.len() > most && rest.starts_with(text) {
+            if text.len() > most && begins(rest, text) {
                 best = Some(number);
                 most = text.len();
             }
         }
         best
     }
+}
+
+/// Whether the bytes begin with the text. Most texts differ in their first byte, which costs no call.
+#[inline]
+fn begins(bytes: &[u8], text: &[u8]) -> bool
+    ensures { result ≡ starts_with nat_eq bytes.now text.now }
+{
+    if let [first, ..] = bytes {
+        if let [wanted, ..] = text {
+            if first != wanted {
+                return false;
+            }
+        }
+    }
+    bytes.starts_with(text)
 }
