@@ -1,0 +1,13 @@
+pub mod Values
+pub mod Prefixes
+pub mod Runs
+pub mod LoopWords
+pub mod Marks
+pub mod Lexemes
+pub mod Gaps
+pub mod Cuts
+pub mod Classes
+pub mod WordKinds
+pub mod Unique
+pub mod Apart
+pub mod Readings

@@ -1,0 +1,9 @@
+pub mod Bytes
+pub mod Numbers
+pub mod Places
+pub mod Words
+pub mod Pieces
+pub mod Faults
+pub mod Reading
+pub mod Laws
+pub mod Steps
