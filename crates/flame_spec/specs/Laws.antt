@@ -1,0 +1,17 @@
+-- What holds of function files.
+use Rattle.std.specs.Prelude.{◌≡◌, ◌↔◌, ℕ, List, Some}
+use Rattle.flame_spec.specs.declared.model.NarrowModel.{NarrowModel}
+use Rattle.flame_spec.specs.declared.source.Sum.{Sum}
+use Rattle.flame_spec.specs.Pieces.{pieces_of, laid}
+use Rattle.flame_spec.specs.Sums.{StandsFor}
+use Rattle.flame_spec.specs.Reading.{source_of}
+
+-- the pieces are laid end to end over all bytes
+abbrev pub PiecesCoverBytes : Type 0
+PiecesCoverBytes = (bytes : List ℕ) → laid (pieces_of bytes) ≡ bytes
+
+-- a file is read as some assignments exactly where it stands for them
+abbrev pub ReadExactly : Type 0
+ReadExactly =
+    (model : NarrowModel) (bytes : List ℕ) (sums : List Sum)
+    → (source_of model bytes ≡ Some sums) ↔ StandsFor model bytes sums

@@ -1,0 +1,12 @@
+pub mod Steps
+pub mod Json
+pub mod Names
+pub mod Models
+pub mod Pieces
+pub mod Sums
+pub mod Reading
+pub mod Laws
+pub mod Meaning
+pub mod Populations
+pub mod Texts
+pub mod Runs

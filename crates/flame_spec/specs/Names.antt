@@ -1,0 +1,37 @@
+-- Names of models, variables and functions.
+use Rattle.std.specs.Prelude.{ℕ, List, length, slice_index, nat_eq, codes, Bool, not, ◌==◌, ◌&&◌, ◌||◌, nat_le, nat_lt}
+use Rattle.std.specs.List.{list_all, list_any, starts_with}
+use Rattle.std.specs.Char.{is_ascii_digit}
+use Rattle.std.specs.Str.{bytes_eq}
+use Rattle.flame_ops.specs.Words.{keyword_spellings}
+
+-- an ASCII letter or `_`
+abbrev pub is_letter : ℕ → Bool
+is_letter b = (nat_le 65 b && nat_le b 90) || (nat_le 97 b && nat_le b 122) || (b == 95)
+
+-- an ASCII letter, a digit or `_`
+abbrev pub is_word_byte : ℕ → Bool
+is_word_byte b = is_letter b || is_ascii_digit b
+
+-- at least one byte
+abbrev pub is_filled : List ℕ → Bool
+is_filled text = nat_lt 0 (length text)
+
+-- 1 to 100 bytes, a letter or `_` first, then letters, digits and `_`
+abbrev pub is_name : List ℕ → Bool
+is_name text =
+    is_filled text
+    && nat_le (length text) 100
+    && is_letter (slice_index text 0)
+    && list_all is_word_byte text
+
+-- a word that C or the message macros have for themselves
+abbrev pub is_reserved : List ℕ → Bool
+is_reserved word =
+    list_any (bytes_eq word) keyword_spellings
+    || starts_with nat_eq word (codes "START_")
+    || starts_with nat_eq word (codes "FINISH_")
+
+-- a name that a transition function with a body may have
+abbrev pub is_function_name : List ℕ → Bool
+is_function_name word = is_name word && not (bytes_eq word (codes "idle")) && not (is_reserved word)

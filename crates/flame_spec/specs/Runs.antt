@@ -1,0 +1,44 @@
+-- What a run writes, prints and answers, iteration by iteration.
+use Rattle.std.specs.Prelude.{ℕ, zero, suc, ◌+◌, ℤ, List, [], ◌∷◌, ◌++◌, Result, Ok, Err}
+use Rattle.flame_spec.specs.declared.model.NarrowModel.{NarrowModel}
+use Rattle.flame_spec.specs.declared.source.Sum.{Sum}
+use Rattle.flame_spec.specs.Meaning.{Faulted, iteration}
+use Rattle.flame_spec.specs.Texts.{file_name, file_text, line_text, fault_text}
+
+-- the files to write with their names and the lines to print, each in order, the line for err, and the status
+pub record Report : Type 0 where
+  pub files : List (List ℕ × List ℕ)
+  pub lines : List (List ℕ)
+  pub error : List ℕ
+  pub status : ℕ
+
+-- a report of no files and no lines, with this line for err and this status
+abbrev pub ended : List ℕ → ℕ → Report
+ended error status = record { files = []; lines = []; error = error; status = status }
+
+-- a file and its line, and then what follows
+abbrev pub with_turn : List ℕ × List ℕ → List ℕ → Report → Report
+with_turn file line report = record {
+  files = file ∷ report.files;
+  lines = line ∷ report.lines;
+  error = report.error;
+  status = report.status;
+}
+
+-- the file and line of an iteration that leaves these agents and what follows it, or the fault that ends the run
+abbrev pub after_turn :
+    NarrowModel
+    → List ℕ
+    → ℕ
+    → Result (List (List ℤ)) Faulted
+    → (List (List ℤ) → Report)
+    → Report
+after_turn model prefix itno (Err faulted) rest = ended (fault_text model itno faulted) 3
+after_turn model prefix itno (Ok agents) rest =
+    with_turn (file_name prefix itno, file_text model itno agents) (line_text itno agents) (rest agents)
+
+-- so many iterations after the one with this number
+abbrev pub run : NarrowModel → List Sum → List ℕ → ℕ → ℕ → List (List ℤ) → Report
+run model sums prefix zero itno agents = ended [] 0
+run model sums prefix (suc turns) itno agents =
+    after_turn model prefix (itno + 1) (iteration sums agents) (run model sums prefix turns (itno + 1))

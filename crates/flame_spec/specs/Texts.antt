@@ -1,0 +1,94 @@
+-- The texts of iteration files, of the lines that are printed after them, and of faults.
+use Rattle.std.specs.Prelude.{ℕ, ℤ, List, [], ◌∷◌, ◌++◌, length, codes, decimal}
+use Rattle.std.specs.Fmt.{signed_decimal}
+use Rattle.flame_ops.specs.declared.integers.Cause.{Cause}
+use Rattle.flame_ops.specs.declared.integers.Cause.TheVariants.{Overflow, DivideByZero, Fuel}
+use Rattle.flame_spec.specs.declared.model.NarrowModel.{NarrowModel}
+use Rattle.flame_spec.specs.Pieces.{laid}
+use Rattle.flame_spec.specs.Meaning.{Faulted, held}
+
+-- an agent's memory in an iteration file
+abbrev pub agent_text : NarrowModel → List ℤ → List ℕ
+agent_text model memory =
+    laid (
+    codes "{\"name\":\""
+    ∷ model.agent
+    ∷ codes "\",\"memory\":{\""
+    ∷ model.variable
+    ∷ codes "\":"
+    ∷ signed_decimal (held memory)
+    ∷ codes "}}"
+    ∷ []
+    )
+
+-- the agents after the first, each after a comma
+abbrev pub more_agents : NarrowModel → List (List ℤ) → List ℕ
+more_agents model [] = []
+more_agents model (memory ∷ memories) = codes "," ++ agent_text model memory ++ more_agents model memories
+
+abbrev pub agents_text : NarrowModel → List (List ℤ) → List ℕ
+agents_text model [] = []
+agents_text model (memory ∷ memories) = agent_text model memory ++ more_agents model memories
+
+-- the file of an iteration
+abbrev pub file_text : NarrowModel → ℕ → List (List ℤ) → List ℕ
+file_text model itno agents =
+    laid (
+    codes "{\"states\":{\"itno\":"
+    ∷ decimal itno
+    ∷ codes ",\"environment\":{},\"agents\":["
+    ∷ agents_text model agents
+    ∷ codes "],\"boards\":[]}}\n"
+    ∷ []
+    )
+
+-- the name of that file
+abbrev pub file_name : List ℕ → ℕ → List ℕ
+file_name prefix itno = laid (prefix ∷ decimal itno ∷ codes ".json" ∷ [])
+
+-- the line that is printed after it; a narrow model has no messages
+abbrev pub line_text : ℕ → List (List ℤ) → List ℕ
+line_text itno agents =
+    laid (
+    codes "iteration "
+    ∷ decimal itno
+    ∷ codes " agents "
+    ∷ decimal (length agents)
+    ∷ codes " messages 0\n"
+    ∷ []
+    )
+
+abbrev pub cause_text : Cause → List ℕ
+cause_text Overflow = codes "Overflow"
+cause_text DivideByZero = codes "DivideByZero"
+cause_text Fuel = codes "Fuel"
+
+-- why the agent with this memory faulted
+abbrev pub reason_text : NarrowModel → Faulted → List ℕ
+reason_text model faulted =
+    laid (
+    cause_text faulted.fault.cause
+    ∷ codes " at line "
+    ∷ decimal faulted.fault.line
+    ∷ codes ": memory "
+    ∷ model.variable
+    ∷ codes "="
+    ∷ signed_decimal (held faulted.memory)
+    ∷ codes "\n"
+    ∷ []
+    )
+
+-- the line for an iteration that faulted
+abbrev pub fault_text : NarrowModel → ℕ → Faulted → List ℕ
+fault_text model itno faulted =
+    laid (
+    codes "fault: iteration "
+    ∷ decimal itno
+    ∷ codes ": "
+    ∷ model.agent
+    ∷ codes "."
+    ∷ model.function
+    ∷ codes ": "
+    ∷ reason_text model faulted
+    ∷ []
+    )
