@@ -1,0 +1,12 @@
+pub mod Composition
+pub mod Iterations
+pub mod Stopping
+pub mod Reported
+pub mod FiveWords
+pub mod ShortNumbers
+pub mod Digits
+pub mod JsonRead
+pub mod Keywords
+pub mod Sizes
+pub mod Pieces
+pub mod Items

@@ -1,0 +1,37 @@
+-- What the ending of an order tells, and what it takes to come to it.
+use Rattle.std.specs.Prelude.{◌≡◌, ℕ, List, Option, Some, None}
+use Rattle.flame_outside.specs.Files.{Files}
+use Rattle.flame_top.specs.declared.early.Early.{Early}
+use Rattle.flame_top.specs.declared.early.Early.TheVariants.{Words, Missing, NotJson, NotBuilt}
+use Rattle.flame_top.specs.declared.ending.Ending.{Ending}
+use Rattle.flame_top.specs.declared.ending.Ending.TheVariants.{Done, Refused, Faulted, ReadFault, FileFault, OutputFault, NoMemory}
+use Rattle.flame_top.specs.Orders.{Run}
+use Rattle.flame_top.specs.Loading.{IsReached}
+
+-- a run that has its inputs may end so
+abbrev pub IsDriven : Ending → Type 0
+IsDriven (Refused early) = ⊥
+IsDriven (ReadFault name) = ⊥
+IsDriven ending = Unit {0}
+
+-- a failed read, put or write is answered only where its count rose
+abbrev pub IsCaused : Ending → Type 0 → Type 0 → Type 0 → Type 0
+IsCaused (ReadFault name) reads puts writes = reads
+IsCaused (FileFault name) reads puts writes = puts
+IsCaused OutputFault reads puts writes = writes
+IsCaused ending reads puts writes = Unit {0}
+
+abbrev pub RefusesWords : Ending → Type 0
+RefusesWords (Refused Words) = Unit {0}
+RefusesWords ending = ⊥
+
+-- the words are refused exactly where they give no order
+abbrev pub IsOrdered : Option Run → Ending → Type 0
+IsOrdered None ending = RefusesWords ending
+IsOrdered (Some run) ending = ¬ RefusesWords ending
+
+-- an input that could not be read is one that the order has, and no refusal stands before it
+abbrev pub ReachesInput : Files → Option Run → Ending → Type 0
+ReachesInput told None (ReadFault name) = ⊥
+ReachesInput told (Some run) (ReadFault name) = IsReached told run name
+ReachesInput told order ending = Unit {0}

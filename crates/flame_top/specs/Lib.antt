@@ -1,0 +1,13 @@
+pub mod Orders
+pub mod Ordered
+pub mod Borrowed
+pub mod Loading
+pub mod Loaded
+pub mod Reports
+pub mod Endings
+pub mod Standing
+pub mod Turns
+pub mod Carrying
+pub mod Telling
+pub mod Failing
+pub mod Blanks

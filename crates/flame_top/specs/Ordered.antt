@@ -1,0 +1,11 @@
+-- An order as the program holds it.
+use Rattle.flame_top.specs.declared.words.Order.{Order}
+use Rattle.flame_top.specs.Orders.{Run}
+
+abbrev pub order_view : Order → Run
+order_view order = record {
+  model = order.model.now;
+  population = order.population.now;
+  out = order.out.now;
+  turns = order.turns;
+}
