@@ -1,5 +1,5 @@
 -- What a run writes, prints and answers, iteration by iteration.
-use Rattle.std.specs.Prelude.{ℕ, zero, suc, ◌+◌, ℤ, List, [], ◌∷◌, ◌++◌, Result, Ok, Err}
+use Rattle.std.specs.Prelude.{ℕ, zero, suc, ◌+◌, ℤ, List, [], ◌∷◌, Result, Ok, Err}
 use Rattle.flame_spec.specs.declared.model.NarrowModel.{NarrowModel}
 use Rattle.flame_spec.specs.declared.source.Sum.{Sum}
 use Rattle.flame_spec.specs.Meaning.{Faulted, iteration}

@@ -1,8 +1,17 @@
 //! What models, function files, populations and their runs mean: the data and the definitions that other crates cite.
 #![tactic(auto)]
 
+pub mod accepted_laws;
+pub mod check_laws;
+pub mod condition;
 pub mod fault;
 pub mod laws;
 pub mod model;
+pub mod name_laws;
+pub mod order_laws;
+pub mod outcome;
 pub mod population;
 pub mod source;
+pub mod tree;
+pub mod used_laws;
+pub mod view_laws;

@@ -1,0 +1,16 @@
+-- Names in capitals, as function files write variables and constants.
+use Rattle.std.specs.Prelude.{ℕ, List, Bool, not, ◌&&◌}
+use Rattle.std.specs.List.{list_any}
+use Rattle.std.specs.Str.{bytes_eq, str_to_ascii_uppercase}
+
+-- the text with its ASCII letters as capitals
+abbrev pub capitals : List ℕ → List ℕ
+capitals text = str_to_ascii_uppercase text
+
+-- two different names that are equal in capitals
+abbrev pub is_alike : List ℕ → List ℕ → Bool
+is_alike name other = not (bytes_eq name other) && bytes_eq (capitals name) (capitals other)
+
+-- another one of these names is equal to it in capitals
+abbrev pub clashes : List ℕ → List (List ℕ) → Bool
+clashes name names = list_any (is_alike name) names

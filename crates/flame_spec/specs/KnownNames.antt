@@ -1,0 +1,51 @@
+-- Names, and what is declared by them.
+use Rattle.std.specs.Prelude.{ℕ, List, [], ◌∷◌, map, codes, Bool, if◌then◌else◌}
+use Rattle.std.specs.List.{list_any}
+use Rattle.std.specs.Str.{bytes_eq}
+use Rattle.flame_spec.specs.declared.model.Model.{Model}
+use Rattle.flame_spec.specs.declared.model.TimeUnit.{TimeUnit}
+use Rattle.flame_spec.specs.declared.model.Variable.{Variable}
+use Rattle.flame_spec.specs.declared.model.MessageType.{MessageType}
+use Rattle.flame_spec.specs.Capitals.{capitals}
+
+-- it is one of these names
+abbrev pub is_among : List ℕ → List (List ℕ) → Bool
+is_among name names = list_any (bytes_eq name) names
+
+-- the names of variables
+abbrev pub variable_names : List Variable → List (List ℕ)
+variable_names variables = map (λ variable. variable.name) variables
+
+-- the names of units, with `iteration` in front, which each model has
+abbrev pub unit_names : List TimeUnit → List (List ℕ)
+unit_names units = codes "iteration" ∷ map (λ unit. unit.name) units
+
+-- the names of messages
+abbrev pub message_names : List MessageType → List (List ℕ)
+message_names messages = map (λ message. message.name) messages
+
+-- the names of the variables of the message of this name; none where there is no such message
+abbrev pub names_in : List MessageType → List ℕ → List (List ℕ)
+names_in [] name = []
+names_in (message ∷ messages) name =
+    if bytes_eq name message.name then variable_names message.variables else names_in messages name
+
+-- the names that the agent types of a model find declared
+pub record Declared : Type 0 where
+  -- the constants, in capitals
+  pub constants : List (List ℕ)
+  -- `iteration` and the time units
+  pub units : List (List ℕ)
+  -- the messages
+  pub messages : List (List ℕ)
+  -- the variables of the message of a name
+  pub variables : List ℕ → List (List ℕ)
+
+-- the names that a model declares for its agent types
+abbrev pub declared_by : Model → Declared
+declared_by model = record {
+  constants = map capitals model.constants;
+  units = unit_names model.units;
+  messages = message_names model.messages;
+  variables = names_in model.messages;
+}

@@ -1,0 +1,125 @@
+-- What trees are seen as by definitions: form by form the same.
+use Rattle.std.specs.Prelude.{ℕ, List, [], ◌∷◌, map, Option, option_map}
+use Rattle.flame_spec.specs.declared.tree.Expr.{Expr, fold-Expr}
+use Rattle.flame_spec.specs.declared.tree.Expr.TheOpen.{Expr-F, Link-F}
+use Rattle.flame_spec.specs.declared.tree.Link.{Link}
+use Rattle.flame_spec.specs.declared.tree.Stmt.{Stmt, fold-Stmt}
+use Rattle.flame_spec.specs.declared.tree.Stmt.TheOpen.{Stmt-F, Arm-F, Head-F}
+use Rattle.flame_spec.specs.declared.tree.Arm.{Arm}
+use Rattle.flame_spec.specs.declared.tree.Item.{Item}
+use Rattle.flame_spec.specs.declared.tree.Assign.{Assign}
+use Rattle.flame_ops.specs.declared.integers.Op.{Op}
+use Rattle.flame_spec.specs.Trees.{Expression, number, name, field, get, signed, chain, all_of, any_of, Expressions, no_parts, part, Links, no_links, link}
+use Rattle.flame_spec.specs.Trees.{Declared, Assigned, Statement, empty, declare, assign, call, block, branch, while, for, do_while, loop_over, return, break, continue}
+use Rattle.flame_spec.specs.Trees.{Statements, no_more, also, Arms, no_arms, arm}
+
+-- an operator with its line and the operand after it
+pub record Joined : Type 0 where
+  pub op : Op
+  pub line : ℕ
+  pub right : Expression
+
+abbrev pub expressions_of : List Expression → Expressions
+expressions_of [] = no_parts
+expressions_of (e ∷ es) = part e (expressions_of es)
+
+abbrev pub links_of : List Joined → Links
+links_of [] = no_links
+links_of (l ∷ ls) = link l.op l.line l.right (links_of ls)
+
+abbrev pub expression_step : Expr-F Expression Joined → Expression
+expression_step (Expr-F.Number n) = number n
+expression_step (Expr-F.Name line word) = name line word
+expression_step (Expr-F.Field line word variable) = field line word variable
+expression_step (Expr-F.Get line word) = get line word
+expression_step (Expr-F.Unary signs e) = signed signs e.value
+expression_step (Expr-F.Chain e more) = chain e.value (links_of more)
+expression_step (Expr-F.All parts) = all_of (expressions_of parts)
+expression_step (Expr-F.Any parts) = any_of (expressions_of parts)
+
+abbrev pub joined_step : Link-F Expression Joined → Joined
+joined_step l = record { op = l.op; line = l.line; right = l.right }
+
+-- an expression
+abbrev pub expression : Expr → Expression
+expression = fold-Expr Expression Joined expression_step joined_step
+
+-- expressions in order
+abbrev pub expressions : List Expr → Expressions
+expressions es = expressions_of (map expression es)
+
+-- an operator with its line and the operand after it
+abbrev pub joined : Link → Joined
+joined l = record { op = l.op; line = l.line; right = expression l.right }
+
+-- operators with their operands, in order
+abbrev pub links : List Link → Links
+links ls = links_of (map joined ls)
+
+-- a local that a declaration declares
+abbrev pub declared : Item → Declared
+declared item = record { line = item.line; name = item.name; value = option_map expression item.value }
+
+-- an assignment
+abbrev pub assigned : Assign → Assigned
+assigned a = record { line = a.line; name = a.name; op = a.op; op_line = a.op_line; value = expression a.value }
+
+-- a test and its body
+pub record Tested : Type 0 where
+  pub test : Expression
+  pub body : Statements
+
+-- the head of a `for`
+pub record Headed : Type 0 where
+  pub first : Statements
+  pub test : Option Expression
+  pub step : Option Assigned
+
+abbrev pub statements_of : List Statement → Statements
+statements_of [] = no_more
+statements_of (s ∷ ss) = also s (statements_of ss)
+
+abbrev pub arms_of : List Tested → Arms
+arms_of [] = no_arms
+arms_of (a ∷ more) = arm a.test a.body (arms_of more)
+
+abbrev pub statement_step : Stmt-F Statement Tested Headed → Statement
+statement_step Stmt-F.Empty = empty
+statement_step (Stmt-F.Declare items) = declare (map declared items)
+statement_step (Stmt-F.Assign a) = assign (assigned a)
+statement_step (Stmt-F.Call line word arguments) = call line word (expressions arguments)
+statement_step (Stmt-F.Block body) = block (statements_of body)
+statement_step (Stmt-F.If tests otherwise) = branch (arms_of tests) (statements_of otherwise)
+statement_step (Stmt-F.While line test body) = while line (expression test) (statements_of body)
+statement_step (Stmt-F.For line head body) = for line head.value.first head.value.test head.value.step (statements_of body)
+statement_step (Stmt-F.Do line body test) = do_while line (statements_of body) (expression test)
+statement_step (Stmt-F.Loop line word body end_line end_word) = loop_over line word (statements_of body) end_line end_word
+statement_step (Stmt-F.Return e) = return (expression e)
+statement_step (Stmt-F.Break line) = break line
+statement_step (Stmt-F.Continue line) = continue line
+
+abbrev pub arm_step : Arm-F Statement Tested Headed → Tested
+arm_step a = record { test = expression a.test; body = statements_of a.body }
+
+abbrev pub head_step : Head-F Statement Tested Headed → Headed
+head_step h = record {
+  first = statements_of h.first;
+  test = option_map expression h.test;
+  step = option_map assigned h.step;
+}
+
+-- a statement
+abbrev pub statement : Stmt → Statement
+statement = fold-Stmt Statement Tested Headed statement_step arm_step head_step
+
+-- statements in order
+abbrev pub statements : List Stmt → Statements
+statements ss = statements_of (map statement ss)
+
+-- a test and its body
+abbrev pub tested : Arm → Tested
+tested a = record { test = expression a.test; body = statements a.body }
+
+-- tests with their bodies, in order
+abbrev pub arms : List Arm → Arms
+arms more = arms_of (map tested more)

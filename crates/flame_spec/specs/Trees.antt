@@ -1,0 +1,67 @@
+-- The trees of function files, as definitions go through them: the same forms as in the data, with plain lists of their own.
+use Rattle.std.specs.Prelude.{ℕ, ℤ, List, Option}
+use Rattle.flame_ops.specs.declared.integers.Op.{Op}
+use Rattle.flame_spec.specs.declared.tree.Sign.{Sign}
+
+mutual
+  -- an expression; a number before a name is the line of its word
+  pub data Expression : Type 0 where
+    number : ℤ → Expression
+    name : ℕ → List ℕ → Expression
+    field : ℕ → List ℕ → List ℕ → Expression
+    get : ℕ → List ℕ → Expression
+    signed : List Sign → Expression → Expression
+    chain : Expression → Links → Expression
+    all_of : Expressions → Expression
+    any_of : Expressions → Expression
+
+  -- expressions in order
+  pub data Expressions : Type 0 where
+    no_parts : Expressions
+    part : Expression → Expressions → Expressions
+
+  -- operators with their lines, each with the operand after it, in order
+  pub data Links : Type 0 where
+    no_links : Links
+    link : Op → ℕ → Expression → Links → Links
+
+-- a local that a declaration declares
+pub record Declared : Type 0 where
+  pub line : ℕ
+  pub name : List ℕ
+  pub value : Option Expression
+
+-- an assignment
+pub record Assigned : Type 0 where
+  pub line : ℕ
+  pub name : List ℕ
+  pub op : Option Op
+  pub op_line : ℕ
+  pub value : Expression
+
+mutual
+  -- a statement; a number before it is the line of its word or keyword
+  pub data Statement : Type 0 where
+    empty : Statement
+    declare : List Declared → Statement
+    assign : Assigned → Statement
+    call : ℕ → List ℕ → Expressions → Statement
+    block : Statements → Statement
+    branch : Arms → Statements → Statement
+    while : ℕ → Expression → Statements → Statement
+    for : ℕ → Statements → Option Expression → Option Assigned → Statements → Statement
+    do_while : ℕ → Statements → Expression → Statement
+    loop_over : ℕ → List ℕ → Statements → ℕ → List ℕ → Statement
+    return : Expression → Statement
+    break : ℕ → Statement
+    continue : ℕ → Statement
+
+  -- statements in order
+  pub data Statements : Type 0 where
+    no_more : Statements
+    also : Statement → Statements → Statements
+
+  -- tests with their bodies, in order
+  pub data Arms : Type 0 where
+    no_arms : Arms
+    arm : Expression → Statements → Arms → Arms

@@ -1,0 +1,116 @@
+-- Well formed models, and parts of models by themselves: each text and number is one that a model file may have there.
+use Rattle.std.specs.Prelude.{ℤ, pos, negsuc, int_le, Bool, true, false, ◌&&◌}
+use Rattle.std.specs.List.{list_all}
+use Rattle.std.specs.Option.{option_map_or, is_none}
+use Rattle.flame_ops.specs.declared.integers.Op.{Op}
+use Rattle.flame_ops.specs.declared.integers.Op.TheVariants.{Eq, Ne, Lt, Gt, Le, Ge}
+use Rattle.flame_spec.specs.declared.condition.Operand.{Operand}
+use Rattle.flame_spec.specs.declared.condition.Operand.TheVariants.{Number, Agent, Message}
+use Rattle.flame_spec.specs.declared.condition.Condition.{Condition, fold-Condition}
+use Rattle.flame_spec.specs.declared.condition.Condition.TheOpen.{Condition-F}
+use Rattle.flame_spec.specs.declared.model.Model.{Model}
+use Rattle.flame_spec.specs.declared.model.TimeUnit.{TimeUnit}
+use Rattle.flame_spec.specs.declared.model.Variable.{Variable}
+use Rattle.flame_spec.specs.declared.model.MessageType.{MessageType}
+use Rattle.flame_spec.specs.declared.model.AgentType.{AgentType}
+use Rattle.flame_spec.specs.declared.model.Function.{Function}
+use Rattle.flame_spec.specs.declared.model.Input.{Input}
+use Rattle.flame_spec.specs.declared.model.Sort.{Sort}
+use Rattle.flame_spec.specs.Names.{is_filled, is_name}
+
+-- a number in the range of int: -2147483648 to 2147483647
+abbrev pub is_int : ℤ → Bool
+is_int number = int_le (negsuc 2147483647) number && int_le number (pos 2147483647)
+
+-- a number from 1 to 2147483647
+abbrev pub is_positive_int : ℤ → Bool
+is_positive_int number = int_le (pos 1) number && int_le number (pos 2147483647)
+
+-- an operator that compares
+abbrev pub is_comparison : Op → Bool
+is_comparison Eq = true
+is_comparison Ne = true
+is_comparison Lt = true
+is_comparison Gt = true
+is_comparison Le = true
+is_comparison Ge = true
+is_comparison _ = false
+
+-- a number in the range of int, or a variable by its name
+abbrev pub is_well_formed_operand : Operand → Bool
+is_well_formed_operand (Number number) = is_int number
+is_well_formed_operand (Agent name) = is_name name
+is_well_formed_operand (Message name) = is_name name
+
+-- a number in the range of int, or a variable of the agent
+abbrev pub is_well_formed_phase : Operand → Bool
+is_well_formed_phase (Number number) = is_int number
+is_well_formed_phase (Agent name) = is_name name
+is_well_formed_phase (Message name) = false
+
+-- a form of a condition whose parts are well formed; `timed` tells whether a time condition may stand there
+abbrev pub well_formed_step : Bool → Condition-F Bool → Bool
+well_formed_step timed (Condition-F.Compare op left right) =
+    is_comparison op && (is_well_formed_operand left && is_well_formed_operand right)
+well_formed_step timed (Condition-F.And left right) = left.value && right.value
+well_formed_step timed (Condition-F.Or left right) = left.value && right.value
+well_formed_step timed (Condition-F.Not part) = part.value
+well_formed_step timed (Condition-F.Time period phase duration) =
+    timed && (is_name period && (is_well_formed_phase phase && is_positive_int duration))
+
+-- a condition
+abbrev pub is_well_formed_condition : Condition → Bool
+is_well_formed_condition = fold-Condition Bool (well_formed_step true)
+
+-- a filter: a condition without a time condition
+abbrev pub is_well_formed_filter : Condition → Bool
+is_well_formed_filter = fold-Condition Bool (well_formed_step false)
+
+-- a time unit
+abbrev pub is_well_formed_unit : TimeUnit → Bool
+is_well_formed_unit unit = is_name unit.name && (is_name unit.unit && is_positive_int unit.period)
+
+-- a variable: it is no array
+abbrev pub is_well_formed_variable : Variable → Bool
+is_well_formed_variable variable = is_name variable.name && is_none variable.length
+
+-- a message type
+abbrev pub is_well_formed_message : MessageType → Bool
+is_well_formed_message message = is_name message.name && list_all is_well_formed_variable message.variables
+
+-- a sort of an input
+abbrev pub is_well_formed_sort : Sort → Bool
+is_well_formed_sort sort = is_name sort.key
+
+-- an input of a function
+abbrev pub is_well_formed_input : Input → Bool
+is_well_formed_input input =
+    is_name input.message
+    && (option_map_or is_well_formed_filter input.filter true
+    && option_map_or is_well_formed_sort input.sort true)
+
+-- a function
+abbrev pub is_well_formed_function : Function → Bool
+is_well_formed_function function =
+    is_name function.name
+    && (is_filled function.current
+    && (is_filled function.next
+    && (option_map_or is_well_formed_condition function.condition true
+    && (list_all is_well_formed_input function.inputs
+    && list_all is_name function.outputs))))
+
+-- an agent type
+abbrev pub is_well_formed_agent : AgentType → Bool
+is_well_formed_agent agent =
+    is_name agent.name
+    && (list_all is_well_formed_variable agent.memory
+    && list_all is_well_formed_function agent.functions)
+
+-- a model
+abbrev pub is_well_formed : Model → Bool
+is_well_formed model =
+    list_all is_name model.constants
+    && (list_all is_filled model.files
+    && (list_all is_well_formed_unit model.units
+    && (list_all is_well_formed_message model.messages
+    && list_all is_well_formed_agent model.agents)))

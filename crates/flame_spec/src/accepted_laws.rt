@@ -1,0 +1,12 @@
+//! Acceptance, on small sources. A law is its contract: it computes nothing.
+
+ghost use Rattle.flame_spec.specs.AcceptedCases.{NothingIsAccepted, LoneFunctionIsAccepted, FormedCase, StartsCase};
+
+/// Sources that are accepted, parts of models that are well formed, and types with and without one start state, worked
+/// by hand.
+pub fn cases()
+    ensures nothing { NothingIsAccepted }
+    ensures lone_function { LoneFunctionIsAccepted }
+    ensures formed { FormedCase }
+    ensures starts { StartsCase }
+{}

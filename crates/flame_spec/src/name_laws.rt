@@ -1,0 +1,18 @@
+//! Laws of models without name faults. A law is its contract: it computes nothing.
+
+ghost use Rattle.flame_spec.specs.NameLaws.{ConstantsDiffer, UnitsDiffer, MessagesDiffer, TypesDiffer, LengthsAreKnown};
+
+/// In a model without name faults the constants and the messages differ, in capitals too, the time units differ from
+/// each other and from `iteration`, and the agent types differ.
+pub fn names_differ()
+    ensures constants { ConstantsDiffer }
+    ensures units { UnitsDiffer }
+    ensures messages { MessagesDiffer }
+    ensures types { TypesDiffer }
+{}
+
+/// In a model without name faults whose time units are well formed, each unit has a length: from 1 to 2147483647
+/// iterations.
+pub fn lengths_are_known()
+    ensures { LengthsAreKnown }
+{}

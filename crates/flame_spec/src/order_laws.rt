@@ -1,0 +1,46 @@
+//! Laws of model order, cycles, layers and start states. A law is its contract: it computes nothing.
+
+ghost use Rattle.flame_spec.specs.OrderCases.{WriterRunsFirst, CyclesAreMet, StartsAreFound};
+ghost use Rattle.flame_spec.specs.OrderLaws.{OrderListsFunctions, OrderListsNoneTwice, OrderRespectsBefore, OrderTakesFirst, OrderIsWhole, LeftOverStepsBack, LeftOverHasCycle, RoundLeavesOver, LayersAreAbove, LayersRise, LayersHaveNoGap};
+ghost use Rattle.flame_spec.specs.StateLaws.{StartsAreNotEntered, TypesHaveStarts};
+
+/// Model order lists functions of the model, none twice, each after all that stand before it, and of those that could
+/// come next always the first in document order. It lists all of them exactly where none is left over, and a function
+/// that is left over has a predecessor that is left over.
+pub fn orders()
+    ensures functions { OrderListsFunctions }
+    ensures once { OrderListsNoneTwice }
+    ensures after { OrderRespectsBefore }
+    ensures first { OrderTakesFirst }
+    ensures whole { OrderIsWhole }
+    ensures left { LeftOverStepsBack }
+{}
+
+/// Where a function is left over, the cycle's members stand before one another in a round, each once, beginning with
+/// the first one in document order; and where functions stand before one another in a round, one is left over.
+pub fn cycles()
+    ensures has_cycle { LeftOverHasCycle }
+    ensures leaves_over { RoundLeavesOver }
+{}
+
+/// In a model without a cycle a function's layer is 0, or 1 more than the greatest layer of what stands before it; it
+/// is greater than each of those, and the layer below is that of one of them.
+pub fn layers()
+    ensures above { LayersAreAbove }
+    ensures rise { LayersRise }
+    ensures no_gap { LayersHaveNoGap }
+{}
+
+/// A start state of a type is one of its states that no function of the type enters, and each such state is one. In a
+/// model where no function is left over each type has one at least.
+pub fn start_states_of_types()
+    ensures entered { StartsAreNotEntered }
+    ensures some { TypesHaveStarts }
+{}
+
+/// Small models worked by hand: their orders, layers, cycles and start states.
+pub fn order_cases()
+    ensures order { WriterRunsFirst }
+    ensures cycles { CyclesAreMet }
+    ensures starts { StartsAreFound }
+{}
