@@ -1,0 +1,134 @@
+-- In words without a fault that lack nothing each number is one that 32 bits hold.
+use Rattle.std.proofs.Common.{◌≡◌, ℕ, ◌<◌, ◌≤◌, ◌^◌, List, [], ◌∷◌, zero, suc, length, true, ◌&&◌}
+use Rattle.std.proofs.Common.{nat_le, Some}
+use Rattle.std.proofs.Common.{refl, sym, ◌∙◌, ap, arith, inl, inr}
+use Rattle.std.specs.List.{list_all, slice_get}
+use Rattle.std.specs.Str.{bytes_eq}
+use Rattle.std.proofs.lemmas.Bool.{and_parts, leb-true, cases_Bool}
+use Rattle.std.proofs.lemmas.Slice.Eq.{bytes_eq-Decides}
+use Rattle.flame_words.specs.declared.table.Command.{Command}
+use Rattle.flame_words.specs.declared.table.Command.TheVariants.{Run, Trial}
+use Rattle.flame_words.specs.declared.table.Place.{Place}
+use Rattle.flame_words.specs.declared.table.Place.TheVariants.{Turns, Seed, Size, TrialTurns}
+use Rattle.flame_words.specs.declared.table.Flag.{Flag}
+use Rattle.flame_words.specs.declared.table.Flag.TheVariants.{Workers, Fuel, Sync}
+use Rattle.flame_words.specs.declared.table.Takes.TheVariants.{Number}
+use Rattle.flame_words.specs.Table.{places, place_takes, flag_of, flag_name, flag_takes, default}
+use Rattle.flame_words.specs.Values.{is_number, number_value}
+use Rattle.flame_words.specs.Roles.{Given}
+use Rattle.flame_words.specs.Orders.{word_at, value_of}
+use Rattle.flame_words.specs.Suits.{suits, words_suit, given_suits, IsSmallNumber, OptionsSuit}
+use Rattle.flame_words.specs.Steps.{Seen, IsComplete}
+
+-- a positional word can be taken as its place asks
+pub suits_at :
+    (places : List Place) (words : List (List ℕ)) (at : ℕ) (place : Place)
+    → words_suit places words ≡ true
+    → slice_get places at ≡ Some place
+    → at < length words
+    → suits (place_takes place) (word_at words at) ≡ true
+suits_at places [] at place suit there within = absurd (omega arith)
+suits_at [] (word ∷ words) at place suit there within = cc
+suits_at (first ∷ places) (word ∷ words) zero place suit there within =
+    let same : first ≡ place = cc in
+    ap (λ p. suits (place_takes p) word) (sym same) ∙ (and_parts _ _ suit).0
+suits_at (first ∷ places) (word ∷ words) (suc at) place suit there within =
+    let rest = and_parts (suits (place_takes first) word) (words_suit places words) suit in
+    suits_at places words at place rest.1 there (omega arith)
+
+-- a number within limits of 32 bits is one that 32 bits hold
+pub small_number :
+    (least most : ℕ) (word : List ℕ)
+    → most < 2 ^ 32
+    → suits (Number least most) word ≡ true
+    → IsSmallNumber word
+small_number least most word few suit =
+    let parts = and_parts (is_number word) (nat_le least (number_value word) && nat_le (number_value word) most) suit in
+    let within = and_parts (nat_le least (number_value word)) (nat_le (number_value word) most) parts.1 in
+    let below = leb-true (number_value word) most within.1 in
+    record { number = parts.0; small = omega arith }
+
+-- the numbers among the positional words of `run` and of `trial`
+pub run_number : (seen : Seen) → IsComplete seen → seen.command ≡ Run → IsSmallNumber (word_at seen.words 3)
+run_number seen complete run =
+    let at_run = ap places run in
+    let enough : 4 ≤ length seen.words = rw (ap (λ p. length p) at_run) at complete.enough in
+    small_number 0 1000000 _ (omega arith)
+    (suits_at (places seen.command) seen.words 3 Turns complete.words_suit_places (ap (λ p. slice_get p 3) at_run)
+    (omega arith))
+
+trial_place :
+    (seen : Seen) (at most : ℕ) (place : Place)
+    → IsComplete seen
+    → seen.command ≡ Trial
+    → slice_get (places Trial) at ≡ Some place
+    → place_takes place ≡ Number 0 most
+    → at < 3
+    → most < 2 ^ 32
+    → IsSmallNumber (word_at seen.words at)
+trial_place seen at most place complete trial there takes few small =
+    let at_trial = ap places trial in
+    let enough : 3 ≤ length seen.words = rw (ap (λ p. length p) at_trial) at complete.enough in
+    let suit =
+    suits_at (places seen.command) seen.words at place complete.words_suit_places
+    (ap (λ p. slice_get p at) at_trial ∙ there)
+    (omega arith) in
+    small_number 0 most _ small (ap (λ t. suits t (word_at seen.words at)) (sym takes) ∙ suit)
+
+pub trial_seed : (seen : Seen) → IsComplete seen → seen.command ≡ Trial → IsSmallNumber (word_at seen.words 0)
+trial_seed seen complete trial = trial_place seen 0 4294967295 Seed complete trial refl refl (omega arith) (omega arith)
+
+pub trial_size : (seen : Seen) → IsComplete seen → seen.command ≡ Trial → IsSmallNumber (word_at seen.words 1)
+trial_size seen complete trial = trial_place seen 1 10000 Size complete trial refl refl (omega arith) (omega arith)
+
+pub trial_turns : (seen : Seen) → IsComplete seen → seen.command ≡ Trial → IsSmallNumber (word_at seen.words 2)
+trial_turns seen complete trial = trial_place seen 2 20 TrialTurns complete trial refl refl (omega arith) (omega arith)
+
+default_suits : (flag : Flag) → suits (flag_takes flag) (default flag) ≡ true
+default_suits Workers = refl
+default_suits Fuel = refl
+default_suits Sync = refl
+
+-- an option of the command has a value that it can have
+pub option_suits :
+    (command : Command) (givens : List Given) (flag : Flag)
+    → list_all (given_suits command) givens ≡ true
+    → flag_of command (flag_name flag) ≡ Some flag
+    → suits (flag_takes flag) (value_of givens flag) ≡ true
+option_suits command [] flag suit known = default_suits flag
+option_suits command (given ∷ givens) flag suit known =
+    let parts = and_parts (given_suits command given) (list_all (given_suits command) givens) suit in
+    elim (cases_Bool (bytes_eq given.name (flag_name flag))) [
+      | inl here ↦
+          let name : given.name ≡ flag_name flag = (bytes_eq-Decides given.name (flag_name flag)).0 here in
+          let flagged : flag_of command given.name ≡ Some flag = ap (flag_of command) name ∙ known in
+          rw here (rw flagged at parts.0)
+      | inr elsewhere ↦ rw elsewhere (option_suits command givens flag parts.1 known)
+    ]
+
+pub has_options_run : (flag : Flag) → flag_of Run (flag_name flag) ≡ Some flag
+has_options_run Workers = refl
+has_options_run Fuel = refl
+has_options_run Sync = refl
+
+pub has_options_trial : (flag : Flag) → flag_of Trial (flag_name flag) ≡ Some flag
+has_options_trial Workers = refl
+has_options_trial Fuel = refl
+has_options_trial Sync = refl
+
+pub run_options : (seen : Seen) → IsComplete seen → seen.command ≡ Run → OptionsSuit seen.givens
+run_options seen complete run flag =
+    option_suits seen.command seen.givens flag complete.givens_suit
+    (ap (λ command. flag_of command (flag_name flag)) run ∙ has_options_run flag)
+
+pub trial_options : (seen : Seen) → IsComplete seen → seen.command ≡ Trial → OptionsSuit seen.givens
+trial_options seen complete trial flag =
+    option_suits seen.command seen.givens flag complete.givens_suit
+    (ap (λ command. flag_of command (flag_name flag)) trial ∙ has_options_trial flag)
+
+-- the options whose values are numbers
+pub workers_small : (givens : List Given) → OptionsSuit givens → IsSmallNumber (value_of givens Workers)
+workers_small givens suit = small_number 1 64 (value_of givens Workers) (omega arith) (suit Workers)
+
+pub fuel_small : (givens : List Given) → OptionsSuit givens → IsSmallNumber (value_of givens Fuel)
+fuel_small givens suit = small_number 0 1000000000 (value_of givens Fuel) (omega arith) (suit Fuel)

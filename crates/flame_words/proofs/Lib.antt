@@ -1,0 +1,13 @@
+pub mod Lists
+pub mod Numerals
+pub mod Suiting
+pub mod Counting
+pub mod Following
+pub mod Finding
+pub mod Reached
+pub mod Completing
+pub mod Refusing
+pub mod Numbering
+pub mod Answering
+pub mod Ending
+pub mod Limiting

@@ -1,0 +1,5 @@
+use Rattle.flame_words.proofs.Ending.{many_refused}
+use Rattle.flame_words.proofs.laws.many_words.Goals as goal
+
+pub returns : goal.returns
+returns c = many_refused

@@ -1,0 +1,9 @@
+pub mod Table
+pub mod Values
+pub mod Roles
+pub mod Faults
+pub mod Orders
+pub mod Limits
+pub mod Laws
+pub mod Suits
+pub mod Steps

@@ -1,0 +1,30 @@
+-- The limits within which the numbers of an order lie.
+use Rattle.std.specs.Prelude.{◌≤◌}
+use Rattle.flame_words.specs.declared.orders.Order.{Order}
+use Rattle.flame_words.specs.declared.orders.Order.TheVariants.{Run, Check, Graph, Code, Trial}
+use Rattle.flame_words.specs.declared.orders.RunOrder.{RunOrder}
+use Rattle.flame_words.specs.declared.orders.TrialOrder.{TrialOrder}
+use Rattle.flame_words.specs.declared.orders.How.{How}
+
+pub record HowIsWithin (how : How) : Type 0 where
+  pub some_worker : 1 ≤ how.workers
+  pub few_workers : how.workers ≤ 64
+  pub fuel : how.fuel ≤ 1000000000
+
+pub record RunIsWithin (run : RunOrder) : Type 0 where
+  pub turns : run.turns ≤ 1000000
+  pub how : HowIsWithin run.how
+
+pub record TrialIsWithin (trial : TrialOrder) : Type 0 where
+  pub seed : trial.seed ≤ 4294967295
+  pub size : trial.size ≤ 10000
+  pub turns : trial.turns ≤ 20
+  pub how : HowIsWithin trial.how
+
+-- each number of the order is within its limits
+abbrev pub IsWithin : Order → Type 0
+IsWithin (Run run) = RunIsWithin run
+IsWithin (Check model) = Unit {0}
+IsWithin (Graph model) = Unit {0}
+IsWithin (Code model) = Unit {0}
+IsWithin (Trial trial) = TrialIsWithin trial

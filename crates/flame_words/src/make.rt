@@ -1,0 +1,97 @@
+//! Making the order of the words that were read.
+
+ghost use Rattle.std.specs.Prelude.{◌≡◌, ◌<◌, ◌≤◌, length, IfOk};
+ghost use Rattle.flame_words.specs.Orders.{value_of, how_of, word_at, run_of, trial_of, order_from};
+ghost use Rattle.flame_words.specs.Values.{number_value};
+ghost use Rattle.flame_words.specs.Suits.{IsSmallNumber, OptionsSuit};
+ghost use Rattle.flame_words.specs.Steps.{seen_of, IsComplete};
+
+use crate::orders::{How, Order, RunOrder, TrialOrder};
+use crate::reading::Reading;
+use crate::table::{Command, Flag};
+use crate::value::{number_value, way_of};
+use flame_rows::NoMemory;
+use flame_rows::text::Text;
+use std::alloc::Global;
+
+/// The order of words that have no fault.
+pub(crate) fn order_from(alloc: Global, reading: &Reading<'_>) -> Result<Order, NoMemory>
+    requires { IsComplete (seen_of reading.now) }
+    ensures { IfOk result (λ order. order
+        ≡ order_from (seen_of reading.now).command (seen_of reading.now).words (seen_of reading.now).givens) }
+{
+    match reading.command {
+        Command::Run => Ok(Order::Run(run_of(alloc, reading)?)),
+        Command::Check => Ok(Order::Check(text_at(alloc, reading, 0)?)),
+        Command::Graph => Ok(Order::Graph(text_at(alloc, reading, 0)?)),
+        Command::Code => Ok(Order::Code(text_at(alloc, reading, 0)?)),
+        Command::Trial => Ok(Order::Trial(trial_of(reading))),
+    }
+}
+
+fn run_of(alloc: Global, reading: &Reading<'_>) -> Result<RunOrder, NoMemory>
+    requires complete { IsComplete (seen_of reading.now) }
+    requires command { reading.now.command ≡ Command.Run }
+    ensures { IfOk result (λ run. run ≡ run_of (seen_of reading.now).words (seen_of reading.now).givens) }
+{
+    Ok(RunOrder {
+        model: text_at(alloc, reading, 0)?,
+        pop: text_at(alloc, reading, 1)?,
+        out: text_at(alloc, reading, 2)?,
+        turns: number_at(reading, 3),
+        how: how_of(reading),
+    })
+}
+
+fn trial_of(reading: &Reading<'_>) -> TrialOrder
+    requires complete { IsComplete (seen_of reading.now) }
+    requires command { reading.now.command ≡ Command.Trial }
+    ensures { result ≡ trial_of (seen_of reading.now).words (seen_of reading.now).givens }
+{
+    TrialOrder {
+        seed: number_at(reading, 0),
+        size: number_at(reading, 1),
+        turns: number_at(reading, 2),
+        how: how_of(reading),
+    }
+}
+
+/// How the options say that iterations are run.
+fn how_of(reading: &Reading<'_>) -> How
+    requires { OptionsSuit (seen_of reading.now).givens }
+    ensures { result ≡ how_of (seen_of reading.now).givens }
+{
+    How {
+        workers: number(reading.value(Flag::Workers)),
+        fuel: number(reading.value(Flag::Fuel)),
+        way: way_of(reading.value(Flag::Sync)),
+    }
+}
+
+/// The positional word of this number as a text.
+fn text_at(alloc: Global, reading: &Reading<'_>, at: usize) -> Result<Text, NoMemory>
+    requires { at < length reading.now.words.items }
+    ensures { IfOk result (λ text. text ≡ word_at (seen_of reading.now).words at) }
+{
+    Text::of(alloc, reading.word(at))
+}
+
+/// The positional word of this number as a number.
+fn number_at(reading: &Reading<'_>, at: usize) -> u32
+    requires there { at < length reading.now.words.items }
+    requires number { IsSmallNumber (word_at (seen_of reading.now).words at) }
+    ensures { result ≡ number_value (word_at (seen_of reading.now).words at) }
+{
+    number(reading.word(at))
+}
+
+/// The number that the word is.
+fn number(word: &str) -> u32
+    requires { IsSmallNumber word.now }
+    ensures { result ≡ number_value word.now }
+{
+    match number_value(word) {
+        Some(value) => value,
+        None => unreachable!(),
+    }
+}

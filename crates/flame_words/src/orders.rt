@@ -1,0 +1,66 @@
+//! What a command line orders.
+
+use flame_rows::text::Text;
+
+/// The order that a command line gives.
+#[derive(Debug, Drop)]
+pub enum Order {
+    /// Run a model.
+    Run(RunOrder),
+    /// Check the model of this name.
+    Check(Text),
+    /// Print the functions of the model of this name in order, and which stands before which.
+    Graph(Text),
+    /// Print the code of the functions of the model of this name.
+    Code(Text),
+    /// Run the model that the program carries.
+    Trial(TrialOrder),
+}
+
+/// Run a model on a population.
+#[derive(Debug, Drop)]
+pub struct RunOrder {
+    /// The name of the model file.
+    pub model: Text,
+    /// The name of the population file.
+    pub pop: Text,
+    /// What the names of the written files begin with.
+    pub out: Text,
+    /// How many iterations, 0 to 1,000,000.
+    pub turns: u32,
+    /// How they are run.
+    pub how: How,
+}
+
+/// Run the model that the program carries on a population that it makes.
+#[derive(Debug, Drop)]
+pub struct TrialOrder {
+    /// What the population is drawn from.
+    pub seed: u32,
+    /// How many agents it has, 0 to 10,000.
+    pub size: u32,
+    /// How many iterations, 0 to 20.
+    pub turns: u32,
+    /// How they are run.
+    pub how: How,
+}
+
+/// How iterations are run. No result depends on it but where a function needs more fuel than it is given.
+#[derive(Debug, Drop)]
+pub struct How {
+    /// How many workers, 1 to 64.
+    pub workers: u32,
+    /// How many turns of loops each call of a function may take, 0 to 1,000,000,000.
+    pub fuel: u32,
+    /// What the workers wait for.
+    pub way: Way,
+}
+
+/// What workers wait for before they begin a function.
+#[derive(Clone, Copy, Debug, PartialEq, Eq)]
+pub enum Way {
+    /// For the whole layer before.
+    Layers,
+    /// For what the function itself needs.
+    Flow,
+}
