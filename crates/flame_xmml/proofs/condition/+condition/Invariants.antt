@@ -1,0 +1,15 @@
+-- Each level is less deep; on one level a condition calls an operation, which calls both its sides.
+use Rattle.std.proofs.Common.{ℕ, ◌+◌, ◌*◌}
+use Rattle.serde_json.specs.Data.{depth}
+use Rattle.serde_json.specs.View.{view}
+use Rattle.flame_xmml.specs.Shown.{data_of}
+use Rattle.flame_xmml.proofs.condition.+condition.Given as goal
+
+abbrev pub decreases-condition : goal.decreases-condition
+decreases-condition l = 3 * depth (data_of l.value) + 2
+
+abbrev pub decreases-operation : goal.decreases-operation
+decreases-operation l = 3 * depth (view l.value.now) + 1
+
+abbrev pub decreases-sides : goal.decreases-sides
+decreases-sides l = 3 * depth (view l.value.now)

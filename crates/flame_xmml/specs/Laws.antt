@@ -1,0 +1,17 @@
+-- What the form says of conditions, level by level.
+use Rattle.std.specs.Prelude.{◌≡◌, ℕ, List, Bool}
+use Rattle.serde_json.specs.Data.{Data}
+use Rattle.flame_xmml.specs.Parts.{part}
+use Rattle.flame_xmml.specs.Conditions.{condition_keys, condition_faults, condition_parts, condition_of}
+
+-- the faults of a condition are those at its keys, where conditions stand again
+abbrev pub FaultsStandAtKeys : Type 0
+FaultsStandAtKeys =
+    (in_filter : Bool) (path : List ℕ) (value : Data)
+    → condition_faults in_filter path value
+    ≡ condition_keys in_filter value (λ key inside. condition_faults in_filter inside (part key value)) path
+
+-- the condition that a value stands for is made of those that its keys stand for
+abbrev pub ConditionsStandAtKeys : Type 0
+ConditionsStandAtKeys =
+    (value : Data) → condition_of value ≡ condition_parts value (λ key. condition_of (part key value))

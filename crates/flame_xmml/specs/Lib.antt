@@ -1,0 +1,12 @@
+pub mod Places
+pub mod Parts
+pub mod Wants
+pub mod Leaves
+pub mod Bare
+pub mod Conditions
+pub mod Faults
+pub mod Models
+pub mod Steps
+pub mod Shown
+pub mod Reading
+pub mod Laws

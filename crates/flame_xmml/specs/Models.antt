@@ -1,0 +1,122 @@
+-- The model that a value stands for, object by object. It is the value's where the value has no shape fault.
+use Rattle.std.specs.Prelude.{ℕ, List, [], map, codes, ℤ, pos, Bool, false, if◌then◌else◌, Option, Some, None}
+use Rattle.std.specs.Prelude.{unwrap_or, option_map}
+use Rattle.serde_json.specs.Data.{Data}
+use Rattle.flame_spec.specs.declared.condition.Condition.{Condition}
+use Rattle.flame_spec.specs.declared.model.Model.{Model}
+use Rattle.flame_spec.specs.declared.model.TimeUnit.{TimeUnit}
+use Rattle.flame_spec.specs.declared.model.Variable.{Variable}
+use Rattle.flame_spec.specs.declared.model.MessageType.{MessageType}
+use Rattle.flame_spec.specs.declared.model.AgentType.{AgentType}
+use Rattle.flame_spec.specs.declared.model.Function.{Function}
+use Rattle.flame_spec.specs.declared.model.Input.{Input}
+use Rattle.flame_spec.specs.declared.model.Sort.{Sort}
+use Rattle.flame_xmml.specs.declared.model.Environment.{Environment}
+use Rattle.flame_xmml.specs.Parts.{part, has, members}
+use Rattle.flame_xmml.specs.Wants.{name_of, filled_of, positive_of, truth_of, order_of}
+use Rattle.flame_xmml.specs.Conditions.{condition_of}
+
+-- ---- what stands at keys
+
+-- the name at a key
+abbrev pub name_at : List ℕ → Data → List ℕ
+name_at key value = unwrap_or (name_of (part key value)) []
+
+-- a text of at least one byte
+abbrev pub filled : Data → List ℕ
+filled value = unwrap_or (filled_of value) []
+
+abbrev pub filled_at : List ℕ → Data → List ℕ
+filled_at key value = filled (part key value)
+
+-- the period of a time unit
+abbrev pub period_at : Data → ℤ
+period_at value = unwrap_or (positive_of (part (codes "period") value)) (pos 1)
+
+-- whether a random order is asked for; it is not where that is missing
+abbrev pub random_at : Data → Bool
+random_at value = unwrap_or (truth_of (part (codes "random") value)) false
+
+-- whether the greatest comes first
+abbrev pub descending_at : Data → Bool
+descending_at value = unwrap_or (order_of (part (codes "order") value)) false
+
+-- what the members of the list at a key stand for; none where the list is missing
+abbrev pub list_at : {X : Type 0} → (Data → X) → List ℕ → Data → List X
+list_at read key value = map read (unwrap_or (members (part key value)) [])
+
+-- what stands at a key, if something does
+abbrev pub there : List ℕ → Data → Option Data
+there key value = if has key value then Some (part key value) else None
+
+-- ---- the objects
+
+abbrev pub variable_of : Data → Variable
+variable_of value = record { name = name_at (codes "name") value; length = None }
+
+abbrev pub unit_of : Data → TimeUnit
+unit_of value = record {
+  name = name_at (codes "name") value;
+  unit = name_at (codes "unit") value;
+  period = period_at value;
+}
+
+abbrev pub message_of : Data → MessageType
+message_of value = record {
+  name = name_at (codes "name") value;
+  variables = list_at variable_of (codes "variables") value;
+}
+
+abbrev pub sort_of : Data → Sort
+sort_of value = record {
+  key = name_at (codes "key") value;
+  descending = descending_at value;
+}
+
+abbrev pub input_of : Data → Input
+input_of value = record {
+  message = name_at (codes "messageName") value;
+  random = random_at value;
+  filter = option_map condition_of (there (codes "filter") value);
+  sort = option_map sort_of (there (codes "sort") value);
+}
+
+abbrev pub function_of : Data → Function
+function_of value = record {
+  name = name_at (codes "name") value;
+  current = filled_at (codes "currentState") value;
+  next = filled_at (codes "nextState") value;
+  condition = option_map condition_of (there (codes "condition") value);
+  inputs = list_at input_of (codes "inputs") value;
+  outputs = list_at (name_at (codes "messageName")) (codes "outputs") value;
+}
+
+abbrev pub agent_of : Data → AgentType
+agent_of value = record {
+  name = name_at (codes "name") value;
+  memory = list_at variable_of (codes "memory") value;
+  functions = list_at function_of (codes "functions") value;
+}
+
+-- the environment; of a missing one each list is empty
+abbrev pub environment_of : Data → Environment
+environment_of value = record {
+  constants = list_at (name_at (codes "name")) (codes "constants") value;
+  files = list_at filled (codes "functionFiles") value;
+  units = list_at unit_of (codes "timeUnits") value;
+}
+
+abbrev pub xmodel_of : Data → Model
+xmodel_of value =
+    let environment = environment_of (part (codes "environment") value) in
+    record {
+      constants = environment.constants;
+      files = environment.files;
+      units = environment.units;
+      messages = list_at message_of (codes "messages") value;
+      agents = list_at agent_of (codes "agents") value;
+    }
+
+-- the model of the whole value
+abbrev pub model_of : Data → Model
+model_of value = xmodel_of (part (codes "xmodel") value)

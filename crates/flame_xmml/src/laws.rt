@@ -1,0 +1,10 @@
+//! Laws of the form of models. A law is its contract: it computes nothing.
+
+ghost use Rattle.flame_xmml.specs.Laws.{FaultsStandAtKeys, ConditionsStandAtKeys};
+
+/// The faults of a condition, and the condition that a value stands for, are what the form says of its keys, at which
+/// conditions stand again.
+pub fn conditions()
+    ensures faults { FaultsStandAtKeys }
+    ensures conditions { ConditionsStandAtKeys }
+{}
