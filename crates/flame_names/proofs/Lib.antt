@@ -1,0 +1,12 @@
+pub mod Among
+pub mod Firsts
+pub mod Looks
+pub mod Rests
+pub mod Floors
+pub mod Units
+pub mod Sides
+pub mod Readings
+pub mod Chains
+pub mod Sharing
+pub mod Types
+pub mod Wholes

@@ -1,0 +1,66 @@
+-- The faults of a model, part by part.
+use Rattle.std.proofs.Common.{◌≡◌, ℕ, ℤ, List, [], ◌∷◌, ◌++◌, map, codes, cond, refl, sym, ap, ◌∙◌, Bool, true, false, Option, Some, unwrap_or}
+use Rattle.std.specs.Str.{bytes_eq}
+use Rattle.flame_spec.specs.declared.model.Model.{Model}
+use Rattle.flame_spec.specs.declared.model.AgentType.{AgentType}
+use Rattle.flame_spec.specs.declared.model.MessageType.{MessageType}
+use Rattle.flame_spec.specs.Capitals.{capitals}
+use Rattle.flame_spec.specs.KnownNames.{unit_names, variable_names, names_in, Declared, declared_by}
+use Rattle.flame_spec.specs.Paths.{at_key}
+use Rattle.flame_spec.specs.MessageFaults.{messages_faults}
+use Rattle.flame_spec.specs.NameFaults.{agents_faults, environment_faults, model_faults}
+use Rattle.flame_names.specs.Tables.{look, names_of, message_entry}
+use Rattle.flame_names.proofs.Looks.{names_of-messages}
+
+unwrap_choice : {X : Type 0} (b : Bool) (x d : X) (o : Option X)
+    → unwrap_or (cond b (Some x) o) d ≡ cond b x (unwrap_or o d)
+unwrap_choice true x d o = refl
+unwrap_choice false x d o = refl
+
+-- the variables of a message, by the table
+names_in-look : (name : List ℕ) (messages : List MessageType)
+    → unwrap_or (look name (map message_entry messages)) [] ≡ names_in messages name
+names_in-look name [] = refl
+names_in-look name (message ∷ messages) =
+    unwrap_choice
+    (bytes_eq name message.name)
+    (variable_names message.variables)
+    []
+    (look name (map message_entry messages))
+    ∙ ap (cond (bytes_eq name message.name) (variable_names message.variables)) (names_in-look name messages)
+
+-- the tables of a model declare what it declares
+pub declared-is : (constants : List (List ℕ)) (units : List (List ℕ × ℤ)) (messages : List (List ℕ × List (List ℕ)))
+    (model : Model)
+    → constants ≡ map capitals model.constants
+    → names_of units ≡ unit_names model.units
+    → messages ≡ map message_entry model.messages
+    → (let d : Declared = record {
+      constants = constants;
+      units = names_of units;
+      messages = names_of messages;
+      variables = λ name. unwrap_or (look name messages) [];
+    } in d)
+    ≡ declared_by model
+declared-is constants units messages model c u m =
+    let names = ap names_of m ∙ names_of-messages model.messages in
+    let each : (name : List ℕ) → unwrap_or (look name messages) [] ≡ names_in model.messages name =
+    λ name. ap (λ table. unwrap_or (look name table) []) m ∙ names_in-look name model.messages in
+    λ i. record { constants = c i; units = u i; messages = names i; variables = λ name. each name i }
+
+-- a model whose environment and messages have no faults has those of its agent types
+pub agents-are : (path : List ℕ) (model : Model) (declared : Declared) (messages : List MessageType)
+    (agents : List AgentType)
+    → messages ≡ model.messages
+    → agents ≡ model.agents
+    → declared ≡ declared_by model
+    → environment_faults (at_key path (codes "environment")) model ≡ []
+    → messages_faults (at_key path (codes "messages")) messages ≡ []
+    → agents_faults declared (at_key path (codes "agents")) agents ≡ model_faults path model
+agents-are path model declared messages agents m a d environment none =
+    let rest = agents_faults (declared_by model) (at_key path (codes "agents")) model.agents in
+    ap (λ known. agents_faults known (at_key path (codes "agents")) agents) d
+    ∙ ap (agents_faults (declared_by model) (at_key path (codes "agents"))) a
+    ∙ sym
+    (ap (λ l. l ++ (messages_faults (at_key path (codes "messages")) model.messages ++ rest)) environment
+    ∙ ap (λ l. l ++ rest) (ap (messages_faults (at_key path (codes "messages"))) (sym m) ∙ none))

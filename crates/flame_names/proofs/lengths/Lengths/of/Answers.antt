@@ -1,0 +1,11 @@
+use Rattle.std.proofs.Common.{◌∙◌, sym, ap}
+use Rattle.flame_names.specs.Tables.{look}
+use Rattle.flame_names.proofs.Looks.{look-map}
+use Rattle.flame_names.proofs.lengths.Lengths.of.Goals as goal
+
+pub returns : goal.returns
+returns c =
+    c.copied.ensures
+    ∙ c.get.ensures.value
+    ∙ sym (look-map c.args.name.now c.self.inside.lengths.entries)
+    ∙ ap (look c.args.name.now) c.self.view_is

@@ -1,0 +1,10 @@
+use Rattle.std.proofs.Common.{◌∙◌, sym, ap}
+use Rattle.flame_names.specs.Tables.{look}
+use Rattle.flame_names.proofs.Looks.{look-map}
+use Rattle.flame_names.proofs.messages.MessageTable.variables.Goals as goal
+
+pub returns : goal.returns
+returns c =
+    c.get.ensures.value
+    ∙ sym (look-map c.args.name.now c.self.inside.messages.entries)
+    ∙ ap (look c.args.name.now) c.self.view_is

@@ -1,0 +1,160 @@
+//! Agent types.
+
+ghost use Rattle.std.specs.Prelude.{◌≡◌, ◌++◌, ◌||◌, [], ◌∷◌, ℕ, List, map, IfOk, IfErr, OnOk};
+ghost use Rattle.flame_spec.specs.Capitals.{capitals};
+ghost use Rattle.flame_spec.specs.KnownNames.{is_among, variable_names};
+ghost use Rattle.flame_spec.specs.NameFaults.{memory_name_faults, memory_faults, function_names, agent_faults, agents_faults};
+ghost use Rattle.flame_names.specs.Places.{text_of};
+ghost use Rattle.flame_names.specs.Failing.{FailsFirst};
+ghost use Rattle.flame_names.specs.Scopes.{declared_of};
+
+use crate::fault::{Fail, add_new, fault, refuse};
+use crate::functions::{Tables, functions};
+use crate::messages::capitals_of;
+use crate::path::Place;
+use crate::table::{Capitals, Names};
+use flame_rows::NoMemory;
+use flame_spec::fault::NameKind;
+use flame_spec::model::{AgentType, Function, Variable};
+use std::alloc::Global;
+
+/// The name of a memory variable that stands at this place, behind the earlier ones of its type.
+fn add_variable<'a>(
+    alloc: Global,
+    constants: &Capitals,
+    place: &Place<'_>,
+    name: &'a str,
+    earlier: &mut Names<'a>,
+    own: &mut Capitals,
+) -> Result<(), Fail>
+    requires { own.old ≡ map capitals earlier.old }
+    ensures none { OnOk result
+        (memory_name_faults constants.now earlier.old (text_of place.now) name.now ≡ []) }
+    ensures names { OnOk result (earlier.new ≡ earlier.old ++ name.now ∷ []) }
+    ensures capitals { OnOk result (own.new ≡ map capitals earlier.new) }
+    ensures first { IfErr result
+        (FailsFirst (memory_name_faults constants.now earlier.old (text_of place.now) name.now)) }
+{
+    add_new(alloc, place, name, earlier)?;
+    let shouted = capitals_of(alloc, name)?;
+    let is_constant = constants.has(shouted.as_str());
+    if !own.add(shouted)? {
+        return Err(fault(alloc, NameKind::Clash, place, name));
+    }
+    refuse(alloc, is_constant, NameKind::Clash, place, name)
+}
+
+/// The memory variables of the list at this place.
+fn memory<'a, 'p>(
+    alloc: Global,
+    constants: &Capitals,
+    place: &'p Place<'p>,
+    variables: &'a [Variable],
+) -> Result<Names<'a>, Fail>
+    ensures none { OnOk result (memory_faults constants.now (text_of place.now) variables.now ≡ []) }
+    ensures names { IfOk result (λ table. table ≡ variable_names variables.now) }
+    ensures first { IfErr result (FailsFirst (memory_faults constants.now (text_of place.now) variables.now)) }
+{
+    let mut earlier = Names::new(alloc);
+    let mut own = Capitals::new(alloc);
+    for (i, variable) in variables.iter().enumerate() {
+        let member = Place::Member(place, i);
+        let name = variable.name.as_str();
+        add_variable(
+            alloc,
+            constants,
+            &Place::Key(&member, "name"),
+            name,
+            &mut earlier,
+            &mut own,
+        )?;
+    }
+    Ok(earlier)
+}
+
+/// Adds the names of a type's functions to those of the earlier types.
+fn share<'a>(functions: &'a [Function], shared: &mut Names<'a>) -> Result<(), NoMemory>
+    ensures { OnOk result ((name : List ℕ)
+        → is_among name shared.new ≡ (is_among name shared.old || is_among name (function_names functions.now))) }
+{
+    for function in functions {
+        let _ = shared.add(function.name.as_str())?;
+    }
+    Ok(())
+}
+
+/// An agent type behind the earlier ones: its name, its memory, and its functions.
+fn add_agent<'a>(
+    alloc: Global,
+    tables: &Tables<'_, '_>,
+    place: &Place<'_>,
+    agent: &'a AgentType,
+    types: &mut Names<'a>,
+    shared: &mut Names<'a>,
+) -> Result<(), Fail>
+    ensures none { OnOk result (agent_faults
+        (declared_of tables.now)
+        types.old
+        (λ name. is_among name shared.old)
+        (text_of place.now)
+        agent.now ≡ []) }
+    ensures names { OnOk result (types.new ≡ types.old ++ agent.now.name ∷ []) }
+    ensures functions { OnOk result ((name : List ℕ)
+        → is_among name shared.new
+        ≡ (is_among name shared.old || is_among name (function_names agent.now.functions))) }
+    ensures first { IfErr result (FailsFirst (agent_faults
+        (declared_of tables.now)
+        types.old
+        (λ name. is_among name shared.old)
+        (text_of place.now)
+        agent.now)) }
+{
+    add_new(
+        alloc,
+        &Place::Key(place, "name"),
+        agent.name.as_str(),
+        types,
+    )?;
+    let memory = memory(
+        alloc,
+        tables.constants,
+        &Place::Key(place, "memory"),
+        agent.memory.items(),
+    )?;
+    functions(
+        alloc,
+        tables,
+        &memory,
+        shared,
+        &Place::Key(place, "functions"),
+        agent.functions.items(),
+    )?;
+    share(agent.functions.items(), shared)?;
+    Ok(())
+}
+
+/// The agent types of the list at this place.
+pub fn agents<'p>(
+    alloc: Global,
+    tables: &Tables<'_, '_>,
+    place: &'p Place<'p>,
+    agents: &[AgentType],
+) -> Result<(), Fail>
+    ensures none { OnOk result (agents_faults (declared_of tables.now) (text_of place.now) agents.now ≡ []) }
+    ensures first { IfErr result
+        (FailsFirst (agents_faults (declared_of tables.now) (text_of place.now) agents.now)) }
+{
+    let mut types = Names::new(alloc);
+    let mut shared = Names::new(alloc);
+    for (i, agent) in agents.iter().enumerate() {
+        add_agent(
+            alloc,
+            tables,
+            &Place::Member(place, i),
+            agent,
+            &mut types,
+            &mut shared,
+        )?;
+    }
+    Ok(())
+}

@@ -1,0 +1,166 @@
+//! The names in conditions.
+
+ghost use Rattle.std.specs.Prelude.{◌≡◌, ◌++◌, [], IfErr, OnOk, not, codes};
+ghost use Rattle.flame_spec.specs.Paths.{at_key};
+ghost use Rattle.flame_spec.specs.declared.fault.NameKind.TheVariants.{UnknownVariable};
+ghost use Rattle.flame_spec.specs.Refusals.{fault_where};
+ghost use Rattle.flame_spec.specs.Leaves.{operand_faults, time_faults, leaf_faults, condition_faults};
+ghost use Rattle.flame_names.specs.Places.{text_of};
+ghost use Rattle.flame_names.specs.Failing.{FailsFirst};
+ghost use Rattle.flame_names.specs.Scopes.{scope_of};
+
+use crate::fault::{Fail, prefixed_fault, refuse};
+use crate::lengths::Lengths;
+use crate::path::Place;
+use crate::table::Names;
+use flame_rows::text::Text;
+use flame_spec::condition::{Condition, Operand};
+use flame_spec::fault::NameKind;
+use std::alloc::Global;
+
+/// The names that a condition can read.
+#[derive(Clone, Copy)]
+pub struct Scope<'s, 'a> {
+    /// The variables of the agent's memory.
+    pub memory: &'s Names<'a>,
+    /// The variables of the message; none in a function's condition.
+    pub message: &'s Names<'a>,
+    /// The time units.
+    pub units: &'s Lengths<'a>,
+}
+
+/// Refuses a variable that is not known.
+fn variable(
+    alloc: Global,
+    is_known: bool,
+    place: &Place<'_>,
+    prefix: &str,
+    name: &Text,
+) -> Result<(), Fail>
+    ensures none { OnOk result
+        (fault_where (not is_known) UnknownVariable (text_of place.now) (prefix.now ++ name.now) ≡ []) }
+    ensures first { IfErr result
+        (FailsFirst (fault_where (not is_known) UnknownVariable (text_of place.now) (prefix.now ++ name.now))) }
+{
+    if !is_known {
+        return Err(prefixed_fault(
+            alloc,
+            NameKind::UnknownVariable,
+            place,
+            prefix,
+            name.as_str(),
+        ));
+    }
+    Ok(())
+}
+
+/// The name in an operand.
+fn operand(
+    alloc: Global,
+    scope: &Scope<'_, '_>,
+    place: &Place<'_>,
+    operand: &Operand,
+) -> Result<(), Fail>
+    ensures none { OnOk result (operand_faults (scope_of scope.now) (text_of place.now) operand.now ≡ []) }
+    ensures first { IfErr result
+        (FailsFirst (operand_faults (scope_of scope.now) (text_of place.now) operand.now)) }
+{
+    match operand {
+        Operand::Number(_) => Ok(()),
+        Operand::Agent(name) => variable(alloc, scope.memory.has(name.as_str()), place, "a.", name),
+        Operand::Message(name) => variable(
+            alloc,
+            scope.message.has(name.as_str()),
+            place,
+            "m.",
+            name,
+        ),
+    }
+}
+
+/// The name in a side of a comparison.
+fn side(
+    alloc: Global,
+    scope: &Scope<'_, '_>,
+    place: &Place<'_>,
+    value: &Operand,
+) -> Result<(), Fail>
+    ensures none { OnOk result
+        (operand_faults (scope_of scope.now) (at_key (text_of place.now) (codes "value")) value.now ≡ []) }
+    ensures first { IfErr result
+        (FailsFirst (operand_faults (scope_of scope.now) (at_key (text_of place.now) (codes "value")) value.now)) }
+{
+    operand(alloc, scope, &Place::Key(place, "value"), value)
+}
+
+/// The names in a time condition.
+fn time(
+    alloc: Global,
+    scope: &Scope<'_, '_>,
+    place: &Place<'_>,
+    period: &Text,
+    phase: &Operand,
+) -> Result<(), Fail>
+    ensures none { OnOk result (time_faults (scope_of scope.now) (text_of place.now) period.now phase.now ≡ []) }
+    ensures first { IfErr result
+        (FailsFirst (time_faults (scope_of scope.now) (text_of place.now) period.now phase.now)) }
+{
+    let name = period.as_str();
+    let is_known = scope.units.has(name);
+    refuse(
+        alloc,
+        !is_known,
+        NameKind::UnknownUnit,
+        &Place::Key(place, "period"),
+        name,
+    )?;
+    operand(alloc, scope, &Place::Key(place, "phase"), phase)
+}
+
+/// The names in a condition, from left to right. It goes as deep as the condition.
+fn leaves(
+    alloc: Global,
+    scope: &Scope<'_, '_>,
+    condition: &Condition,
+    place: &Place<'_>,
+) -> Result<(), Fail>
+    ensures none { OnOk result (leaf_faults (scope_of scope.now) condition.now (text_of place.now) ≡ []) }
+    ensures first { IfErr result
+        (FailsFirst (leaf_faults (scope_of scope.now) condition.now (text_of place.now))) }
+{
+    match condition {
+        Condition::Compare(_, left, right) => {
+            side(alloc, scope, &Place::Key(&*place, "lhs"), left)?;
+            side(alloc, scope, &Place::Key(&*place, "rhs"), right)
+        }
+        Condition::And(left, right) => {
+            leaves(alloc, scope, left, &Place::Key(&*place, "lhs"))?;
+            leaves(alloc, scope, right, &Place::Key(&*place, "rhs"))
+        }
+        Condition::Or(left, right) => {
+            leaves(alloc, scope, left, &Place::Key(&*place, "lhs"))?;
+            leaves(alloc, scope, right, &Place::Key(&*place, "rhs"))
+        }
+        Condition::Not(part) => leaves(alloc, scope, part, &Place::Key(&*place, "not")),
+        Condition::Time(period, phase, _) => {
+            time(alloc, scope, &Place::Key(&*place, "time"), period, phase)
+        }
+    }
+}
+
+/// The names in a condition, where there is one.
+pub fn condition(
+    alloc: Global,
+    scope: &Scope<'_, '_>,
+    place: &Place<'_>,
+    condition: &Option<Condition>,
+) -> Result<(), Fail>
+    ensures none { OnOk result (condition_faults (scope_of scope.now) (text_of place.now) condition.now ≡ []) }
+    ensures first { IfErr result
+        (FailsFirst (condition_faults (scope_of scope.now) (text_of place.now) condition.now)) }
+{
+    match condition {
+        None => Ok(()),
+        Some(condition) => leaves(alloc, scope, condition, place),
+    }
+}

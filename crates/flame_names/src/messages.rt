@@ -1,0 +1,202 @@
+//! Constants, messages and their variables.
+
+ghost use Rattle.std.specs.Prelude.{◌≡◌, ◌++◌, [], ◌∷◌, ℕ, List, map, IfOk, IfErr, OnOk, None, false, string_bytes};
+ghost use Rattle.std.specs.Option.{option_copied};
+ghost use Rattle.flame_spec.specs.Capitals.{capitals};
+ghost use Rattle.flame_spec.specs.KnownNames.{is_among, variable_names, message_names};
+ghost use Rattle.flame_spec.specs.MessageFaults.{apart_faults, constant_faults, variables_faults, message_faults, messages_faults};
+ghost use Rattle.flame_names.specs.Places.{text_of};
+ghost use Rattle.flame_names.specs.Failing.{FailsFirst};
+ghost use Rattle.flame_names.specs.Tables.{look, names_of, message_entry};
+
+use crate::fault::{Fail, fault};
+use crate::path::Place;
+use crate::table::{Capitals, Names};
+use flame_rows::NoMemory;
+use flame_rows::text::Text;
+use flame_spec::fault::NameKind;
+use flame_spec::model::{MessageType, Variable};
+use indexmap::IndexMap;
+use std::alloc::Global;
+use std::marker::Model;
+
+/// MessageTable with the names of their variables, in the order in which they came, seen as the list of both.
+#[derive(Drop)]
+pub struct MessageTable<'a> {
+    messages: IndexMap<&'a str, Names<'a>>,
+}
+
+impl<'a> Model for MessageTable<'a> {
+    ghost use Rattle.std.specs.Prelude.{List, ℕ, map};
+
+    ghost Value = { List (List ℕ × List (List ℕ)) };
+
+    ghost view = { λ table. map (λ entry. (entry.0.now, entry.1)) table.messages.entries };
+}
+
+impl<'a> MessageTable<'a> {
+    /// No messages.
+    pub fn new(alloc: Global) -> MessageTable<'a>
+        ensures { result ≡ [] }
+    {
+        MessageTable {
+            messages: IndexMap::new(alloc),
+        }
+    }
+
+    /// The variables of the message of this name.
+    pub fn variables(&self, name: &str) -> Option<&Names<'a>>
+        ensures { option_copied result ≡ look name.now self.now }
+    {
+        self.messages.get(name)
+    }
+
+    /// Whether there is a message of this name.
+    pub fn has(&self, name: &str) -> bool
+        ensures { result ≡ is_among name.now (names_of self.now) }
+    {
+        self.variables(name).is_some()
+    }
+
+    /// Adds a message of a new name.
+    fn add(&mut self, name: &'a str, variables: Names<'a>) -> Result<(), NoMemory>
+        requires { look name.now self.old ≡ None }
+        ensures { OnOk result (self.new ≡ self.old ++ (name.now, variables.entry) ∷ []) }
+    {
+        self.messages.insert(name, variables)?;
+        Ok(())
+    }
+}
+
+/// The text in ASCII capitals.
+pub fn capitals_of(alloc: Global, name: &str) -> Result<String, NoMemory>
+    ensures { IfOk result (λ text. string_bytes text ≡ capitals name.now) }
+{
+    Ok(name.to_ascii_uppercase(alloc)?)
+}
+
+/// Adds a name that stands at this place, and its capitals.
+fn add_apart<'a>(
+    alloc: Global,
+    place: &Place<'_>,
+    name: &'a str,
+    earlier: &mut Names<'a>,
+    shouted: &mut Capitals,
+) -> Result<(), Fail>
+    requires { shouted.old ≡ map capitals earlier.old }
+    ensures none { OnOk result (apart_faults earlier.old (text_of place.now) name.now ≡ []) }
+    ensures added { OnOk result (is_among name.now earlier.old ≡ false) }
+    ensures names { OnOk result (earlier.new ≡ earlier.old ++ name.now ∷ []) }
+    ensures capitals { OnOk result (shouted.new ≡ map capitals earlier.new) }
+    ensures first { IfErr result (FailsFirst (apart_faults earlier.old (text_of place.now) name.now)) }
+{
+    if !earlier.add(name)? {
+        return Err(fault(alloc, NameKind::Duplicate, place, name));
+    }
+    if !shouted.add(capitals_of(alloc, name)?)? {
+        return Err(fault(alloc, NameKind::Clash, place, name));
+    }
+    Ok(())
+}
+
+/// The constants of the list at this place, in capitals.
+pub fn constants<'p>(
+    alloc: Global,
+    place: &'p Place<'p>,
+    constants: &[Text],
+) -> Result<Capitals, Fail>
+    ensures none { OnOk result (constant_faults (text_of place.now) constants.now ≡ []) }
+    ensures capitals { IfOk result (λ table. table ≡ map capitals constants.now) }
+    ensures first { IfErr result (FailsFirst (constant_faults (text_of place.now) constants.now)) }
+{
+    let mut earlier = Names::new(alloc);
+    let mut shouted = Capitals::new(alloc);
+    for (i, name) in constants.iter().enumerate() {
+        let member = Place::Member(place, i);
+        add_apart(
+            alloc,
+            &Place::Key(&member, "name"),
+            name.as_str(),
+            &mut earlier,
+            &mut shouted,
+        )?;
+    }
+    Ok(shouted)
+}
+
+/// The variables of the list at this place, in a message.
+fn variables<'a, 'p>(
+    alloc: Global,
+    place: &'p Place<'p>,
+    variables: &'a [Variable],
+) -> Result<Names<'a>, Fail>
+    ensures none { OnOk result (variables_faults (text_of place.now) variables.now ≡ []) }
+    ensures names { IfOk result (λ table. table ≡ variable_names variables.now) }
+    ensures first { IfErr result (FailsFirst (variables_faults (text_of place.now) variables.now)) }
+{
+    let mut earlier = Names::new(alloc);
+    for (i, variable) in variables.iter().enumerate() {
+        let name = variable.name.as_str();
+        if !earlier.add(name)? {
+            let member = Place::Member(place, i);
+            return Err(fault(
+                alloc,
+                NameKind::Duplicate,
+                &Place::Key(&member, "name"),
+                name,
+            ));
+        }
+    }
+    Ok(earlier)
+}
+
+/// Adds the message at this place: its name, and then its variables.
+fn add_message<'a>(
+    alloc: Global,
+    place: &Place<'_>,
+    message: &'a MessageType,
+    earlier: &mut Names<'a>,
+    shouted: &mut Capitals,
+) -> Result<Names<'a>, Fail>
+    requires { shouted.old ≡ map capitals earlier.old }
+    ensures none { OnOk result (message_faults earlier.old (text_of place.now) message.now ≡ []) }
+    ensures added { OnOk result (is_among message.now.name earlier.old ≡ false) }
+    ensures names { OnOk result (earlier.new ≡ earlier.old ++ message.now.name ∷ []) }
+    ensures capitals { OnOk result (shouted.new ≡ map capitals earlier.new) }
+    ensures variables { IfOk result (λ table. table ≡ variable_names message.now.variables) }
+    ensures first { IfErr result (FailsFirst (message_faults earlier.old (text_of place.now) message.now)) }
+{
+    add_apart(
+        alloc,
+        &Place::Key(place, "name"),
+        message.name.as_str(),
+        earlier,
+        shouted,
+    )?;
+    variables(
+        alloc,
+        &Place::Key(place, "variables"),
+        message.variables.items(),
+    )
+}
+
+/// The messages of the list at this place, with their variables.
+pub fn messages<'a, 'p>(
+    alloc: Global,
+    place: &'p Place<'p>,
+    messages: &'a [MessageType],
+) -> Result<MessageTable<'a>, Fail>
+    ensures none { OnOk result (messages_faults (text_of place.now) messages.now ≡ []) }
+    ensures messages { IfOk result (λ table. table ≡ map message_entry messages.now) }
+    ensures first { IfErr result (FailsFirst (messages_faults (text_of place.now) messages.now)) }
+{
+    let mut earlier = Names::new(alloc);
+    let mut shouted = Capitals::new(alloc);
+    let mut known = MessageTable::new(alloc);
+    for (i, message) in messages.iter().enumerate() {
+        let place = Place::Member(place, i);
+        let variables = add_message(alloc, &place, message, &mut earlier, &mut shouted)?;
+        known.add(message.name.as_str(), variables)?;
+    }
+    Ok(known)
+}
