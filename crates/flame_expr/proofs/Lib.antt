@@ -1,0 +1,12 @@
+pub mod LexemeFacts
+pub mod Walk
+pub mod Heads
+pub mod Parts
+pub mod Places
+pub mod Ends
+pub mod LevelFacts
+pub mod Readings
+pub mod Primaries
+pub mod Forward
+pub mod Longest
+pub mod Unique

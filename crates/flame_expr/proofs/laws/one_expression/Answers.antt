@@ -1,0 +1,5 @@
+use Rattle.flame_expr.proofs.Unique.{at_most_one}
+use Rattle.flame_expr.proofs.laws.one_expression.Goals as goal
+
+pub returns : goal.returns
+returns c = at_most_one

@@ -1,0 +1,14 @@
+use Rattle.std.proofs.Common.{◌≡◌, ℕ, ◌-◌, ◌≤◌, ◌++◌, List, length, drop}
+use Rattle.flame_spec.specs.declared.tree.Sign.{Sign}
+use Rattle.flame_lex.specs.declared.token.Token.{Token}
+use Rattle.flame_expr.specs.Grammar.{Signs}
+use Rattle.flame_expr.specs.Levels.{signs}
+use Rattle.flame_expr.specs.Reader.{Ended}
+use Rattle.flame_expr.proofs.Readings.{SignsOn}
+use Rattle.flame_expr.proofs.reader.signs.Given as goal
+
+abbrev pub invariant-loop-kind : goal.invariant-loop-kind
+invariant-loop-kind l = SignsOn l.tokens l.fn.at l.place l.found.items
+
+abbrev pub decreases-loop-kind : goal.decreases-loop-kind
+decreases-loop-kind l = length l.tokens - l.place

@@ -1,0 +1,7 @@
+pub mod Lexemes
+pub mod Steps
+pub mod Levels
+pub mod Grammar
+pub mod Reader
+pub mod Nesting
+pub mod Answer

@@ -1,0 +1,10 @@
+pub mod Alike
+pub mod Beginnings
+pub mod Runs
+pub mod Assigns
+pub mod Blocks
+pub mod Defs
+pub mod Forward
+pub mod Whole
+pub mod Depth
+pub mod OneTree

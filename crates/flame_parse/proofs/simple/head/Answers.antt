@@ -1,0 +1,38 @@
+-- Each way that the reader returns, by the parts that it read.
+use Rattle.std.proofs.Common.{◌≡◌, ◌⊎◌, ℕ, pos, ◌+◌, ◌<◌, ◌≤◌, [], ◌∷◌, drop, length, map, sym, refl, ap, subst, ◌∙◌, arith, rules, Option, Some, None}
+use Rattle.flame_spec.specs.Trees.{Expression, Statements, no_more, also, no_arms, arm, part, declare, assign}
+use Rattle.flame_spec.specs.Seen.{expression, expressions, declared, assigned, statement, statements, statements_of, arms, tested, arms_of}
+use Rattle.flame_spec.proofs.SeenForms.{expression-Number, statement-Empty, statement-Declare, statement-Assign, statement-Call, statement-Block, statement-If, statement-While, statement-For, statement-Do, statement-Loop, statement-Return, statement-Break, statement-Continue}
+use Rattle.flame_expr.specs.declared.lexeme.Lexeme.TheVariants.{Word, Start, Finish, Set, Open, Close, OpenBrace, CloseBrace, Comma, Semicolon, Int, Void, If, Else, While, For, Do, Return, Break, Continue}
+use Rattle.flame_expr.specs.Lexemes.{first, text, line, behind, is_real}
+use Rattle.flame_expr.specs.Levels.{joins}
+use Rattle.flame_expr.specs.Grammar.{Reads, Bracketed}
+use Rattle.flame_expr.specs.Steps.{form, lexeme, both, maybe, either, many, one_of, expr, more_args, more_items, else_ifs, else_body, an_item, an_assign, a_decl, a_simple, some_args, a_stmt, a_block, a_body, a_def, a_unit}
+use Rattle.flame_expr.proofs.Parts.{any_heads, pasts}
+use Rattle.flame_expr.proofs.Places.{there, behind-drop}
+use Rattle.flame_expr.proofs.Ends.{EndedAny, StoppedAny, stops_by, any_ended, one_ended, any_stopped, one_stopped, here_ended, here_stopped, enter_ended, enter_stopped, begin_ended, begin_stopped, ended_then, stopped_then, stopped_before, ended_weaker, stopped_weaker, form_ended, form_stopped, nothing_ended}
+use Rattle.flame_expr.proofs.Readings.{at_next, from_next, unlike}
+use Rattle.flame_parse.specs.Operators.{set_op, step_op, starts, joins_item, joins_items, joins_args, joins_stmt, joins_stmts}
+use Rattle.flame_parse.specs.Grammar as grammar
+use Rattle.flame_parse.proofs.Alike.{alike_ended, alike_stopped, many_ended, many_stopped, first_stopped}
+use Rattle.flame_parse.proofs.Beginnings as begin
+use Rattle.flame_parse.proofs.Runs.{next_of, end_of, two_behind, RunOn, run_begin, run_step, run_read, run_with, ArgsRead, StmtsRead, ArmsRead}
+use Rattle.flame_parse.proofs.simple.head.Goals as goal
+
+pub returns-in_err-inside-clause-stopped : goal.returns-in_err-inside-clause-stopped
+returns-in_err-inside-clause-stopped c = stops_by _ _ c.from_residual.ensures.1 (λ n h. (stopped_before [] [] (lexeme Open ∷ []) (maybe (either (form an_assign) (form a_decl)) ∷ lexeme Semicolon ∷ maybe expr ∷ lexeme Semicolon ∷ maybe (form an_assign) ∷ lexeme Close ∷ []) c.args.tokens.now c.args.at n refl h)) c.in_err-inside.ensures.stopped
+
+pub returns-in_err-first-clause-stopped : goal.returns-in_err-first-clause-stopped
+returns-in_err-first-clause-stopped c = stops_by _ _ c.from_residual-in_err-first.ensures.1 (λ n h. (stopped_then [] [] (lexeme Open ∷ []) (maybe (either (form an_assign) (form a_decl)) ∷ lexeme Semicolon ∷ maybe expr ∷ lexeme Semicolon ∷ maybe (form an_assign) ∷ lexeme Close ∷ []) c.args.tokens.now c.args.at c.in_ok-inside.inside n refl c.in_ok-inside.ensures.ended (stopped_before [] [] (maybe (either (form an_assign) (form a_decl)) ∷ lexeme Semicolon ∷ []) (maybe expr ∷ lexeme Semicolon ∷ maybe (form an_assign) ∷ lexeme Close ∷ []) c.args.tokens.now c.in_ok-inside.inside n refl h))) c.in_err-first.ensures.stopped
+
+pub returns-in_err-test-clause-stopped : goal.returns-in_err-test-clause-stopped
+returns-in_err-test-clause-stopped c = stops_by _ _ c.from_residual-in_err-test.ensures.1 (λ n h. (stopped_then [] [] (lexeme Open ∷ []) (maybe (either (form an_assign) (form a_decl)) ∷ lexeme Semicolon ∷ maybe expr ∷ lexeme Semicolon ∷ maybe (form an_assign) ∷ lexeme Close ∷ []) c.args.tokens.now c.args.at c.in_ok-inside.inside n refl c.in_ok-inside.ensures.ended (stopped_then [] [] (maybe (either (form an_assign) (form a_decl)) ∷ lexeme Semicolon ∷ []) (maybe expr ∷ lexeme Semicolon ∷ maybe (form an_assign) ∷ lexeme Close ∷ []) c.args.tokens.now c.in_ok-inside.inside c.in_ok-first.mid n refl c.in_ok-first.ensures.ended (stopped_before [] [] (maybe expr ∷ lexeme Semicolon ∷ []) (maybe (form an_assign) ∷ lexeme Close ∷ []) c.args.tokens.now c.in_ok-first.mid n refl h)))) c.in_err-test.ensures.stopped
+
+pub returns-in_err-step-clause-stopped : goal.returns-in_err-step-clause-stopped
+returns-in_err-step-clause-stopped c = stops_by _ _ c.from_residual-in_err-step.ensures.1 (λ n h. (stopped_then [] [] (lexeme Open ∷ []) (maybe (either (form an_assign) (form a_decl)) ∷ lexeme Semicolon ∷ maybe expr ∷ lexeme Semicolon ∷ maybe (form an_assign) ∷ lexeme Close ∷ []) c.args.tokens.now c.args.at c.in_ok-inside.inside n refl c.in_ok-inside.ensures.ended (stopped_then [] [] (maybe (either (form an_assign) (form a_decl)) ∷ lexeme Semicolon ∷ []) (maybe expr ∷ lexeme Semicolon ∷ maybe (form an_assign) ∷ lexeme Close ∷ []) c.args.tokens.now c.in_ok-inside.inside c.in_ok-first.mid n refl c.in_ok-first.ensures.ended (stopped_then [] [] (maybe expr ∷ lexeme Semicolon ∷ []) (maybe (form an_assign) ∷ lexeme Close ∷ []) c.args.tokens.now c.in_ok-first.mid c.in_ok-test.place n refl c.in_ok-test.ensures.ended h)))) c.in_err-step.ensures.stopped
+
+pub returns-clause-ended : goal.returns-clause-ended
+returns-clause-ended c = (ended_then [] [] (lexeme Open ∷ []) (maybe (either (form an_assign) (form a_decl)) ∷ lexeme Semicolon ∷ maybe expr ∷ lexeme Semicolon ∷ maybe (form an_assign) ∷ lexeme Close ∷ []) c.args.tokens.now c.args.at c.in_ok-inside.inside c.in_ok-step.end refl c.in_ok-inside.ensures.ended (ended_then [] [] (maybe (either (form an_assign) (form a_decl)) ∷ lexeme Semicolon ∷ []) (maybe expr ∷ lexeme Semicolon ∷ maybe (form an_assign) ∷ lexeme Close ∷ []) c.args.tokens.now c.in_ok-inside.inside c.in_ok-first.mid c.in_ok-step.end refl c.in_ok-first.ensures.ended (ended_then [] [] (maybe expr ∷ lexeme Semicolon ∷ []) (maybe (form an_assign) ∷ lexeme Close ∷ []) c.args.tokens.now c.in_ok-first.mid c.in_ok-test.place c.in_ok-step.end refl c.in_ok-test.ensures.ended c.in_ok-step.ensures.ended)))
+
+pub returns-clause-tree : goal.returns-clause-tree
+returns-clause-tree c = rw c.of-first.ensures (grammar.heading c.in_ok-inside.ensures.found (next_of (λ ts. grammar.First ts (statements c.in_ok-first.first.items) (drop c.in_ok-first.mid c.args.tokens.now)) c.args.tokens.now c.args.at c.in_ok-inside.inside c.in_ok-inside.ensures.next c.in_ok-first.ensures.tree) c.in_ok-test.ensures.tree c.in_ok-step.ensures.tree)

@@ -1,0 +1,12 @@
+use Rattle.std.proofs.Common.{ℕ, ◌-◌, [], ◌∷◌, length, map}
+use Rattle.flame_spec.specs.Seen.{expression}
+use Rattle.flame_expr.specs.Steps.{more_args}
+use Rattle.flame_parse.specs.Operators.{joins_args}
+use Rattle.flame_parse.proofs.Runs.{RunOn, ArgsRead}
+use Rattle.flame_parse.proofs.simple.other_args.Given as goal
+
+abbrev pub invariant-others : goal.invariant-others
+invariant-others l = RunOn joins_args (more_args ∷ []) ArgsRead l.tokens l.fn.at l.place (map expression l.found.items)
+
+abbrev pub decreases-others : goal.decreases-others
+decreases-others l = length l.tokens - l.place

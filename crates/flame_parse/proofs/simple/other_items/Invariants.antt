@@ -1,0 +1,13 @@
+use Rattle.std.proofs.Common.{ℕ, ◌-◌, [], ◌∷◌, length, map}
+use Rattle.flame_spec.specs.Seen.{declared}
+use Rattle.flame_expr.specs.Steps.{more_items}
+use Rattle.flame_parse.specs.Operators.{joins_items}
+use Rattle.flame_parse.specs.Grammar.{MoreItems}
+use Rattle.flame_parse.proofs.Runs.{RunOn}
+use Rattle.flame_parse.proofs.simple.other_items.Given as goal
+
+abbrev pub invariant-items : goal.invariant-items
+invariant-items l = RunOn joins_items (more_items ∷ []) MoreItems l.tokens l.fn.at l.place (map declared l.found.items)
+
+abbrev pub decreases-items : goal.decreases-items
+decreases-items l = length l.tokens - l.place

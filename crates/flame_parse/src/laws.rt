@@ -1,0 +1,8 @@
+//! Laws of the grammar. Each function is its contract: it computes nothing.
+
+ghost use Rattle.flame_parse.specs.Laws.{OneUnit};
+
+/// A list of tokens has at most one tree as a function file.
+pub fn one_unit()
+    ensures { OneUnit }
+{}

@@ -1,0 +1,9 @@
+//! The reader of function files: tokens to trees.
+#![tactic(auto)]
+
+pub mod laws;
+mod operators;
+pub mod parse;
+mod simple;
+mod stmt;
+mod unit;

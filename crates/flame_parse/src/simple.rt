@@ -1,0 +1,367 @@
+//! The reader of statements without parts of their own, and of what stands in them. Each function begins with the
+//! production that it reads.
+
+ghost use Rattle.std.specs.Prelude.{◌≡◌, ◌+◌, ◌<◌, ◌≤◌, ◌^◌, [], ◌∷◌, length, drop, map, option_map, IfOk, IfErr};
+ghost use Rattle.flame_spec.specs.Seen as seen;
+ghost use Rattle.flame_spec.specs.Seen.{expression, expressions, declared, assigned, statement, statements};
+ghost use Rattle.flame_spec.specs.Trees.{also, no_more};
+ghost use Rattle.flame_expr.specs.declared.lexeme.Lexeme.TheVariants.{Set, Close, Semicolon, Open};
+ghost use Rattle.flame_expr.specs.Lexemes.{first};
+ghost use Rattle.flame_expr.specs.Levels.{joins};
+ghost use Rattle.flame_expr.specs.Steps.{form, lexeme, both, maybe, either, expr, more_args, more_items, an_item, an_assign, a_decl, a_simple, some_args};
+ghost use Rattle.flame_expr.specs.Reader.{Ended, StopsBy};
+ghost use Rattle.flame_parse.specs.Operators.{joins_item, joins_items, joins_args};
+ghost use Rattle.flame_parse.specs.Grammar.{Value, Item as ItemRead, MoreItems, Items, Assignment, AssignedTo, MoreArgs, Args, Called, Simple, First, Test, Step, Heading};
+
+use crate::operators::{set_operator, step_operator};
+use flame_expr::cursor::{expect, lexeme_at, line_at, syntax, text_at};
+use flame_expr::fault::Fail;
+use flame_expr::lexeme::Lexeme;
+use flame_expr::reader::expression;
+use flame_lex::token::Token;
+use flame_rows::NoMemory;
+use flame_rows::seq::Seq;
+use flame_spec::tree::{Assign, Expr, Head, Item, Stmt};
+use std::alloc::Global;
+
+// ["=" expr]
+fn value(alloc: Global, tokens: &[Token], at: usize) -> Result<(Option<Expr>, usize), Fail>
+    requires size { length tokens.now < 2 ^ 32 }
+    requires within { at ≤ length tokens.now }
+    ensures tree { IfOk result (λ r. Value (drop at tokens.now) (option_map seen.expression r.0) (drop r.1 tokens.now)) }
+    ensures ended { IfOk result (λ r. Ended joins_item (maybe (both (lexeme Set) expr) ∷ []) tokens.now at r.1) }
+    ensures stopped { IfErr result (StopsBy joins_item (maybe (both (lexeme Set) expr) ∷ []) tokens.now at) }
+{
+    match lexeme_at(tokens, at) {
+        Lexeme::Set => {
+            let (value, end) = expression(alloc, tokens, at + 1)?;
+            Ok((Some(value), end))
+        }
+        _ => Ok((None, at)),
+    }
+}
+
+// item = WORD ["=" expr]
+fn item(alloc: Global, tokens: &[Token], at: usize) -> Result<(Item, usize), Fail>
+    requires size { length tokens.now < 2 ^ 32 }
+    requires within { at ≤ length tokens.now }
+    ensures tree { IfOk result (λ r. ItemRead (drop at tokens.now) (declared r.0) (drop r.1 tokens.now)) }
+    ensures ended { IfOk result (λ r. Ended joins_item (form an_item ∷ []) tokens.now at r.1) }
+    ensures ahead { IfOk result (λ r. at < r.1) }
+    ensures stopped { IfErr result (StopsBy joins_item (form an_item ∷ []) tokens.now at) }
+{
+    let line = line_at(tokens, at);
+    let mid = expect(tokens, at, Lexeme::Word)?;
+    let (value, end) = value(alloc, tokens, mid)?;
+    let name = text_at(alloc, tokens, at)?;
+    Ok((Item { line, name, value }, end))
+}
+
+// item ("," item)*
+/// The items of a declaration.
+pub(crate) fn items(alloc: Global, tokens: &[Token], at: usize) -> Result<(Vec<Item>, usize), Fail>
+    requires size { length tokens.now < 2 ^ 32 }
+    requires within { at ≤ length tokens.now }
+    ensures tree { IfOk result (λ r. Items (drop at tokens.now) (map declared r.0.items) (drop r.1 tokens.now)) }
+    ensures ended { IfOk result (λ r. Ended joins_items (form an_item ∷ more_items ∷ []) tokens.now at r.1) }
+    ensures ahead { IfOk result (λ r. at < r.1) }
+    ensures stopped { IfErr result (StopsBy joins_items (form an_item ∷ more_items ∷ []) tokens.now at) }
+{
+    let (first, mid) = item(alloc, tokens, at)?;
+    let (mut others, end) = other_items(alloc, tokens, mid)?;
+    others.insert(0, first)?;
+    Ok((others, end))
+}
+
+// ("," item)*
+fn other_items(alloc: Global, tokens: &[Token], at: usize) -> Result<(Vec<Item>, usize), Fail>
+    requires size { length tokens.now < 2 ^ 32 }
+    requires within { at ≤ length tokens.now }
+    ensures tree { IfOk result (λ r. MoreItems (drop at tokens.now) (map declared r.0.items) (drop r.1 tokens.now)) }
+    ensures ended { IfOk result (λ r. Ended joins_items (more_items ∷ []) tokens.now at r.1) }
+    ensures stopped { IfErr result (StopsBy joins_items (more_items ∷ []) tokens.now at) }
+{
+    let mut found = Vec::new(alloc);
+    let mut place = at;
+    'items: loop {
+        let Lexeme::Comma = lexeme_at(tokens, place) else {
+            return Ok((found, place));
+        };
+        let (next, end) = item(alloc, tokens, place + 1)?;
+        found.push(next)?;
+        place = end;
+    }
+}
+
+// assign = WORD ("=" | "+=" | "-=" | "*=" | "/=" | "%=") expr | WORD ("++" | "--") | ("++" | "--") WORD
+fn assign(alloc: Global, tokens: &[Token], at: usize) -> Result<(Assign, usize), Fail>
+    requires size { length tokens.now < 2 ^ 32 }
+    requires within { at ≤ length tokens.now }
+    ensures tree { IfOk result (λ r. Assignment (drop at tokens.now) (assigned r.0) (drop r.1 tokens.now)) }
+    ensures ended { IfOk result (λ r. Ended (joins 6) (form an_assign ∷ []) tokens.now at r.1) }
+    ensures ahead { IfOk result (λ r. at < r.1) }
+    ensures stopped { IfErr result (StopsBy (joins 6) (form an_assign ∷ []) tokens.now at) }
+{
+    if let Some(op) = step_operator(lexeme_at(tokens, at)) {
+        let end = expect(tokens, at + 1, Lexeme::Word)?;
+        let name = text_at(alloc, tokens, at + 1)?;
+        let assign = Assign {
+            line: line_at(tokens, at + 1),
+            name,
+            op: Some(op),
+            op_line: line_at(tokens, at),
+            value: Expr::Number(1),
+        };
+        return Ok((assign, end));
+    }
+    let Lexeme::Word = lexeme_at(tokens, at) else {
+        return Err(syntax(at));
+    };
+    let (assign, end) = word_assign(alloc, tokens, at)?;
+    Ok((assign, end))
+}
+
+// WORD ("=" | "+=" | "-=" | "*=" | "/=" | "%=") expr | WORD ("++" | "--")
+fn word_assign(alloc: Global, tokens: &[Token], at: usize) -> Result<(Assign, usize), Fail>
+    requires size { length tokens.now < 2 ^ 32 }
+    requires within { at < length tokens.now }
+    requires begun { first (drop at tokens.now) ≡ Lexeme.Word }
+    ensures tree { IfOk result (λ r. Assignment (drop at tokens.now) (assigned r.0) (drop r.1 tokens.now)) }
+    ensures ended { IfOk result (λ r. Ended (joins 6) (form an_assign ∷ []) tokens.now at r.1) }
+    ensures ahead { IfOk result (λ r. at < r.1) }
+    ensures stopped { IfErr result (StopsBy (joins 6) (form an_assign ∷ []) tokens.now at) }
+{
+    let line = line_at(tokens, at);
+    let op_line = line_at(tokens, at + 1);
+    if let Some(op) = step_operator(lexeme_at(tokens, at + 1)) {
+        let name = text_at(alloc, tokens, at)?;
+        let assign = Assign {
+            line,
+            name,
+            op: Some(op),
+            op_line,
+            value: Expr::Number(1),
+        };
+        return Ok((assign, at + 1 + 1));
+    }
+    let Some(op) = set_operator(lexeme_at(tokens, at + 1)) else {
+        return Err(syntax(at + 1));
+    };
+    let (value, end) = expression(alloc, tokens, at + 1 + 1)?;
+    let name = text_at(alloc, tokens, at)?;
+    let assign = Assign {
+        line,
+        name,
+        op,
+        op_line,
+        value,
+    };
+    Ok((assign, end))
+}
+
+// args = expr ("," expr)*
+fn args(alloc: Global, tokens: &[Token], at: usize) -> Result<(Vec<Expr>, usize), Fail>
+    requires size { length tokens.now < 2 ^ 32 }
+    requires within { at ≤ length tokens.now }
+    ensures tree { IfOk result (λ r. Args (drop at tokens.now) (expressions r.0.items) (drop r.1 tokens.now)) }
+    ensures ended { IfOk result (λ r. Ended joins_args (form some_args ∷ []) tokens.now at r.1) }
+    ensures ahead { IfOk result (λ r. at < r.1) }
+    ensures stopped { IfErr result (StopsBy joins_args (form some_args ∷ []) tokens.now at) }
+{
+    let (first, mid) = expression(alloc, tokens, at)?;
+    let (mut others, end) = other_args(alloc, tokens, mid)?;
+    others.insert(0, first)?;
+    Ok((others, end))
+}
+
+// ("," expr)*
+fn other_args(alloc: Global, tokens: &[Token], at: usize) -> Result<(Vec<Expr>, usize), Fail>
+    requires size { length tokens.now < 2 ^ 32 }
+    requires within { at ≤ length tokens.now }
+    ensures tree { IfOk result (λ r. MoreArgs (drop at tokens.now) (expressions r.0.items) (drop r.1 tokens.now)) }
+    ensures ended { IfOk result (λ r. Ended joins_args (more_args ∷ []) tokens.now at r.1) }
+    ensures stopped { IfErr result (StopsBy joins_args (more_args ∷ []) tokens.now at) }
+{
+    let mut found = Vec::new(alloc);
+    let mut place = at;
+    'others: loop {
+        let Lexeme::Comma = lexeme_at(tokens, place) else {
+            return Ok((found, place));
+        };
+        let (next, end) = expression(alloc, tokens, place + 1)?;
+        found.push(next)?;
+        place = end;
+    }
+}
+
+// [args] ")"
+fn called(alloc: Global, tokens: &[Token], at: usize) -> Result<(Vec<Expr>, usize), Fail>
+    requires size { length tokens.now < 2 ^ 32 }
+    requires within { at ≤ length tokens.now }
+    ensures tree { IfOk result (λ r. Called (drop at tokens.now) (expressions r.0.items) (drop r.1 tokens.now)) }
+    ensures ended { IfOk result (λ r. Ended [] (maybe (form some_args) ∷ lexeme Close ∷ []) tokens.now at r.1) }
+    ensures ahead { IfOk result (λ r. at < r.1) }
+    ensures stopped { IfErr result (StopsBy [] (maybe (form some_args) ∷ lexeme Close ∷ []) tokens.now at) }
+{
+    if lexeme_at(tokens, at) == Lexeme::Close {
+        return Ok((Vec::new(alloc), at + 1));
+    }
+    let (found, mid) = args(alloc, tokens, at)?;
+    let end = expect(tokens, mid, Lexeme::Close)?;
+    Ok((found, end))
+}
+
+// simple = ";" | assign ";" | WORD "(" [args] ")" ";" | "return" expr ";" | "break" ";" | "continue" ";"
+/// A statement without parts of its own.
+pub(crate) fn simple(alloc: Global, tokens: &[Token], at: usize) -> Result<(Stmt, usize), Fail>
+    requires size { length tokens.now < 2 ^ 32 }
+    requires within { at ≤ length tokens.now }
+    ensures tree { IfOk result (λ r. Simple (drop at tokens.now) (statement r.0) (drop r.1 tokens.now)) }
+    ensures ended { IfOk result (λ r. Ended [] (form a_simple ∷ []) tokens.now at r.1) }
+    ensures ahead { IfOk result (λ r. at < r.1) }
+    ensures stopped { IfErr result (StopsBy [] (form a_simple ∷ []) tokens.now at) }
+{
+    match lexeme_at(tokens, at) {
+        Lexeme::Semicolon => Ok((Stmt::Empty, at + 1)),
+        Lexeme::Return => {
+            let (value, mid) = expression(alloc, tokens, at + 1)?;
+            let end = expect(tokens, mid, Lexeme::Semicolon)?;
+            Ok((Stmt::Return(value), end))
+        }
+        Lexeme::Break => {
+            let end = expect(tokens, at + 1, Lexeme::Semicolon)?;
+            Ok((Stmt::Break(line_at(tokens, at)), end))
+        }
+        Lexeme::Continue => {
+            let end = expect(tokens, at + 1, Lexeme::Semicolon)?;
+            Ok((Stmt::Continue(line_at(tokens, at)), end))
+        }
+        Lexeme::Word => {
+            let (form, end) = word_simple(alloc, tokens, at)?;
+            Ok((form, end))
+        }
+        _ => {
+            let (assign, end) = assigned_to(alloc, tokens, at)?;
+            Ok((Stmt::Assign(assign), end))
+        }
+    }
+}
+
+// assign ";" | WORD "(" [args] ")" ";"
+fn word_simple(alloc: Global, tokens: &[Token], at: usize) -> Result<(Stmt, usize), Fail>
+    requires size { length tokens.now < 2 ^ 32 }
+    requires within { at < length tokens.now }
+    requires begun { first (drop at tokens.now) ≡ Lexeme.Word }
+    ensures tree { IfOk result (λ r. Simple (drop at tokens.now) (statement r.0) (drop r.1 tokens.now)) }
+    ensures ended { IfOk result (λ r. Ended [] (form a_simple ∷ []) tokens.now at r.1) }
+    ensures ahead { IfOk result (λ r. at < r.1) }
+    ensures stopped { IfErr result (StopsBy [] (form a_simple ∷ []) tokens.now at) }
+{
+    let line = line_at(tokens, at);
+    if lexeme_at(tokens, at + 1) == Lexeme::Open {
+        let (parts, mid) = called(alloc, tokens, at + 1 + 1)?;
+        let end = expect(tokens, mid, Lexeme::Semicolon)?;
+        let word = text_at(alloc, tokens, at)?;
+        return Ok((Stmt::Call(line, word, Seq::of(parts)), end));
+    }
+    let (assign, end) = assigned_to(alloc, tokens, at)?;
+    Ok((Stmt::Assign(assign), end))
+}
+
+// assign ";"
+fn assigned_to(alloc: Global, tokens: &[Token], at: usize) -> Result<(Assign, usize), Fail>
+    requires size { length tokens.now < 2 ^ 32 }
+    requires within { at ≤ length tokens.now }
+    ensures tree { IfOk result (λ r. AssignedTo (drop at tokens.now) (assigned r.0) (drop r.1 tokens.now)) }
+    ensures ended { IfOk result (λ r. Ended [] (form an_assign ∷ lexeme Semicolon ∷ []) tokens.now at r.1) }
+    ensures ahead { IfOk result (λ r. at < r.1) }
+    ensures stopped { IfErr result (StopsBy [] (form an_assign ∷ lexeme Semicolon ∷ []) tokens.now at) }
+{
+    let (assign, mid) = assign(alloc, tokens, at)?;
+    let end = expect(tokens, mid, Lexeme::Semicolon)?;
+    Ok((assign, end))
+}
+
+// "(" [assign | decl] ";" [expr] ";" [assign] ")"
+/// The head of a `for`.
+pub(crate) fn head(alloc: Global, tokens: &[Token], at: usize) -> Result<(Head, usize), Fail>
+    requires size { length tokens.now < 2 ^ 32 }
+    requires within { at ≤ length tokens.now }
+    ensures tree { IfOk result (λ r. Heading (drop at tokens.now) (statements r.0.first) (option_map expression r.0.test) (option_map assigned r.0.step) (drop r.1 tokens.now)) }
+    ensures ended { IfOk result (λ r. Ended [] (lexeme Open ∷ maybe (either (form an_assign) (form a_decl)) ∷ lexeme Semicolon ∷ maybe expr ∷ lexeme Semicolon ∷ maybe (form an_assign) ∷ lexeme Close ∷ []) tokens.now at r.1) }
+    ensures ahead { IfOk result (λ r. at < r.1) }
+    ensures stopped { IfErr result (StopsBy [] (lexeme Open ∷ maybe (either (form an_assign) (form a_decl)) ∷ lexeme Semicolon ∷ maybe expr ∷ lexeme Semicolon ∷ maybe (form an_assign) ∷ lexeme Close ∷ []) tokens.now at) }
+{
+    let inside = expect(tokens, at, Lexeme::Open)?;
+    let (first, mid) = first(alloc, tokens, inside)?;
+    let (test, place) = test(alloc, tokens, mid)?;
+    let (step, end) = step(alloc, tokens, place)?;
+    let first = Seq::of(first);
+    Ok((Head { first, test, step }, end))
+}
+
+// [assign | decl] ";"
+fn first(alloc: Global, tokens: &[Token], at: usize) -> Result<(Vec<Stmt>, usize), Fail>
+    requires size { length tokens.now < 2 ^ 32 }
+    requires within { at ≤ length tokens.now }
+    ensures tree { IfOk result (λ r. First (drop at tokens.now) (statements r.0.items) (drop r.1 tokens.now)) }
+    ensures ended { IfOk result (λ r. Ended [] (maybe (either (form an_assign) (form a_decl)) ∷ lexeme Semicolon ∷ []) tokens.now at r.1) }
+    ensures ahead { IfOk result (λ r. at < r.1) }
+    ensures stopped { IfErr result (StopsBy [] (maybe (either (form an_assign) (form a_decl)) ∷ lexeme Semicolon ∷ []) tokens.now at) }
+{
+    match lexeme_at(tokens, at) {
+        Lexeme::Semicolon => Ok((Vec::new(alloc), at + 1)),
+        Lexeme::Int => {
+            let (items, mid) = items(alloc, tokens, at + 1)?;
+            let end = expect(tokens, mid, Lexeme::Semicolon)?;
+            Ok((one(alloc, Stmt::Declare(Seq::of(items)))?, end))
+        }
+        _ => {
+            let (assign, end) = assigned_to(alloc, tokens, at)?;
+            Ok((one(alloc, Stmt::Assign(assign))?, end))
+        }
+    }
+}
+
+// [expr] ";"
+fn test(alloc: Global, tokens: &[Token], at: usize) -> Result<(Option<Expr>, usize), Fail>
+    requires size { length tokens.now < 2 ^ 32 }
+    requires within { at ≤ length tokens.now }
+    ensures tree { IfOk result (λ r. Test (drop at tokens.now) (option_map expression r.0) (drop r.1 tokens.now)) }
+    ensures ended { IfOk result (λ r. Ended [] (maybe expr ∷ lexeme Semicolon ∷ []) tokens.now at r.1) }
+    ensures ahead { IfOk result (λ r. at < r.1) }
+    ensures stopped { IfErr result (StopsBy [] (maybe expr ∷ lexeme Semicolon ∷ []) tokens.now at) }
+{
+    if lexeme_at(tokens, at) == Lexeme::Semicolon {
+        return Ok((None, at + 1));
+    }
+    let (test, mid) = expression(alloc, tokens, at)?;
+    let end = expect(tokens, mid, Lexeme::Semicolon)?;
+    Ok((Some(test), end))
+}
+
+// [assign] ")"
+fn step(alloc: Global, tokens: &[Token], at: usize) -> Result<(Option<Assign>, usize), Fail>
+    requires size { length tokens.now < 2 ^ 32 }
+    requires within { at ≤ length tokens.now }
+    ensures tree { IfOk result (λ r. Step (drop at tokens.now) (option_map assigned r.0) (drop r.1 tokens.now)) }
+    ensures ended { IfOk result (λ r. Ended [] (maybe (form an_assign) ∷ lexeme Close ∷ []) tokens.now at r.1) }
+    ensures ahead { IfOk result (λ r. at < r.1) }
+    ensures stopped { IfErr result (StopsBy [] (maybe (form an_assign) ∷ lexeme Close ∷ []) tokens.now at) }
+{
+    if lexeme_at(tokens, at) == Lexeme::Close {
+        return Ok((None, at + 1));
+    }
+    let (step, mid) = assign(alloc, tokens, at)?;
+    let end = expect(tokens, mid, Lexeme::Close)?;
+    Ok((Some(step), end))
+}
+
+/// The statement alone.
+pub(crate) fn one(alloc: Global, form: Stmt) -> Result<Vec<Stmt>, NoMemory>
+    ensures { IfOk result (λ found. statements found.items ≡ also (statement form) no_more) }
+{
+    let mut found = Vec::new(alloc);
+    found.push(form)?;
+    Ok(found)
+}

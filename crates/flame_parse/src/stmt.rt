@@ -1,0 +1,247 @@
+//! The reader of statements. Each function begins with the production that it reads.
+
+ghost use Rattle.std.specs.Prelude.{◌≡◌, ◌+◌, ◌<◌, ◌≤◌, ◌^◌, [], ◌∷◌, length, drop, map, option_map, IfOk, IfErr};
+ghost use Rattle.flame_spec.specs.Seen.{expression, statement, statements, arms};
+ghost use Rattle.flame_expr.specs.Lexemes.{first};
+ghost use Rattle.flame_expr.specs.Steps.{form, many, else_ifs, else_body, a_stmt, a_block, a_body};
+ghost use Rattle.flame_expr.specs.Reader.{Ended, StopsBy};
+ghost use Rattle.flame_parse.specs.Operators.{joins_stmt, joins_stmts};
+ghost use Rattle.flame_parse.specs.Grammar.{Block, Stmts, Stmt as StmtRead, Elses, Body};
+
+use crate::operators::starts_statement;
+use crate::simple::{head, items, one, simple};
+use flame_expr::cursor::{expect, lexeme_at, line_at, text_at};
+use flame_expr::fault::Fail;
+use flame_expr::lexeme::Lexeme;
+use flame_expr::reader::bracketed;
+use flame_lex::token::Token;
+use flame_rows::seq::Seq;
+use flame_spec::tree::{Arm, Stmt};
+use std::alloc::Global;
+
+// block = "{" stmt* "}"
+/// A block: its statements and the place behind it.
+#[cycle(stmts)]
+pub(crate) fn block(alloc: Global, tokens: &[Token], at: usize) -> Result<(Vec<Stmt>, usize), Fail>
+    requires size { length tokens.now < 2 ^ 32 }
+    requires within { at ≤ length tokens.now }
+    ensures tree { IfOk result (λ r. Block (drop at tokens.now) (statements r.0.items) (drop r.1 tokens.now)) }
+    ensures ended { IfOk result (λ r. Ended [] (form a_block ∷ []) tokens.now at r.1) }
+    ensures ahead { IfOk result (λ r. at < r.1) }
+    ensures stopped { IfErr result (StopsBy [] (form a_block ∷ []) tokens.now at) }
+{
+    let inside = expect(tokens, at, Lexeme::OpenBrace)?;
+    let (found, close) = stmts(alloc, tokens, inside)?;
+    let end = expect(tokens, close, Lexeme::CloseBrace)?;
+    Ok((found, end))
+}
+
+// stmt*
+#[cycle(stmts)]
+fn stmts(alloc: Global, tokens: &[Token], at: usize) -> Result<(Vec<Stmt>, usize), Fail>
+    requires size { length tokens.now < 2 ^ 32 }
+    requires within { at ≤ length tokens.now }
+    ensures tree { IfOk result (λ r. Stmts (drop at tokens.now) (statements r.0.items) (drop r.1 tokens.now)) }
+    ensures ended { IfOk result (λ r. Ended joins_stmts (many (form a_stmt) ∷ []) tokens.now at r.1) }
+    ensures stopped { IfErr result (StopsBy joins_stmts (many (form a_stmt) ∷ []) tokens.now at) }
+{
+    let mut found = Vec::new(alloc);
+    let mut place = at;
+    'stmts: loop {
+        if !starts_statement(lexeme_at(tokens, place)) {
+            return Ok((found, place));
+        }
+        let (next, end) = stmt(alloc, tokens, place)?;
+        found.push(next)?;
+        place = end;
+    }
+}
+
+// stmt = decl ";" | block | if | while | for | do | loop | simple
+#[cycle(stmts)]
+fn stmt(alloc: Global, tokens: &[Token], at: usize) -> Result<(Stmt, usize), Fail>
+    requires size { length tokens.now < 2 ^ 32 }
+    requires within { at ≤ length tokens.now }
+    ensures tree { IfOk result (λ r. StmtRead (drop at tokens.now) (statement r.0) (drop r.1 tokens.now)) }
+    ensures ended { IfOk result (λ r. Ended joins_stmt (form a_stmt ∷ []) tokens.now at r.1) }
+    ensures ahead { IfOk result (λ r. at < r.1) }
+    ensures stopped { IfErr result (StopsBy joins_stmt (form a_stmt ∷ []) tokens.now at) }
+{
+    match lexeme_at(tokens, at) {
+        Lexeme::Int => {
+            let (items, mid) = items(alloc, tokens, at + 1)?;
+            let end = expect(tokens, mid, Lexeme::Semicolon)?;
+            Ok((Stmt::Declare(Seq::of(items)), end))
+        }
+        Lexeme::OpenBrace => {
+            let (found, end) = block(alloc, tokens, at)?;
+            Ok((Stmt::Block(Seq::of(found)), end))
+        }
+        Lexeme::If => {
+            let (form, end) = branch(alloc, tokens, at)?;
+            Ok((form, end))
+        }
+        Lexeme::While => {
+            let (form, end) = while_loop(alloc, tokens, at)?;
+            Ok((form, end))
+        }
+        Lexeme::For => {
+            let (form, end) = for_loop(alloc, tokens, at)?;
+            Ok((form, end))
+        }
+        Lexeme::Do => {
+            let (form, end) = do_loop(alloc, tokens, at)?;
+            Ok((form, end))
+        }
+        Lexeme::Start => {
+            let (form, end) = message_loop(alloc, tokens, at)?;
+            Ok((form, end))
+        }
+        _ => {
+            let (form, end) = simple(alloc, tokens, at)?;
+            Ok((form, end))
+        }
+    }
+}
+
+// if = "if" "(" expr ")" body ("else" "if" "(" expr ")" body)* ["else" body]
+#[cycle(stmts)]
+fn branch(alloc: Global, tokens: &[Token], at: usize) -> Result<(Stmt, usize), Fail>
+    requires size { length tokens.now < 2 ^ 32 }
+    requires within { at < length tokens.now }
+    requires begun { first (drop at tokens.now) ≡ Lexeme.If }
+    ensures tree { IfOk result (λ r. StmtRead (drop at tokens.now) (statement r.0) (drop r.1 tokens.now)) }
+    ensures ended { IfOk result (λ r. Ended joins_stmt (form a_stmt ∷ []) tokens.now at r.1) }
+    ensures ahead { IfOk result (λ r. at < r.1) }
+    ensures stopped { IfErr result (StopsBy joins_stmt (form a_stmt ∷ []) tokens.now at) }
+{
+    let (test, mid) = bracketed(alloc, tokens, at + 1)?;
+    let (first, place) = body(alloc, tokens, mid)?;
+    let (mut arms, last, end) = elses(alloc, tokens, place)?;
+    let body = Seq::of(first);
+    arms.insert(0, Arm { test, body })?;
+    Ok((Stmt::If(Seq::of(arms), Seq::of(last)), end))
+}
+
+// ("else" "if" "(" expr ")" body)* ["else" body]
+#[cycle(stmts)]
+fn elses(alloc: Global, tokens: &[Token], at: usize) -> Result<(Vec<Arm>, Vec<Stmt>, usize), Fail>
+    requires size { length tokens.now < 2 ^ 32 }
+    requires within { at ≤ length tokens.now }
+    ensures tree { IfOk result (λ r. Elses (drop at tokens.now) (arms r.0.items) (statements r.1.items) (drop r.2 tokens.now)) }
+    ensures ended { IfOk result (λ r. Ended joins_stmt (else_ifs ∷ else_body ∷ []) tokens.now at r.2) }
+    ensures stopped { IfErr result (StopsBy joins_stmt (else_ifs ∷ else_body ∷ []) tokens.now at) }
+{
+    let mut found = Vec::new(alloc);
+    let mut place = at;
+    'elses: loop {
+        let Lexeme::Else = lexeme_at(tokens, place) else {
+            return Ok((found, Vec::new(alloc), place));
+        };
+        let Lexeme::If = lexeme_at(tokens, place + 1) else {
+            let (last, end) = body(alloc, tokens, place + 1)?;
+            return Ok((found, last, end));
+        };
+        let (test, mid) = bracketed(alloc, tokens, place + 1 + 1)?;
+        let (inside, end) = body(alloc, tokens, mid)?;
+        let body = Seq::of(inside);
+        found.push(Arm { test, body })?;
+        place = end;
+    }
+}
+
+// body = block | simple
+#[cycle(stmts)]
+fn body(alloc: Global, tokens: &[Token], at: usize) -> Result<(Vec<Stmt>, usize), Fail>
+    requires size { length tokens.now < 2 ^ 32 }
+    requires within { at ≤ length tokens.now }
+    ensures tree { IfOk result (λ r. Body (drop at tokens.now) (statements r.0.items) (drop r.1 tokens.now)) }
+    ensures ended { IfOk result (λ r. Ended [] (form a_body ∷ []) tokens.now at r.1) }
+    ensures ahead { IfOk result (λ r. at < r.1) }
+    ensures stopped { IfErr result (StopsBy [] (form a_body ∷ []) tokens.now at) }
+{
+    match lexeme_at(tokens, at) {
+        Lexeme::OpenBrace => {
+            let (found, end) = block(alloc, tokens, at)?;
+            Ok((found, end))
+        }
+        _ => {
+            let (form, end) = simple(alloc, tokens, at)?;
+            Ok((one(alloc, form)?, end))
+        }
+    }
+}
+
+// while = "while" "(" expr ")" body
+#[cycle(stmts)]
+fn while_loop(alloc: Global, tokens: &[Token], at: usize) -> Result<(Stmt, usize), Fail>
+    requires size { length tokens.now < 2 ^ 32 }
+    requires within { at < length tokens.now }
+    requires begun { first (drop at tokens.now) ≡ Lexeme.While }
+    ensures tree { IfOk result (λ r. StmtRead (drop at tokens.now) (statement r.0) (drop r.1 tokens.now)) }
+    ensures ended { IfOk result (λ r. Ended joins_stmt (form a_stmt ∷ []) tokens.now at r.1) }
+    ensures ahead { IfOk result (λ r. at < r.1) }
+    ensures stopped { IfErr result (StopsBy joins_stmt (form a_stmt ∷ []) tokens.now at) }
+{
+    let (test, mid) = bracketed(alloc, tokens, at + 1)?;
+    let (found, end) = body(alloc, tokens, mid)?;
+    Ok((Stmt::While(line_at(tokens, at), test, Seq::of(found)), end))
+}
+
+// for = "for" "(" [assign | decl] ";" [expr] ";" [assign] ")" body
+#[cycle(stmts)]
+fn for_loop(alloc: Global, tokens: &[Token], at: usize) -> Result<(Stmt, usize), Fail>
+    requires size { length tokens.now < 2 ^ 32 }
+    requires within { at < length tokens.now }
+    requires begun { first (drop at tokens.now) ≡ Lexeme.For }
+    ensures tree { IfOk result (λ r. StmtRead (drop at tokens.now) (statement r.0) (drop r.1 tokens.now)) }
+    ensures ended { IfOk result (λ r. Ended joins_stmt (form a_stmt ∷ []) tokens.now at r.1) }
+    ensures ahead { IfOk result (λ r. at < r.1) }
+    ensures stopped { IfErr result (StopsBy joins_stmt (form a_stmt ∷ []) tokens.now at) }
+{
+    let (head, mid) = head(alloc, tokens, at + 1)?;
+    let (found, end) = body(alloc, tokens, mid)?;
+    let head = Box::new(alloc, head)?;
+    Ok((Stmt::For(line_at(tokens, at), head, Seq::of(found)), end))
+}
+
+// do = "do" body "while" "(" expr ")" ";"
+#[cycle(stmts)]
+fn do_loop(alloc: Global, tokens: &[Token], at: usize) -> Result<(Stmt, usize), Fail>
+    requires size { length tokens.now < 2 ^ 32 }
+    requires within { at < length tokens.now }
+    requires begun { first (drop at tokens.now) ≡ Lexeme.Do }
+    ensures tree { IfOk result (λ r. StmtRead (drop at tokens.now) (statement r.0) (drop r.1 tokens.now)) }
+    ensures ended { IfOk result (λ r. Ended joins_stmt (form a_stmt ∷ []) tokens.now at r.1) }
+    ensures ahead { IfOk result (λ r. at < r.1) }
+    ensures stopped { IfErr result (StopsBy joins_stmt (form a_stmt ∷ []) tokens.now at) }
+{
+    let (found, mid) = body(alloc, tokens, at + 1)?;
+    let open = expect(tokens, mid, Lexeme::While)?;
+    let (test, place) = bracketed(alloc, tokens, open)?;
+    let end = expect(tokens, place, Lexeme::Semicolon)?;
+    Ok((Stmt::Do(line_at(tokens, at), Seq::of(found), test), end))
+}
+
+// loop = START stmt* FINISH
+#[cycle(stmts)]
+fn message_loop(alloc: Global, tokens: &[Token], at: usize) -> Result<(Stmt, usize), Fail>
+    requires size { length tokens.now < 2 ^ 32 }
+    requires within { at < length tokens.now }
+    requires begun { first (drop at tokens.now) ≡ Lexeme.Start }
+    ensures tree { IfOk result (λ r. StmtRead (drop at tokens.now) (statement r.0) (drop r.1 tokens.now)) }
+    ensures ended { IfOk result (λ r. Ended joins_stmt (form a_stmt ∷ []) tokens.now at r.1) }
+    ensures ahead { IfOk result (λ r. at < r.1) }
+    ensures stopped { IfErr result (StopsBy joins_stmt (form a_stmt ∷ []) tokens.now at) }
+{
+    let (found, finish) = stmts(alloc, tokens, at + 1)?;
+    let end = expect(tokens, finish, Lexeme::Finish)?;
+    let name = text_at(alloc, tokens, at)?;
+    let end_name = text_at(alloc, tokens, finish)?;
+    let line = line_at(tokens, at);
+    let end_line = line_at(tokens, finish);
+    Ok((
+        Stmt::Loop(line, name, Seq::of(found), end_line, end_name),
+        end,
+    ))
+}
