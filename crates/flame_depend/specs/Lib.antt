@@ -1,0 +1,10 @@
+pub mod Shown
+pub mod Marks
+pub mod Tables
+pub mod Links
+pub mod Ready
+pub mod Graph
+pub mod Edges
+pub mod Heights
+pub mod Backs
+pub mod Plans

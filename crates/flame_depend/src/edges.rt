@@ -1,0 +1,58 @@
+//! Which functions of a model stand before which.
+
+ghost use Rattle.std.specs.Prelude.{◌≡◌, ◌^◌, ◌<◌, ◌++◌, IfOk, OnOk, length};
+ghost use Rattle.flame_spec.specs.Before.{function_count};
+ghost use Rattle.flame_depend.specs.Edges.{edges_to, edges_below, edges_of};
+ghost use Rattle.flame_depend.specs.Graph.{AreAscending, follows};
+
+use crate::edge::Edge;
+use crate::links::successors;
+use crate::place::place_all;
+use crate::targets::Targets;
+use flame_rows::NoMemory;
+use flame_rows::seq::Seq;
+use flame_spec::model::Model;
+use std::alloc::Global;
+
+/// Adds the edges from a function to each of the targets.
+fn push_edges(before: u32, targets: &[u32], edges: &mut Vec<Edge>) -> Result<(), NoMemory>
+    ensures { OnOk result (edges.new.items ≡ edges.old.items ++ edges_to before targets.now) }
+{
+    for target in targets {
+        edges.push(Edge {
+            before,
+            after: *target,
+        })?;
+    }
+    Ok(())
+}
+
+/// The edges of all lists, one list after another.
+fn flatten(alloc: Global, lists: &[Targets]) -> Result<Vec<Edge>, NoMemory>
+    requires few { length lists.now < 2 ^ 32 }
+    requires ascending { AreAscending lists.now }
+    ensures { IfOk result (λ edges. edges.items ≡ edges_below (length lists.now) (length lists.now) (follows lists.now)) }
+{
+    let mut edges: Vec<Edge> = Vec::new(alloc);
+    for (i, list) in lists.iter().enumerate() {
+        push_edges(i as u32, list.numbers(), &mut edges)?;
+    }
+    Ok(edges)
+}
+
+/// Every pair of functions of which the first stands before the second, once, in document order of the first and then
+/// of the second. A function stands before another where both are of one type and the other leaves the state that it
+/// enters, or where the other reads a message that it adds; it may stand before itself. The model has fewer than 2^32
+/// functions. It takes time and memory for as many edges as there are.
+///
+/// # Errors
+///
+/// `NoMemory` where memory was not found.
+pub fn edges(alloc: Global, model: &Model) -> Result<Seq<Edge>, NoMemory>
+    requires { function_count model.now < 2 ^ 32 }
+    ensures { IfOk result (λ edges. edges ≡ edges_of model.now) }
+{
+    let places = place_all(alloc, model)?;
+    let lists = successors(alloc, model.agents.items().len(), &places)?;
+    Ok(Seq::of(flatten(alloc, &lists)?))
+}

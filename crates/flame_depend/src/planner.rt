@@ -1,0 +1,79 @@
+//! Planning.
+
+ghost use Rattle.std.specs.Prelude.{◌≡◌, ◌^◌, ◌<◌, None, IfOk, IfErr, length};
+ghost use Rattle.flame_spec.specs.Before.{before, function_count};
+ghost use Rattle.flame_spec.specs.ModelOrder.{model_order, left_over};
+ghost use Rattle.flame_depend.specs.Links.{AreSuccessors};
+ghost use Rattle.flame_depend.specs.Plans.{IsPlan, FailsBy};
+
+use crate::cycle::{first_waiting, meet_cycle};
+use crate::fault::{CycleFault, DependFault, Fail};
+use crate::layers::layer_functions;
+use crate::links::successors;
+use crate::order::put_in_order;
+use crate::place::place_all;
+use crate::plan::Plan;
+use crate::starts::{Found, find_starts};
+use crate::targets::Targets;
+use flame_rows::seq::Seq;
+use flame_spec::model::Model;
+use std::alloc::Global;
+
+/// The plan of a model without a cycle, whose functions run in this order.
+fn plan_ordered(
+    alloc: Global,
+    model: &Model,
+    lists: &[Targets],
+    order: Vec<u32>,
+) -> Result<Plan, Fail>
+    requires functions { function_count model.now < 2 ^ 32 }
+    requires agents { length model.now.agents < 2 ^ 32 }
+    requires lists { AreSuccessors (function_count model.now) (before model.now) lists.now }
+    requires order { order.items ≡ model_order model.now }
+    requires acyclic { left_over model.now ≡ None }
+    ensures plan { IfOk result (IsPlan model.now) }
+    ensures fault { IfErr result (FailsBy model.now) }
+{
+    let layers = layer_functions(alloc, lists, &order)?;
+    match find_starts(alloc, model.agents.items())? {
+        Found::Many(fault) => Err(Fail::Fault(DependFault::Starts(fault))),
+        Found::Lone(starts) => Ok(Plan {
+            order: Seq::of(order),
+            layers: Seq::of(layers),
+            starts: Seq::of(starts),
+        }),
+    }
+}
+
+/// The order of the model's functions, their layers, and the start state of each agent type.
+///
+/// Again and again the first function in document order runs that has not run and before which all that stand before
+/// it have run. The model has fewer than 2^32 functions and fewer than 2^32 agent types. With f functions and e edges
+/// it takes time for about f log f + e steps.
+///
+/// # Errors
+///
+/// `Fault` with `Cycle` comes exactly where functions are left over, with the cycle that is met from the first of
+/// them by stepping again and again to the first left-over function before. `Fault` with `Starts` comes exactly where
+/// none is left over and a type has two start states or more: states that no function of the type enters. It has the
+/// first such type. `NoMemory` is want of memory.
+pub fn plan(alloc: Global, model: &Model) -> Result<Plan, Fail>
+    requires functions { function_count model.now < 2 ^ 32 }
+    requires agents { length model.now.agents < 2 ^ 32 }
+    ensures plan { IfOk result (IsPlan model.now) }
+    ensures fault { IfErr result (FailsBy model.now) }
+{
+    let places = place_all(alloc, model)?;
+    let lists = successors(alloc, model.agents.items().len(), &places)?;
+    let links = lists.as_slice();
+    let ordered = put_in_order(alloc, links)?;
+    match first_waiting(&ordered.waiting) {
+        Some(start) => {
+            let functions = meet_cycle(alloc, links, &ordered.waiting, start)?;
+            Err(Fail::Fault(DependFault::Cycle(CycleFault {
+                functions: Seq::of(functions),
+            })))
+        }
+        None => plan_ordered(alloc, model, links, ordered.order),
+    }
+}
