@@ -1,0 +1,13 @@
+pub mod Joined
+pub mod Widths
+pub mod Locals
+pub mod Signs
+pub mod Rows
+pub mod Keeps
+pub mod Turns
+pub mod Runs
+pub mod Found
+pub mod More
+pub mod Widened
+pub mod Ends
+pub mod SameBodies

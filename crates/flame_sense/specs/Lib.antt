@@ -1,0 +1,12 @@
+pub mod Words
+pub mod Scenes
+pub mod Expressions
+pub mod Endings
+pub mod Loops
+pub mod Statements
+pub mod Outcomes
+pub mod Kept
+pub mod Loopless
+pub mod Laws
+pub mod BodyLaws
+pub mod Steps

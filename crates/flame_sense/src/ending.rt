@@ -1,0 +1,18 @@
+//! How statements end.
+
+use flame_spec::fault::Fault;
+
+/// How a statement ended.
+#[derive(Clone, Copy, Debug, PartialEq, Eq)]
+pub(crate) enum Ending {
+    /// It went on behind the statement.
+    WentOn,
+    /// It met `break`.
+    Broke,
+    /// It met `continue`.
+    Continued,
+    /// It returned this value.
+    Returned(i32),
+    /// It faulted.
+    Faulted(Fault),
+}

@@ -1,0 +1,112 @@
+//! How the names of a model are written in function files.
+
+ghost use Rattle.std.specs.Prelude.{◌≡◌, option_map};
+ghost use Rattle.flame_sense.specs.Words.{is_capitals, is_between, column_where};
+ghost use Rattle.flame_sense.specs.Steps.{is_written, within_reach};
+ghost use Rattle.flame_spec.specs.Columns.{column, width_of};
+
+use flame_spec::model::Variable;
+
+/// A way in which a word of a function file names something of the model.
+#[derive(Clone, Copy, Debug, PartialEq, Eq)]
+pub(crate) enum Form {
+    /// The name as it is.
+    Same,
+    /// The name in ASCII capitals.
+    Capitals,
+    /// `get_x`
+    Get,
+    /// `set_x`
+    Set,
+    /// `add_m_message`
+    AddMessage,
+    /// `add_a_agent`
+    AddAgent,
+    /// `m_message`
+    Row,
+}
+
+impl Form {
+    /// Whether the word is the name, written in this way.
+    pub(crate) fn is_written(self, word: &str, name: &str) -> bool
+        ensures { result ≡ is_written self word.now name.now }
+    {
+        match self {
+            Form::Same => name == word,
+            Form::Capitals => is_capitals(word, name),
+            Form::Get => is_between("get_", "", word, name),
+            Form::Set => is_between("set_", "", word, name),
+            Form::AddMessage => is_between("add_", "_message", word, name),
+            Form::AddAgent => is_between("add_", "_agent", word, name),
+            Form::Row => is_between("", "_message", word, name),
+        }
+    }
+}
+
+/// Whether the word is the name in ASCII capitals.
+fn is_capitals(word: &str, name: &str) -> bool
+    ensures { result ≡ is_capitals word.now name.now }
+{
+    let word = word.as_bytes();
+    let name = name.as_bytes();
+    if word.len() != name.len() {
+        return false;
+    }
+    for (i, letter) in name.iter().enumerate() {
+        if word[i] != letter.to_ascii_uppercase() {
+            return false;
+        }
+    }
+    true
+}
+
+/// Whether the word is the name between these two.
+fn is_between(before: &str, behind: &str, word: &str, name: &str) -> bool
+    ensures { result ≡ is_between before.now behind.now word.now name.now }
+{
+    match word.as_bytes().strip_prefix(before.as_bytes()) {
+        None => false,
+        Some(rest) => match rest.strip_prefix(name.as_bytes()) {
+            None => false,
+            Some(rest) => rest == behind.as_bytes(),
+        },
+    }
+}
+
+/// How many numbers of a row the variable takes.
+pub(crate) fn width_of(variable: &Variable) -> usize
+    ensures { result ≡ width_of variable.now }
+{
+    match variable.length {
+        None => 1,
+        Some(length) => length as usize,
+    }
+}
+
+/// The column of the first variable that the word names in this way, as far as places can be counted.
+pub(crate) fn column_where(form: Form, word: &str, variables: &[Variable]) -> Option<usize>
+    ensures { result ≡ option_map within_reach (column_where (is_written form word.now) variables.now) }
+{
+    let mut at = 0usize;
+    for variable in variables {
+        if form.is_written(word, variable.name.as_str()) {
+            return Some(at);
+        }
+        at = at.saturating_add(width_of(variable));
+    }
+    None
+}
+
+/// The column of the variable of this name, and without one the width of all, as far as places can be counted.
+pub(crate) fn column_of(name: &str, variables: &[Variable]) -> usize
+    ensures { result ≡ within_reach (column name.now variables.now) }
+{
+    let mut at = 0usize;
+    for variable in variables {
+        if variable.name.as_str() == name {
+            return at;
+        }
+        at = at.saturating_add(width_of(variable));
+    }
+    at
+}
