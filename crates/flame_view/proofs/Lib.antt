@@ -1,0 +1,3 @@
+pub mod Unsorted
+pub mod AsWritten
+pub mod Moving

@@ -1,0 +1,8 @@
+use Rattle.std.proofs.Common.{◌≡◌, take, map}
+use Rattle.std.specs.Option.{option_copied}
+use Rattle.flame_view.specs.Compiled.{picked_by}
+use Rattle.flame_view.proofs.view.picked.Given as goal
+
+abbrev pub invariant-loop-row : goal.invariant-loop-row
+invariant-loop-row l =
+    map (λ row. row.now) l.picked.items ≡ picked_by (option_copied l.filter) l.memory (take l.row-index l.rows)
