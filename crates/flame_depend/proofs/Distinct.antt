@@ -8,7 +8,8 @@ use Rattle.std.proofs.lemmas.List.{drop_more, append_assoc, append-nil}
 use Rattle.std.proofs.lemmas.List.Folds.{list_any_at, list_any-append}
 use Rattle.std.proofs.lemmas.Slice.Eq.{bytes_eq-Decides}
 use Rattle.flame_spec.specs.declared.model.Function.{Function}
-use Rattle.flame_spec.specs.States.{is_among, distinct_after, distinct, ends, states, is_entered, start_states}
+use Rattle.flame_spec.specs.KnownNames.{is_among}
+use Rattle.flame_spec.specs.States.{distinct_after, distinct, ends, states, is_entered, start_states}
 use Rattle.flame_spec.proofs.Starts.{is_among-filter}
 
 pub bytes_eq_self : (text : List ℕ) → bytes_eq text text ≡ true
@@ -38,9 +39,9 @@ filter_push test (y ∷ xs) x = go (test y) (filter_push test xs x)
 -- what is left out by a test may be left out first
 pub filter-distinct : (test : List ℕ → Bool) (earlier texts : List (List ℕ)) → filter test (distinct_after earlier texts) ≡ distinct_after (filter test earlier) (filter test texts)
 filter-distinct test earlier [] = refl
-filter-distinct test earlier (text ∷ texts) = go (test text) refl (is_among earlier text) refl (filter-distinct test earlier texts) (filter-distinct test (earlier ++ text ∷ []) texts)
+filter-distinct test earlier (text ∷ texts) = go (test text) refl (is_among text earlier) refl (filter-distinct test earlier texts) (filter-distinct test (earlier ++ text ∷ []) texts)
   where
-    go : (b : Bool) → test text ≡ b → (a : Bool) → is_among earlier text ≡ a
+    go : (b : Bool) → test text ≡ b → (a : Bool) → is_among text earlier ≡ a
         → filter test (distinct_after earlier texts) ≡ distinct_after (filter test earlier) (filter test texts)
         → filter test (distinct_after (earlier ++ text ∷ []) texts) ≡ distinct_after (filter test (earlier ++ text ∷ [])) (filter test texts)
         → filter test (cond a (distinct_after earlier texts) (text ∷ distinct_after (earlier ++ text ∷ []) texts)) ≡ distinct_after (filter test earlier) (cond b (text ∷ filter test texts) (filter test texts))
@@ -67,7 +68,7 @@ starts_are (f ∷ functions) h = filter-distinct (unentered (f ∷ functions)) [
 -- one function more: its state is passed over, or it is the next start state
 pub starts_more : (functions : List Function) (i : ℕ) (f : Function) (found : List (List ℕ)) → i < length functions → f ≡ get_or functions i f
     → distinct_after found (filter (unentered functions) (ends (drop i functions)))
-    ≡ cond (not (is_entered functions f.current || is_among found f.current)) (f.current ∷ distinct_after (found ++ f.current ∷ []) (filter (unentered functions) (ends (drop (i + 1) functions)))) (distinct_after found (filter (unentered functions) (ends (drop (i + 1) functions))))
+    ≡ cond (not (is_entered functions f.current || is_among f.current found)) (f.current ∷ distinct_after (found ++ f.current ∷ []) (filter (unentered functions) (ends (drop (i + 1) functions)))) (distinct_after found (filter (unentered functions) (ends (drop (i + 1) functions))))
 starts_more functions i f found h e =
     ap (λ fs. distinct_after found (filter (unentered functions) (ends fs))) (drop_more functions i f h ∙ ap (λ g. g ∷ drop (i + 1) functions) (sym e))
     ∙ ap (λ b. distinct_after found (cond (unentered functions f.current) (f.current ∷ cond b (f.next ∷ rest) rest) (cond b (f.next ∷ rest) rest))) next_entered
@@ -79,9 +80,9 @@ starts_more functions i f found h e =
     next_entered : unentered functions f.next ≡ false
     next_entered = ap not (list_any_at (λ g. bytes_eq g.next f.next) functions i f h (ap (λ g. bytes_eq g.next f.next) (sym e) ∙ bytes_eq_self f.next))
 
-    go : (b : Bool) → distinct_after found (cond (not b) (f.current ∷ rest) rest) ≡ cond (not (b || is_among found f.current)) (f.current ∷ distinct_after (found ++ f.current ∷ []) rest) (distinct_after found rest)
+    go : (b : Bool) → distinct_after found (cond (not b) (f.current ∷ rest) rest) ≡ cond (not (b || is_among f.current found)) (f.current ∷ distinct_after (found ++ f.current ∷ []) rest) (distinct_after found rest)
     go true = refl
-    go false = flip (is_among found f.current)
+    go false = flip (is_among f.current found)
       where
         flip : (a : Bool) → cond a (distinct_after found rest) (f.current ∷ distinct_after (found ++ f.current ∷ []) rest) ≡ cond (not a) (f.current ∷ distinct_after (found ++ f.current ∷ []) rest) (distinct_after found rest)
         flip true = refl
@@ -93,8 +94,8 @@ or_last : (b : Bool) → (b || false) ≡ b
 or_last true = refl
 or_last false = refl
 
-pub is_among-push : (found : List (List ℕ)) (text q : List ℕ) → is_among (found ++ text ∷ []) q ≡ (is_among found q || bytes_eq text q)
-is_among-push found text q = list_any-append (bytes_eq q) found (text ∷ []) ∙ ap (λ b. is_among found q || b) (or_last (bytes_eq q text) ∙ bytes_eq_sym q text)
+pub is_among-push : (found : List (List ℕ)) (text q : List ℕ) → is_among q (found ++ text ∷ []) ≡ (is_among q found || bytes_eq text q)
+is_among-push found text q = list_any-append (bytes_eq q) found (text ∷ []) ∙ ap (λ b. is_among q found || b) (or_last (bytes_eq q text) ∙ bytes_eq_sym q text)
 
 pub absorbed : (a b : Bool) → (b ≡ true → a ≡ true) → (a || b) ≡ a
 absorbed true b h = refl

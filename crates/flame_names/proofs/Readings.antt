@@ -3,17 +3,17 @@ use Rattle.std.proofs.Common.{◌≡◌, ℕ, List, [], ◌++◌, codes, sym, ap
 use Rattle.flame_spec.specs.declared.fault.NameKind.TheVariants.{Duplicate, UnknownMessage}
 use Rattle.flame_spec.specs.declared.model.Input.{Input}
 use Rattle.flame_spec.specs.Lists.{first}
-use Rattle.flame_spec.specs.KnownNames.{is_among, Declared}
+use Rattle.flame_spec.specs.KnownNames.{is_among, DeclaredNames}
 use Rattle.flame_spec.specs.Paths.{at_key}
 use Rattle.flame_spec.specs.Refusals.{name_fault, fault_where}
-use Rattle.flame_spec.specs.Leaves.{Scope}
+use Rattle.flame_spec.specs.Leaves.{LeafNames}
 use Rattle.flame_spec.specs.FunctionFaults.{filter_scope, reading_faults, input_faults}
 
 -- what a filter reads of a message with these variables
-abbrev pub read_scope : Declared → List (List ℕ) → List (List ℕ) → Scope
+abbrev pub read_scope : DeclaredNames → List (List ℕ) → List (List ℕ) → LeafNames
 read_scope declared memory variables = record { memory = memory; message = variables; units = declared.units }
 
-pub input_faults-known : (declared : Declared) (memory earlier : List (List ℕ)) (path : List ℕ) (input : Input)
+pub input_faults-known : (declared : DeclaredNames) (memory earlier : List (List ℕ)) (path : List ℕ) (input : Input)
     (variables : List (List ℕ))
     → is_among input.message declared.messages ≡ true
     → declared.variables input.message ≡ variables
@@ -33,7 +33,7 @@ input_faults-known declared memory earlier path input variables known own =
     ++ reading_faults (read_scope declared memory names) path input)
     own
 
-pub input_faults-unknown : (declared : Declared) (memory earlier : List (List ℕ)) (path : List ℕ) (input : Input)
+pub input_faults-unknown : (declared : DeclaredNames) (memory earlier : List (List ℕ)) (path : List ℕ) (input : Input)
     → is_among input.message declared.messages ≡ false
     → first (input_faults declared memory earlier path input)
     ≡ Some (name_fault UnknownMessage (at_key path (codes "messageName")) input.message)
@@ -47,7 +47,7 @@ input_faults-unknown declared memory earlier path input unknown =
     unknown
 
 -- a known message that is new
-pub rest_is : (declared : Declared) (memory earlier : List (List ℕ)) (path : List ℕ) (input : Input)
+pub rest_is : (declared : DeclaredNames) (memory earlier : List (List ℕ)) (path : List ℕ) (input : Input)
     (variables : List (List ℕ)) (name : List ℕ)
     → name ≡ input.message
     → is_among input.message declared.messages ≡ true

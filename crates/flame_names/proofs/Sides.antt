@@ -7,9 +7,9 @@ use Rattle.flame_spec.specs.declared.condition.Condition.TheVariants as Form
 use Rattle.flame_spec.specs.declared.condition.Condition.TheOpen.{Condition-F}
 use Rattle.flame_spec.specs.declared.condition.Condition.TheFolds.{fold-roll-Condition}
 use Rattle.flame_spec.specs.Paths.{at_key}
-use Rattle.flame_spec.specs.Leaves.{Scope, leaf_step, leaf_faults}
+use Rattle.flame_spec.specs.Leaves.{LeafNames, leaf_step, leaf_faults}
 
-pub leaf_faults-And : (scope : Scope) (path : List ℕ) (left right : Box Condition Global)
+pub leaf_faults-And : (scope : LeafNames) (path : List ℕ) (left right : Box Condition Global)
     → leaf_faults scope (Form.And left right) path
     ≡ leaf_faults scope left.value (at_key path (codes "lhs")) ++ leaf_faults scope right.value (at_key path (codes "rhs"))
 leaf_faults-And scope path left right =
@@ -18,7 +18,7 @@ leaf_faults-And scope path left right =
     (λ faults. faults path)
     (fold-roll-Condition (List ℕ → List NameFault) (leaf_step scope) (Condition-F.And left right))
 
-pub leaf_faults-Or : (scope : Scope) (path : List ℕ) (left right : Box Condition Global)
+pub leaf_faults-Or : (scope : LeafNames) (path : List ℕ) (left right : Box Condition Global)
     → leaf_faults scope (Form.Or left right) path
     ≡ leaf_faults scope left.value (at_key path (codes "lhs")) ++ leaf_faults scope right.value (at_key path (codes "rhs"))
 leaf_faults-Or scope path left right =

@@ -4,14 +4,14 @@ use Rattle.flame_spec.specs.declared.fault.NameKind.TheVariants.{Duplicate}
 use Rattle.flame_spec.specs.declared.model.AgentType.{AgentType}
 use Rattle.flame_spec.specs.declared.model.Function.{Function}
 use Rattle.flame_spec.specs.declared.model.Variable.{Variable}
-use Rattle.flame_spec.specs.KnownNames.{is_among, variable_names, Declared}
+use Rattle.flame_spec.specs.KnownNames.{is_among, variable_names, DeclaredNames}
 use Rattle.flame_spec.specs.Paths.{at_key}
 use Rattle.flame_spec.specs.Refusals.{fault_where}
 use Rattle.flame_spec.specs.FunctionFaults.{functions_faults}
 use Rattle.flame_spec.specs.NameFaults.{memory_faults, agent_faults}
 
 -- a type whose name and memory have no faults has those of its functions
-pub functions-are : (declared : Declared) (types : List (List ℕ)) (is_taken : List ℕ → Bool) (path : List ℕ)
+pub functions-are : (declared : DeclaredNames) (types : List (List ℕ)) (is_taken : List ℕ → Bool) (path : List ℕ)
     (agent : AgentType) (name : List ℕ) (variables : List Variable) (memory : List (List ℕ)) (functions : List Function)
     → name ≡ agent.name
     → variables ≡ agent.memory

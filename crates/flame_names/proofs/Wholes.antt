@@ -5,7 +5,7 @@ use Rattle.flame_spec.specs.declared.model.Model.{Model}
 use Rattle.flame_spec.specs.declared.model.AgentType.{AgentType}
 use Rattle.flame_spec.specs.declared.model.MessageType.{MessageType}
 use Rattle.flame_spec.specs.Capitals.{capitals}
-use Rattle.flame_spec.specs.KnownNames.{unit_names, variable_names, names_in, Declared, declared_by}
+use Rattle.flame_spec.specs.KnownNames.{unit_names, variable_names, names_in, DeclaredNames, declared_by}
 use Rattle.flame_spec.specs.Paths.{at_key}
 use Rattle.flame_spec.specs.MessageFaults.{messages_faults}
 use Rattle.flame_spec.specs.NameFaults.{agents_faults, environment_faults, model_faults}
@@ -35,7 +35,7 @@ pub declared-is : (constants : List (List ℕ)) (units : List (List ℕ × ℤ))
     → constants ≡ map capitals model.constants
     → names_of units ≡ unit_names model.units
     → messages ≡ map message_entry model.messages
-    → (let d : Declared = record {
+    → (let d : DeclaredNames = record {
       constants = constants;
       units = names_of units;
       messages = names_of messages;
@@ -49,7 +49,7 @@ declared-is constants units messages model c u m =
     λ i. record { constants = c i; units = u i; messages = names i; variables = λ name. each name i }
 
 -- a model whose environment and messages have no faults has those of its agent types
-pub agents-are : (path : List ℕ) (model : Model) (declared : Declared) (messages : List MessageType)
+pub agents-are : (path : List ℕ) (model : Model) (declared : DeclaredNames) (messages : List MessageType)
     (agents : List AgentType)
     → messages ≡ model.messages
     → agents ≡ model.agents

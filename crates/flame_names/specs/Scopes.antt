@@ -1,13 +1,13 @@
 -- What tables declare.
 use Rattle.std.specs.Prelude.{[], unwrap_or}
-use Rattle.flame_spec.specs.KnownNames.{Declared}
-use Rattle.flame_spec.specs.Leaves.{Scope as Readable}
+use Rattle.flame_spec.specs.KnownNames.{DeclaredNames}
+use Rattle.flame_spec.specs.Leaves.{LeafNames}
 use Rattle.flame_names.specs.declared.leaves.Scope.{Scope}
 use Rattle.flame_names.specs.declared.functions.Tables.{Tables}
 use Rattle.flame_names.specs.Tables.{look, names_of}
 
 -- the names that a condition can read, by its tables
-abbrev pub scope_of : Scope → Readable
+abbrev pub scope_of : Scope → LeafNames
 scope_of scope = record {
   memory = scope.memory.now;
   message = scope.message.now;
@@ -15,7 +15,7 @@ scope_of scope = record {
 }
 
 -- the names that agent types find declared, by the tables
-abbrev pub declared_of : Tables → Declared
+abbrev pub declared_of : Tables → DeclaredNames
 declared_of tables = record {
   constants = tables.constants.now;
   units = names_of tables.units.now;

@@ -5,7 +5,7 @@ use Rattle.std.specs.Str.{bytes_eq}
 use Rattle.flame_spec.specs.declared.fault.NameFault.{NameFault}
 use Rattle.flame_spec.specs.declared.fault.NameKind.TheVariants.{Duplicate, FunctionShared}
 use Rattle.flame_spec.specs.declared.model.Function.{Function}
-use Rattle.flame_spec.specs.KnownNames.{Declared}
+use Rattle.flame_spec.specs.KnownNames.{DeclaredNames}
 use Rattle.flame_spec.specs.Paths.{at_key}
 use Rattle.flame_spec.specs.Refusals.{fault_where}
 use Rattle.flame_spec.specs.Leaves.{condition_faults}
@@ -24,7 +24,7 @@ title_at is_taken earlier path function =
 
 -- the faults of a function
 abbrev pub function_at :
-    Declared → List (List ℕ) → (List ℕ → Bool) → Transitions → List ℕ → Function → List NameFault
+    DeclaredNames → List (List ℕ) → (List ℕ → Bool) → Transitions → List ℕ → Function → List NameFault
 function_at declared memory is_taken earlier path function =
     title_at is_taken earlier (at_key path (codes "name")) function
     ++ (condition_faults (condition_scope declared memory) (at_key path (codes "condition")) function.condition

@@ -14,7 +14,8 @@ use Rattle.flame_spec.specs.Functions.{Place, at_type, functions_from, functions
 use Rattle.flame_spec.specs.Before.{leads_to, feeds, both_stand, before, function_count}
 use Rattle.flame_spec.specs.Below.{is_in}
 use Rattle.flame_spec.specs.ModelOrder.{order, left_over}
-use Rattle.flame_spec.specs.States.{is_among, distinct_after, ends, states, is_entered, start_states}
+use Rattle.flame_spec.specs.KnownNames.{is_among}
+use Rattle.flame_spec.specs.States.{distinct_after, ends, states, is_entered, start_states}
 use Rattle.flame_spec.proofs.Orders.{order_is_order, ready_taken, none_left_over}
 use Rattle.flame_spec.proofs.Starts.{start_from}
 
@@ -117,22 +118,22 @@ of_type first (t ∷ ts) f p h = ⊎_elim
 bytes_self : (text : List ℕ) → bytes_eq text text ≡ true
 bytes_self text = (bytes_eq-Decides text text).1 refl
 
-current_among : (fs : List Function) (k : ℕ) (f : Function) → slice_get fs k ≡ Some f → is_among (ends fs) f.current ≡ true
+current_among : (fs : List Function) (k : ℕ) (f : Function) → slice_get fs k ≡ Some f → is_among f.current (ends fs) ≡ true
 current_among [] k f h = cc
 current_among (x ∷ fs) zero f h =
     let same : x ≡ f = cc in
-    ap (λ (y : Function). bytes_eq f.current y.current || (bytes_eq f.current y.next || is_among (ends fs) f.current)) same
-    ∙ ap (λ b. b || (bytes_eq f.current f.next || is_among (ends fs) f.current)) (bytes_self f.current)
-current_among (x ∷ fs) (suc k) f h = both (bytes_eq f.current x.current) (bytes_eq f.current x.next) (is_among (ends fs) f.current) (current_among fs k f h)
+    ap (λ (y : Function). bytes_eq f.current y.current || (bytes_eq f.current y.next || is_among f.current (ends fs))) same
+    ∙ ap (λ b. b || (bytes_eq f.current f.next || is_among f.current (ends fs))) (bytes_self f.current)
+current_among (x ∷ fs) (suc k) f h = both (bytes_eq f.current x.current) (bytes_eq f.current x.next) (is_among f.current (ends fs)) (current_among fs k f h)
   where
     both : (a b c : Bool) → c ≡ true → (a || (b || c)) ≡ true
     both true b c e = refl
     both false true c e = refl
     both false false c e = e
 
-kept : (earlier texts : List (List ℕ)) (text : List ℕ) → is_among texts text ≡ true → (is_among earlier text || is_among (distinct_after earlier texts) text) ≡ true
+kept : (earlier texts : List (List ℕ)) (text : List ℕ) → is_among text texts ≡ true → (is_among text earlier || is_among text (distinct_after earlier texts)) ≡ true
 kept earlier [] text h = absurd (false≢true h)
-kept earlier (t ∷ texts) text h = go (is_among earlier t) refl (or_cases (bytes_eq text t) (is_among texts text) h) (kept earlier texts text) (kept (earlier ++ t ∷ []) texts text)
+kept earlier (t ∷ texts) text h = go (is_among t earlier) refl (or_cases (bytes_eq text t) (is_among text texts) h) (kept earlier texts text) (kept (earlier ++ t ∷ []) texts text)
   where
     same : bytes_eq text t ≡ true → text ≡ t
     same e = (bytes_eq-Decides text t).0 e
@@ -150,21 +151,21 @@ kept earlier (t ∷ texts) text h = go (is_among earlier t) refl (or_cases (byte
     regroup false true c = refl
     regroup false false c = refl
 
-    go : (b : Bool) → is_among earlier t ≡ b → (bytes_eq text t ≡ true) ⊎ (is_among texts text ≡ true)
-        → (is_among texts text ≡ true → (is_among earlier text || is_among (distinct_after earlier texts) text) ≡ true)
-        → (is_among texts text ≡ true → (is_among (earlier ++ t ∷ []) text || is_among (distinct_after (earlier ++ t ∷ []) texts) text) ≡ true)
-        → (is_among earlier text || is_among (cond b (distinct_after earlier texts) (t ∷ distinct_after (earlier ++ t ∷ []) texts)) text) ≡ true
-    go true p c rest more = ⊎_elim (λ e. or_left (is_among earlier text) (is_among (distinct_after earlier texts) text) (ap (is_among earlier) (same e) ∙ p)) rest c
+    go : (b : Bool) → is_among t earlier ≡ b → (bytes_eq text t ≡ true) ⊎ (is_among text texts ≡ true)
+        → (is_among text texts ≡ true → (is_among text earlier || is_among text (distinct_after earlier texts)) ≡ true)
+        → (is_among text texts ≡ true → (is_among text (earlier ++ t ∷ []) || is_among text (distinct_after (earlier ++ t ∷ []) texts)) ≡ true)
+        → (is_among text earlier || is_among text (cond b (distinct_after earlier texts) (t ∷ distinct_after (earlier ++ t ∷ []) texts))) ≡ true
+    go true p c rest more = ⊎_elim (λ e. or_left (is_among text earlier) (is_among text (distinct_after earlier texts)) (ap (λ q. is_among q earlier) (same e) ∙ p)) rest c
     go false p c rest more = ⊎_elim
-        (λ e. or_right (is_among earlier text) (bytes_eq text t || is_among (distinct_after (earlier ++ t ∷ []) texts) text) (or_left (bytes_eq text t) (is_among (distinct_after (earlier ++ t ∷ []) texts) text) e))
-        (λ e. sym (regroup (is_among earlier text) (bytes_eq text t) (is_among (distinct_after (earlier ++ t ∷ []) texts) text)) ∙ ap (λ b. b || is_among (distinct_after (earlier ++ t ∷ []) texts) text) (sym (list_any-append (bytes_eq text) earlier (t ∷ []))) ∙ more e)
+        (λ e. or_right (is_among text earlier) (bytes_eq text t || is_among text (distinct_after (earlier ++ t ∷ []) texts)) (or_left (bytes_eq text t) (is_among text (distinct_after (earlier ++ t ∷ []) texts)) e))
+        (λ e. sym (regroup (is_among text earlier) (bytes_eq text t) (is_among text (distinct_after (earlier ++ t ∷ []) texts))) ∙ ap (λ b. b || is_among text (distinct_after (earlier ++ t ∷ []) texts)) (sym (list_any-append (bytes_eq text) earlier (t ∷ []))) ∙ more e)
         c
 
-state_of : (fs : List Function) (k : ℕ) (f : Function) → slice_get fs k ≡ Some f → is_among (states fs) f.current ≡ true
+state_of : (fs : List Function) (k : ℕ) (f : Function) → slice_get fs k ≡ Some f → is_among f.current (states fs) ≡ true
 state_of [] k f h = cc
 state_of (x ∷ fs) k f h = kept [] (ends (x ∷ fs)) f.current (current_among (x ∷ fs) k f h)
 
-none_among : (xs : List (List ℕ)) (text : List ℕ) → (0 < length xs → ⊥) → is_among xs text ≡ false
+none_among : (xs : List (List ℕ)) (text : List ℕ) → (0 < length xs → ⊥) → is_among text xs ≡ false
 none_among [] text h = refl
 none_among (x ∷ xs) text h = absurd (h (omega arith))
 

@@ -10,7 +10,7 @@ use Rattle.flame_spec.specs.declared.fault.NameKind.{NameKind}
 use Rattle.flame_spec.specs.Lists.{each_from}
 use Rattle.flame_spec.specs.Paths.{at_key}
 use Rattle.flame_spec.specs.Refusals.{fault_where}
-use Rattle.flame_spec.specs.Leaves.{Scope, operand_faults, period_faults, leaf_faults}
+use Rattle.flame_spec.specs.Leaves.{LeafNames, operand_faults, period_faults, leaf_faults}
 use Rattle.flame_spec.specs.UsedNames.{knows_operand, knows}
 use Rattle.flame_spec.proofs.Found.{left-none, right-none}
 
@@ -41,7 +41,7 @@ both : (a b : Bool) → a ≡ true → b ≡ true → a && b ≡ true
 both a b e f = cc
 
 operand_known :
-    (scope : Scope) (path : List ℕ) (operand : Operand)
+    (scope : LeafNames) (path : List ℕ) (operand : Operand)
     → operand_faults scope path operand ≡ []
     → knows_operand scope operand ≡ true
 operand_known scope path (Number number) none = refl
@@ -49,31 +49,31 @@ operand_known scope path (Agent name) none = not_false _ (test_fails _ _ _ _ non
 operand_known scope path (Message name) none = not_false _ (test_fails _ _ _ _ none)
 
 leaf-Compare :
-    (scope : Scope) (op : Op) (a b : Operand) (path : List ℕ)
+    (scope : LeafNames) (op : Op) (a b : Operand) (path : List ℕ)
     → leaf_faults scope (Compare op a b) path
     ≡ operand_faults scope (at_key (at_key path (codes "lhs")) (codes "value")) a
     ++ operand_faults scope (at_key (at_key path (codes "rhs")) (codes "value")) b
 leaf-Compare scope op a b path = search (rules, the_lemmas)
 
 leaf-And :
-    (scope : Scope) (a b : Box Condition Global) (path : List ℕ)
+    (scope : LeafNames) (a b : Box Condition Global) (path : List ℕ)
     → leaf_faults scope (And a b) path
     ≡ leaf_faults scope a.value (at_key path (codes "lhs")) ++ leaf_faults scope b.value (at_key path (codes "rhs"))
 leaf-And scope a b path = search (rules, the_lemmas)
 
 leaf-Or :
-    (scope : Scope) (a b : Box Condition Global) (path : List ℕ)
+    (scope : LeafNames) (a b : Box Condition Global) (path : List ℕ)
     → leaf_faults scope (Or a b) path
     ≡ leaf_faults scope a.value (at_key path (codes "lhs")) ++ leaf_faults scope b.value (at_key path (codes "rhs"))
 leaf-Or scope a b path = search (rules, the_lemmas)
 
 leaf-Not :
-    (scope : Scope) (a : Box Condition Global) (path : List ℕ)
+    (scope : LeafNames) (a : Box Condition Global) (path : List ℕ)
     → leaf_faults scope (Not a) path ≡ leaf_faults scope a.value (at_key path (codes "not"))
 leaf-Not scope a path = search (rules, the_lemmas)
 
 leaf-Time :
-    (scope : Scope) (unit : List ℕ) (phase : Operand) (duration : ℤ) (path : List ℕ)
+    (scope : LeafNames) (unit : List ℕ) (phase : Operand) (duration : ℤ) (path : List ℕ)
     → leaf_faults scope (Time unit phase duration) path
     ≡ period_faults scope (at_key (at_key path (codes "time")) (codes "period")) unit
     ++ operand_faults scope (at_key (at_key path (codes "time")) (codes "phase")) phase
@@ -84,7 +84,7 @@ abbrev boxed : Box (Unit {0}) Global → Condition → Box Condition Global
 boxed place part = record { ptr = place.ptr; value = part; alloc = place.alloc }
 
 pub condition_known :
-    (scope : Scope) (condition : Condition) (path : List ℕ)
+    (scope : LeafNames) (condition : Condition) (path : List ℕ)
     → leaf_faults scope condition path ≡ []
     → knows scope condition ≡ true
 condition_known scope (Compare op a b) path none =

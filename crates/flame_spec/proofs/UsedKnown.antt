@@ -7,9 +7,9 @@ use Rattle.flame_spec.specs.declared.model.AgentType.{AgentType}
 use Rattle.flame_spec.specs.declared.model.Function.{Function}
 use Rattle.flame_spec.specs.declared.model.Input.{Input}
 use Rattle.flame_spec.specs.declared.model.Sort.{Sort}
-use Rattle.flame_spec.specs.KnownNames.{is_among, variable_names, Declared, declared_by}
+use Rattle.flame_spec.specs.KnownNames.{is_among, variable_names, DeclaredNames, declared_by}
 use Rattle.flame_spec.specs.Paths.{root, at_key, at_number}
-use Rattle.flame_spec.specs.Leaves.{Scope, condition_faults}
+use Rattle.flame_spec.specs.Leaves.{LeafNames, condition_faults}
 use Rattle.flame_spec.specs.UnitFaults.{units_faults}
 use Rattle.flame_spec.specs.MessageFaults.{constant_faults, messages_faults}
 use Rattle.flame_spec.specs.FunctionFaults.{condition_scope, sort_faults, input_faults, inputs_faults, outputs_faults, title_faults, function_faults}
@@ -55,7 +55,7 @@ agent_none :
 agent_none model i type none at = each_none _ 0 model.agents i type i (parts_none model none).agents at (omega arith)
 
 condition_there :
-    (scope : Scope) (path : List ℕ) (o : Option Condition)
+    (scope : LeafNames) (path : List ℕ) (o : Option Condition)
     → condition_faults scope path o ≡ []
     → (condition : Condition)
     → o ≡ Some condition
@@ -77,7 +77,7 @@ sort_there variables path (Some other) none sort at =
     sym (ap (λ s. is_among s.key variables) same) ∙ not_false _ (test_fails _ _ _ _ none)
 
 input_known :
-    (declared : Declared) (memory earlier : List (List ℕ)) (path : List ℕ) (input : Input)
+    (declared : DeclaredNames) (memory earlier : List (List ℕ)) (path : List ℕ) (input : Input)
     → input_faults declared memory earlier path input ≡ []
     → IsInputKnown declared memory input
 input_known declared memory earlier path input none =
@@ -91,13 +91,13 @@ input_known declared memory earlier path input none =
     }
 
 -- no part of the function has faults
-record HasNoneIn (declared : Declared) (memory : List (List ℕ)) (path : List ℕ) (function : Function) : Type 0 where
+record HasNoneIn (declared : DeclaredNames) (memory : List (List ℕ)) (path : List ℕ) (function : Function) : Type 0 where
   condition : condition_faults (condition_scope declared memory) (at_key path (codes "condition")) function.condition ≡ []
   inputs : inputs_faults declared memory (at_key path (codes "inputs")) function.inputs ≡ []
   outputs : outputs_faults declared (at_key path (codes "outputs")) function.outputs ≡ []
 
 function_none :
-    (declared : Declared) (memory : List (List ℕ)) (is_taken : List ℕ → Bool) (earlier : List Function) (path : List ℕ)
+    (declared : DeclaredNames) (memory : List (List ℕ)) (is_taken : List ℕ → Bool) (earlier : List Function) (path : List ℕ)
     (function : Function)
     → function_faults declared memory is_taken earlier path function ≡ []
     → HasNoneIn declared memory path function
@@ -128,7 +128,7 @@ function_none declared memory is_taken earlier path function none =
         (right-none (condition_faults (condition_scope declared memory) (at_key path (codes "condition")) function.condition) _ more)
 
 function_known :
-    (declared : Declared) (memory : List (List ℕ)) (path : List ℕ) (function : Function)
+    (declared : DeclaredNames) (memory : List (List ℕ)) (path : List ℕ) (function : Function)
     → HasNoneIn declared memory path function
     → IsFunctionKnown declared memory function
 function_known declared memory path function parts = record {

@@ -9,12 +9,12 @@ use Rattle.flame_spec.specs.States.{start_states}
 use Rattle.flame_spec.specs.ModelOrder.{left_over}
 use Rattle.flame_spec.specs.CheckFaults.{check_faults}
 
--- the type has one start state
+-- the type has one start state [own]
 abbrev pub has_one_start : AgentType → Bool
 has_one_start type = length (start_states type.functions) == 1
 
 -- a model and its function files are accepted where the model is well formed, its names have no fault, the function
--- files have no check fault, model order leaves no function over, and each agent type has one start state
+-- files have no check fault, model order leaves no function over, and each agent type has one start state [own]
 pub record IsAccepted (source : Source) : Type 0 where
   pub formed : IsTrue (is_well_formed source.model)
   pub named : name_faults source.model ≡ []

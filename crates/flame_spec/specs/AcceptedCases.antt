@@ -1,4 +1,4 @@
--- Sources that are accepted, and what well-formed models and start states are, worked by hand.
+-- Sources that are accepted, and what well-formed models and start states are, worked by hand. [own]
 use Rattle.std.specs.Prelude.{◌≡◌, List, [], ◌∷◌, map, codes, true, false, pos}
 use Rattle.flame_ops.specs.declared.integers.Op.TheVariants.{Add, Eq}
 use Rattle.flame_spec.specs.declared.condition.Condition.{Condition, Compare, Time}
@@ -43,7 +43,8 @@ FormedCase =
     (map is_name (codes "_a1" ∷ codes "Z" ∷ codes "" ∷ codes "1a" ∷ codes "a-b" ∷ [])
     ≡ true ∷ true ∷ false ∷ false ∷ false ∷ [])
     × (map is_positive_int (pos 0 ∷ pos 1 ∷ pos 2147483647 ∷ pos 2147483648 ∷ []) ≡ false ∷ true ∷ true ∷ false ∷ [])
-    × (map is_well_formed_phase (Number (pos 0) ∷ Agent (codes "x") ∷ Message (codes "x") ∷ []) ≡ true ∷ true ∷ false ∷ [])
+    × (map is_well_formed_phase (Number (pos 0) ∷ Agent (codes "x") ∷ Message (codes "x") ∷ [])
+    ≡ true ∷ true ∷ false ∷ [])
     × (map is_well_formed_condition some_conditions ≡ true ∷ false ∷ true ∷ false ∷ [])
     × (map is_well_formed_filter some_conditions ≡ true ∷ false ∷ false ∷ false ∷ [])
 

@@ -1,4 +1,4 @@
--- There is one way only for a source to be accepted, so that a type may keep the fact.
+-- There is one way only for a source to be accepted, so that a type may keep the fact. [own]
 use Rattle.std.specs.Coded.{Coded-set, coded_ℕ, coded_bool, coded_list, coded_option}
 use Rattle.flame_spec.specs.contracts.fault.NameFault as name_row
 use Rattle.flame_spec.specs.contracts.fault.CheckFault as check_row

@@ -6,12 +6,12 @@ use Rattle.flame_spec.specs.declared.tree.Unit as file
 use Rattle.flame_spec.specs.Trees.{Statements, no_more}
 use Rattle.flame_spec.specs.CheckFaults.{Definition, definitions, is_idle, is_for}
 
--- the body of a C function, where there is one
+-- the body of a C function, where there is one [FLAME User Manual]
 abbrev pub body_in : Option Definition → Statements
 body_in None = no_more
 body_in (Some d) = d.body
 
--- the body of a function: that of the C function of its name; `idle` has an empty one
+-- the body of a function: that of the C function of its name; `idle` has an empty one [FLAME User Manual]
 abbrev pub body_of : List file.Unit → Function → Statements
 body_of units function =
     if is_idle function then no_more else body_in (find (is_for function) (definitions units))

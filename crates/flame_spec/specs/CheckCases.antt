@@ -1,4 +1,4 @@
--- The check faults of some small function files, worked by hand. Each body is given line by line.
+-- The check faults of some small function files, worked by hand. Each body is given line by line. [own]
 use Rattle.std.specs.Prelude.{◌≡◌, ℕ, ◌+◌, pos, List, [], ◌∷◌, ◌++◌, codes, false, Option, Some, None, map}
 use Rattle.flame_ops.specs.declared.integers.Op.TheVariants.{Add, Sub, Lt}
 use Rattle.flame_spec.specs.declared.model.Model.{Model}
@@ -61,15 +61,19 @@ fly = function (codes "fly") (codes "s") (codes "t") (codes "location" ∷ []) (
 abbrev pub fly_again : Function
 fly_again = function (codes "fly") (codes "t") (codes "u") [] []
 
+-- a function without a body, which needs none
 abbrev pub rest : Function
 rest = function (codes "idle") (codes "u") (codes "v") [] []
 
+-- the one function of the eggs
 abbrev pub hatch : Function
 hatch = function (codes "hatch") (codes "s") (codes "t") [] []
 
+-- the type Bird, with a function of one name twice
 abbrev pub bird : AgentType
 bird = agent_type (codes "Bird") (codes "energy") (fly ∷ fly_again ∷ rest ∷ [])
 
+-- the type Egg
 abbrev pub egg : AgentType
 egg = agent_type (codes "Egg") (codes "warmth") (hatch ∷ [])
 

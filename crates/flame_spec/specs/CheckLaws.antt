@@ -1,4 +1,4 @@
--- What holds of check faults, and of function files without them.
+-- What holds of check faults, and of function files without them. [own]
 use Rattle.std.specs.Prelude.{◌≡◌, ◌≢◌, ℕ, ◌<◌, List, [], ◌∷◌, ◌++◌, length, codes, count_by, Contains, ◌⊎◌, Some, IsTrue, IsFalse}
 use Rattle.flame_spec.specs.declared.model.Model.{Model}
 use Rattle.flame_spec.specs.declared.model.Variable.{Variable}

@@ -9,13 +9,13 @@ use Rattle.flame_spec.specs.declared.model.AgentType.{AgentType}
 use Rattle.flame_spec.specs.Conditions.{condition_holds}
 use Rattle.flame_spec.specs.Functions.{Place, functions}
 
--- whether a condition lets an agent with this memory through; without a condition it does
+-- whether a condition lets an agent with this memory through; without a condition it does [FLAME User Manual]
 abbrev pub permits : AgentType → List TimeUnit → Option Condition → List ℤ → ℤ → Bool
 permits agent units None memory iteration = true
 permits agent units (Some condition) memory iteration = condition_holds agent units condition memory iteration
 
 -- whether an agent of this type that rests in the state may take the function: it leaves that state, and its condition
--- holds
+-- holds [FLAME User Manual]
 abbrev pub may_take : List TimeUnit → ℕ → List ℕ → List ℤ → ℤ → Place → Bool
 may_take units agent state memory iteration place =
     (place.agent == agent)
@@ -23,17 +23,18 @@ may_take units agent state memory iteration place =
     && permits place.type units place.function.condition memory iteration)
 
 -- the number of the function that an agent takes which rests in the state: the first in document order that it may
--- take; none where it may take none
+-- take; none where it may take none [FLAME User Manual; the first in document order: own]
 abbrev pub choice : Model → ℕ → List ℕ → List ℤ → ℤ → Option ℕ
 choice model agent state memory iteration =
     position (may_take model.units agent state memory iteration) (functions model)
 
--- whether the choice is this function
+-- whether the choice is this function [own]
 abbrev pub is_chosen : ℕ → Option ℕ → Bool
 is_chosen function None = false
 is_chosen function (Some chosen) = chosen == function
 
 -- the takers of a function: of the agents of this type that rest in the state, those whose choice it is
+-- [FLAME User Manual]
 abbrev pub takers : Model → ℕ → List ℕ → ℕ → ℤ → List (List ℤ) → List (List ℤ)
 takers model agent state function iteration resting =
     filter (λ memory. is_chosen function (choice model agent state memory iteration)) resting

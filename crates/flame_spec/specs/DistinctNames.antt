@@ -1,4 +1,4 @@
--- Lists of different names.
+-- Lists of different names. [own]
 use Rattle.std.specs.Prelude.{◌≢◌, ℕ, ◌<◌, List, [], length, slice_index_or}
 
 -- names at different places differ

@@ -8,30 +8,30 @@ use Rattle.flame_spec.specs.declared.model.Variable.{Variable}
 use Rattle.flame_spec.specs.declared.model.MessageType.{MessageType}
 use Rattle.flame_spec.specs.Capitals.{capitals}
 
--- it is one of these names
+-- it is one of these names [own]
 abbrev pub is_among : List ℕ → List (List ℕ) → Bool
 is_among name names = list_any (bytes_eq name) names
 
--- the names of variables
+-- the names of variables [XMML]
 abbrev pub variable_names : List Variable → List (List ℕ)
 variable_names variables = map (λ variable. variable.name) variables
 
--- the names of units, with `iteration` in front, which each model has
+-- the names of units, with `iteration` in front, which each model has [XMML]
 abbrev pub unit_names : List TimeUnit → List (List ℕ)
 unit_names units = codes "iteration" ∷ map (λ unit. unit.name) units
 
--- the names of messages
+-- the names of messages [XMML]
 abbrev pub message_names : List MessageType → List (List ℕ)
 message_names messages = map (λ message. message.name) messages
 
--- the names of the variables of the message of this name; none where there is no such message
+-- the names of the variables of the message of this name; none where there is no such message [XMML]
 abbrev pub names_in : List MessageType → List ℕ → List (List ℕ)
 names_in [] name = []
 names_in (message ∷ messages) name =
     if bytes_eq name message.name then variable_names message.variables else names_in messages name
 
--- the names that the agent types of a model find declared
-pub record Declared : Type 0 where
+-- the names that the agent types of a model find declared [own]
+pub record DeclaredNames : Type 0 where
   -- the constants, in capitals
   pub constants : List (List ℕ)
   -- `iteration` and the time units
@@ -41,8 +41,8 @@ pub record Declared : Type 0 where
   -- the variables of the message of a name
   pub variables : List ℕ → List (List ℕ)
 
--- the names that a model declares for its agent types
-abbrev pub declared_by : Model → Declared
+-- the names that a model declares for its agent types [own]
+abbrev pub declared_by : Model → DeclaredNames
 declared_by model = record {
   constants = map capitals model.constants;
   units = unit_names model.units;

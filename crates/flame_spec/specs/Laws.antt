@@ -1,4 +1,4 @@
--- What holds of function files.
+-- What holds of function files. [own]
 use Rattle.std.specs.Prelude.{◌≡◌, ◌↔◌, ℕ, List, Some}
 use Rattle.flame_spec.specs.declared.model.NarrowModel.{NarrowModel}
 use Rattle.flame_spec.specs.declared.source.Sum.{Sum}

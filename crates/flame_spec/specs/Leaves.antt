@@ -10,8 +10,8 @@ use Rattle.flame_spec.specs.KnownNames.{is_among}
 use Rattle.flame_spec.specs.Paths.{at_key}
 use Rattle.flame_spec.specs.Refusals.{fault_where}
 
--- the names that a condition can read
-pub record Scope : Type 0 where
+-- the names that a condition can read [own]
+pub record LeafNames : Type 0 where
   -- those of the agent's variables, which it writes with `a.`
   pub memory : List (List ℕ)
   -- those of the message's variables, which it writes with `m.`
@@ -19,26 +19,26 @@ pub record Scope : Type 0 where
   -- `iteration` and those of the time units
   pub units : List (List ℕ)
 
--- a variable that is read has to be one of the agent's, or of the message's
-abbrev pub operand_faults : Scope → List ℕ → Operand → List NameFault
+-- a variable that is read has to be one of the agent's, or of the message's [own]
+abbrev pub operand_faults : LeafNames → List ℕ → Operand → List NameFault
 operand_faults scope path (Number number) = []
 operand_faults scope path (Agent name) =
     fault_where (not (is_among name scope.memory)) UnknownVariable path (codes "a." ++ name)
 operand_faults scope path (Message name) =
     fault_where (not (is_among name scope.message)) UnknownVariable path (codes "m." ++ name)
 
--- a period has to be `iteration` or a time unit
-abbrev pub period_faults : Scope → List ℕ → List ℕ → List NameFault
+-- a period has to be `iteration` or a time unit [own]
+abbrev pub period_faults : LeafNames → List ℕ → List ℕ → List NameFault
 period_faults scope path name = fault_where (not (is_among name scope.units)) UnknownUnit path name
 
--- the names in a time condition at this path: its period, and then its phase
-abbrev pub time_faults : Scope → List ℕ → List ℕ → Operand → List NameFault
+-- the names in a time condition at this path: its period, and then its phase [own]
+abbrev pub time_faults : LeafNames → List ℕ → List ℕ → Operand → List NameFault
 time_faults scope path period phase =
     period_faults scope (at_key path (codes "period")) period
     ++ operand_faults scope (at_key path (codes "phase")) phase
 
--- the faults of a form, where the parts give theirs by their paths
-abbrev pub leaf_step : Scope → Condition-F (List ℕ → List NameFault) → List ℕ → List NameFault
+-- the faults of a form, where the parts give theirs by their paths [own]
+abbrev pub leaf_step : LeafNames → Condition-F (List ℕ → List NameFault) → List ℕ → List NameFault
 leaf_step scope (Condition-F.Compare op left right) path =
     operand_faults scope (at_key (at_key path (codes "lhs")) (codes "value")) left
     ++ operand_faults scope (at_key (at_key path (codes "rhs")) (codes "value")) right
@@ -50,11 +50,11 @@ leaf_step scope (Condition-F.Not part) path = part.value (at_key path (codes "no
 leaf_step scope (Condition-F.Time period phase duration) path =
     time_faults scope (at_key path (codes "time")) period phase
 
--- the faults of the names in the condition at this path, from left to right
-abbrev pub leaf_faults : Scope → Condition → List ℕ → List NameFault
+-- the faults of the names in the condition at this path, from left to right [own]
+abbrev pub leaf_faults : LeafNames → Condition → List ℕ → List NameFault
 leaf_faults scope = fold-Condition (List ℕ → List NameFault) (leaf_step scope)
 
--- the same, where there is a condition
-abbrev pub condition_faults : Scope → List ℕ → Option Condition → List NameFault
+-- the same, where there is a condition [own]
+abbrev pub condition_faults : LeafNames → List ℕ → Option Condition → List NameFault
 condition_faults scope path None = []
 condition_faults scope path (Some condition) = leaf_faults scope condition path

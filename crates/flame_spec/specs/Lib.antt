@@ -1,3 +1,10 @@
+-- The files stand in the order in which they are read. Each definition's comment ends with its source in brackets:
+-- FLAME User Manual: states, functions, messages, time, and the words by which functions read and write
+-- XMML: what a model file names, and what its parts are
+-- libmboard: boards, and filtered and sorted iterators over them
+-- C, with its section: the C standard
+-- JSON: the rendering of a file's value
+-- own: a choice of this project, or a word that a definition is made of
 pub mod Lists
 pub mod Names
 pub mod Columns

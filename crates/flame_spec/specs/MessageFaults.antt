@@ -10,33 +10,33 @@ use Rattle.flame_spec.specs.Capitals.{clashes}
 use Rattle.flame_spec.specs.Paths.{at_key, at_number}
 use Rattle.flame_spec.specs.Refusals.{fault_where}
 
--- no earlier one has this name, nor another name that is equal to it in capitals
+-- no earlier one has this name, nor another name that is equal to it in capitals [own]
 abbrev pub apart_faults : List (List ℕ) → List ℕ → List ℕ → List NameFault
 apart_faults earlier path name =
     fault_where (is_among name earlier) Duplicate path name ++ fault_where (clashes name earlier) Clash path name
 
--- the faults of the constants of the list at this path
+-- the faults of the constants of the list at this path [own]
 abbrev pub constant_faults : List ℕ → List (List ℕ) → List NameFault
 constant_faults path constants =
     each (λ i name. apart_faults (take i constants) (at_key (at_number path i) (codes "name")) name) constants
 
--- no earlier variable of the message has its name
+-- no earlier variable of the message has its name [own]
 abbrev pub variable_faults : List (List ℕ) → List ℕ → Variable → List NameFault
 variable_faults earlier path variable =
     fault_where (is_among variable.name earlier) Duplicate (at_key path (codes "name")) variable.name
 
--- the faults of the variables of the list at this path
+-- the faults of the variables of the list at this path [own]
 abbrev pub variables_faults : List ℕ → List Variable → List NameFault
 variables_faults path variables =
     each (λ i variable. variable_faults (variable_names (take i variables)) (at_number path i) variable) variables
 
--- the faults of a message at this path behind the earlier ones, and then of its variables
+-- the faults of a message at this path behind the earlier ones, and then of its variables [own]
 abbrev pub message_faults : List (List ℕ) → List ℕ → MessageType → List NameFault
 message_faults earlier path message =
     apart_faults earlier (at_key path (codes "name")) message.name
     ++ variables_faults (at_key path (codes "variables")) message.variables
 
--- the faults of the messages of the list at this path
+-- the faults of the messages of the list at this path [own]
 abbrev pub messages_faults : List ℕ → List MessageType → List NameFault
 messages_faults path messages =
     each (λ i message. message_faults (message_names (take i messages)) (at_number path i) message) messages

@@ -8,14 +8,14 @@ use Rattle.flame_spec.specs.Steps.{◌>>=◌, only_where}
 use Rattle.flame_spec.specs.Json.{is_sized, lone, sole_at, kept, text_at}
 use Rattle.flame_spec.specs.Names.{is_filled, is_name, is_function_name}
 
--- the name of a variable of type int
+-- the name of a variable of type int [own]
 abbrev pub variable_of : Data → Option (List ℕ)
 variable_of value = do
   _ ← only_where (is_sized 2 value)
   _ ← text_at (bytes_eq (codes "int")) (codes "type") value
   text_at is_name (codes "name") value
 
--- the name of a function between two different states
+-- the name of a function between two different states [own]
 abbrev pub function_of : Data → Option (List ℕ)
 function_of value = do
   _ ← only_where (is_sized 3 value)
@@ -24,7 +24,7 @@ function_of value = do
   _ ← only_where (not (bytes_eq current next))
   text_at is_function_name (codes "name") value
 
--- the model whose function file has this name and whose agent type this is
+-- the model whose function file has this name and whose agent type this is [own]
 abbrev pub agent_of : List ℕ → Data → Option NarrowModel
 agent_of file value = do
   _ ← only_where (is_sized 3 value)
@@ -35,7 +35,7 @@ agent_of file value = do
   function ← function_of transition
   Some (record { file = file; agent = agent; variable = variable; function = function })
 
--- the name of the one function file of an environment
+-- the name of the one function file of an environment [own]
 abbrev pub file_of : Data → Option (List ℕ)
 file_of value = do
   _ ← only_where (is_sized 1 value)
@@ -43,7 +43,7 @@ file_of value = do
   name ← as_str file
   kept is_filled name
 
--- what stands under `xmodel`
+-- what stands under `xmodel` [own]
 abbrev pub parts_of : Data → Option NarrowModel
 parts_of value = do
   _ ← only_where (is_sized 2 value)
@@ -52,7 +52,7 @@ parts_of value = do
   agent ← sole_at (codes "agents") value
   agent_of file agent
 
--- the model that a value is, where it is narrow
+-- the model that a value is, where it is narrow [own]
 abbrev pub model_of : Data → Option NarrowModel
 model_of value = do
   model ← lone (codes "xmodel") value

@@ -1,4 +1,4 @@
--- Small models with name faults, worked by hand.
+-- Small models with name faults, worked by hand. [own]
 use Rattle.std.specs.Prelude.{◌≡◌, ℕ, ℤ, pos, List, [], ◌∷◌, codes, None}
 use Rattle.flame_spec.specs.declared.model.Model.{Model}
 use Rattle.flame_spec.specs.declared.model.Variable.{Variable}
@@ -7,6 +7,7 @@ use Rattle.flame_spec.specs.declared.fault.NameKind.TheVariants.{Clash, UnknownU
 use Rattle.flame_spec.specs.Refusals.{name_fault}
 use Rattle.flame_spec.specs.NameFaults.{name_faults}
 
+-- a variable of one number
 abbrev pub variable : List ℕ → Variable
 variable name = record { name = name; length = None }
 
@@ -25,6 +26,7 @@ abbrev pub ConstantAndVariableClash : Type 0
 ConstantAndVariableClash =
     name_faults constant_and_variable ≡ name_fault Clash (codes "/xmodel/agents/0/memory/0/name") (codes "X") ∷ []
 
+-- a time unit: so many of another one
 abbrev pub unit : List ℕ → List ℕ → ℤ → TimeUnit
 unit name measure period = record { name = name; unit = measure; period = period }
 

@@ -1,4 +1,4 @@
--- What holds of models without name faults.
+-- What holds of models without name faults. [own]
 use Rattle.std.specs.Prelude.{◌≡◌, [], map, true, All, IsSomeAnd}
 use Rattle.std.specs.List.{list_all}
 use Rattle.flame_spec.specs.declared.model.Model.{Model}

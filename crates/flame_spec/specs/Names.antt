@@ -5,19 +5,19 @@ use Rattle.std.specs.Char.{is_ascii_digit}
 use Rattle.std.specs.Str.{bytes_eq}
 use Rattle.flame_ops.specs.Words.{keyword_spellings}
 
--- an ASCII letter or `_`
+-- an ASCII letter or `_` [C, 6.4.2.1]
 abbrev pub is_letter : ℕ → Bool
 is_letter b = (nat_le 65 b && nat_le b 90) || (nat_le 97 b && nat_le b 122) || (b == 95)
 
--- an ASCII letter, a digit or `_`
+-- an ASCII letter, a digit or `_` [C, 6.4.2.1]
 abbrev pub is_word_byte : ℕ → Bool
 is_word_byte b = is_letter b || is_ascii_digit b
 
--- at least one byte
+-- at least one byte [own]
 abbrev pub is_filled : List ℕ → Bool
 is_filled text = nat_lt 0 (length text)
 
--- 1 to 100 bytes, a letter or `_` first, then letters, digits and `_`
+-- 1 to 100 bytes, a letter or `_` first, then letters, digits and `_` [own]
 abbrev pub is_name : List ℕ → Bool
 is_name text =
     is_filled text
@@ -25,13 +25,13 @@ is_name text =
     && is_letter (slice_index text 0)
     && list_all is_word_byte text
 
--- a word that C or the message macros have for themselves
+-- a word that C or the message macros have for themselves [C, 6.4.1; FLAME User Manual]
 abbrev pub is_reserved : List ℕ → Bool
 is_reserved word =
     list_any (bytes_eq word) keyword_spellings
     || starts_with nat_eq word (codes "START_")
     || starts_with nat_eq word (codes "FINISH_")
 
--- a name that a transition function with a body may have
+-- a name that a transition function with a body may have [own]
 abbrev pub is_function_name : List ℕ → Bool
 is_function_name word = is_name word && not (bytes_eq word (codes "idle")) && not (is_reserved word)

@@ -1,4 +1,4 @@
--- Small models, worked by hand.
+-- Small models, worked by hand. [own]
 use Rattle.std.specs.Prelude.{◌≡◌, ℕ, List, [], ◌∷◌, false, codes, None}
 use Rattle.flame_spec.specs.declared.model.Model.{Model}
 use Rattle.flame_spec.specs.declared.model.AgentType.{AgentType}

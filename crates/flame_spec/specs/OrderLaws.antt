@@ -1,4 +1,4 @@
--- What holds of model order, cycles and layers: of any n functions and any `before`.
+-- What holds of model order, cycles and layers: of any n functions and any `before`. [own]
 use Rattle.std.specs.Prelude.{◌≡◌, ◌↔◌, ℕ, suc, ◌<◌, ◌≤◌, Bool, true, false, List, [], ◌∷◌, ◌++◌, Some, None, length, take, slice_index}
 use Rattle.flame_spec.specs.Below.{is_in, HasNoTwice}
 use Rattle.flame_spec.specs.ModelOrder.{next, order, first_left, step_back, cycle}

@@ -10,7 +10,7 @@ use Rattle.flame_spec.specs.Scopes.{over_none, Sight, in_scope, in_loop, in_valu
 use Rattle.flame_spec.specs.StatementFaults.{message_looped, opened}
 
 -- a part of a body: an expression, expressions, the operands of a chain, an assignment, items of a declaration, a
--- statement, statements, or tests with their bodies
+-- statement, statements, or tests with their bodies [own]
 pub data Part : Type 0 where
   value : Expression → Part
   values : Expressions → Part
@@ -21,7 +21,7 @@ pub data Part : Type 0 where
   sequence : Statements → Part
   tests : Arms → Part
 
--- the part stands in another part, or is it: it sees `there` where the other one sees `here`
+-- the part stands in another part, or is it: it sees `there` where the other one sees `here` [own]
 pub data StandsIn (model : Model) (inner : Part) (there : Sight) : Part → Sight → Type 0 where
   itself : StandsIn model inner there inner there
   -- expressions

@@ -3,7 +3,7 @@ use Rattle.std.specs.Prelude.{ℕ, ◌+◌, List, [], ◌∷◌, ◌++◌, ◌&&
 use Rattle.std.specs.Str.{bytes_eq}
 use Rattle.flame_spec.specs.Names.{is_word_byte}
 
--- a byte put before pieces: it joins the first of them where both are of letters, digits and `_`
+-- a byte put before pieces: it joins the first of them where both are of letters, digits and `_` [C, 6.4]
 abbrev pub joined : ℕ → List (List ℕ) → List (List ℕ)
 joined b [] = (b ∷ []) ∷ []
 joined b ([] ∷ pieces) = (b ∷ []) ∷ [] ∷ pieces
@@ -12,27 +12,30 @@ joined b ((c ∷ piece) ∷ pieces) =
     then (b ∷ c ∷ piece) ∷ pieces
     else (b ∷ []) ∷ (c ∷ piece) ∷ pieces
 
+-- the pieces of a text [C, 6.4]
 abbrev pub pieces_of : List ℕ → List (List ℕ)
 pieces_of [] = []
 pieces_of (b ∷ bytes) = joined b (pieces_of bytes)
 
--- texts laid end to end
+-- texts laid end to end [own]
 abbrev pub laid : List (List ℕ) → List ℕ
 laid [] = []
 laid (text ∷ texts) = text ++ laid texts
 
--- a piece and its line
+-- a piece and its line [own]
 pub record Token : Type 0 where
   pub text : List ℕ
   pub line : ℕ
 
+-- a blank piece [own]
 abbrev pub space : List ℕ
 space = 32 ∷ []
 
+-- a piece that ends a line [own]
 abbrev pub newline : List ℕ
 newline = 10 ∷ []
 
--- the pieces but the blanks, the first on this line
+-- the pieces but the blanks, the first on this line [own]
 abbrev pub tokens_from : ℕ → List (List ℕ) → List Token
 tokens_from line [] = []
 tokens_from line (piece ∷ pieces) =
@@ -40,6 +43,6 @@ tokens_from line (piece ∷ pieces) =
     else if bytes_eq piece newline then tokens_from (line + 1) pieces
     else record { text = piece; line = line } ∷ tokens_from line pieces
 
--- the tokens of a file, whose lines count from 1
+-- the tokens of a file, whose lines count from 1 [own]
 abbrev pub tokens_of : List ℕ → List Token
 tokens_of bytes = tokens_from 1 (pieces_of bytes)

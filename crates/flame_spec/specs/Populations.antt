@@ -10,11 +10,11 @@ use Rattle.flame_spec.specs.declared.population.Start.{Start}
 use Rattle.flame_spec.specs.Steps.{◌>>=◌, only_where}
 use Rattle.flame_spec.specs.Json.{is_sized, lone, items_list, text_at}
 
--- the last number that an iteration may have
+-- the last number that an iteration may have [own]
 abbrev pub last_iteration : ℕ
 last_iteration = 2147483647
 
--- a whole number of int
+-- a whole number of int [own]
 abbrev pub int_of : Data → Option ℤ
 int_of value = do
   number ← as_number value
@@ -22,7 +22,7 @@ int_of value = do
   _ ← only_where (is_int z)
   Some z
 
--- the memory of an agent of the model's type
+-- the memory of an agent of the model's type [own]
 abbrev pub memory_of : NarrowModel → Data → Option (List ℤ)
 memory_of model value = do
   _ ← only_where (is_sized 2 value)
@@ -32,6 +32,7 @@ memory_of model value = do
   x ← int_of entry
   Some (x ∷ [])
 
+-- the memories of agents of the model's type, in order [own]
 abbrev pub memories_of : NarrowModel → List Data → Option (List (List ℤ))
 memories_of model [] = Some []
 memories_of model (value ∷ others) = do
@@ -39,7 +40,7 @@ memories_of model (value ∷ others) = do
   memories ← memories_of model others
   Some (memory ∷ memories)
 
--- the number of an iteration after which so many more may follow
+-- the number of an iteration after which so many more may follow [own]
 abbrev pub itno_of : ℕ → Data → Option ℕ
 itno_of turns value = do
   number ← as_number value
@@ -47,7 +48,7 @@ itno_of turns value = do
   _ ← only_where (nat_le (itno + turns) last_iteration)
   Some itno
 
--- what stands under `states`
+-- what stands under `states` [FLAME User Manual]
 abbrev pub states_of : NarrowModel → ℕ → Data → Option Start
 states_of model turns value = do
   _ ← only_where (is_sized 2 value)
@@ -58,7 +59,7 @@ states_of model turns value = do
   memories ← memories_of model (items_list agents)
   Some (record { itno = itno; agents = ascending memories })
 
--- what a run of so many iterations begins with, where the value is narrow
+-- what a run of so many iterations begins with, where the value is narrow [own]
 abbrev pub start_of : NarrowModel → ℕ → Data → Option Start
 start_of model turns value = do
   states ← lone (codes "states") value

@@ -5,18 +5,18 @@ use Rattle.flame_spec.specs.declared.source.Sum.{Sum}
 use Rattle.flame_spec.specs.Meaning.{Faulted, iteration}
 use Rattle.flame_spec.specs.Texts.{file_name, file_text, line_text, fault_text}
 
--- the files to write with their names and the lines to print, each in order, the line for err, and the status
+-- the files to write with their names and the lines to print, each in order, the line for err, and the status [own]
 pub record Report : Type 0 where
   pub files : List (List ℕ × List ℕ)
   pub lines : List (List ℕ)
   pub error : List ℕ
   pub status : ℕ
 
--- a report of no files and no lines, with this line for err and this status
+-- a report of no files and no lines, with this line for err and this status [own]
 abbrev pub ended : List ℕ → ℕ → Report
 ended error status = record { files = []; lines = []; error = error; status = status }
 
--- a file and its line, and then what follows
+-- a file and its line, and then what follows [own]
 abbrev pub with_turn : List ℕ × List ℕ → List ℕ → Report → Report
 with_turn file line report = record {
   files = file ∷ report.files;
@@ -25,7 +25,7 @@ with_turn file line report = record {
   status = report.status;
 }
 
--- the file and line of an iteration that leaves these agents and what follows it, or the fault that ends the run
+-- the file and line of an iteration that leaves these agents and what follows it, or the fault that ends the run [own]
 abbrev pub after_turn :
     NarrowModel
     → List ℕ
@@ -37,7 +37,7 @@ after_turn model prefix itno (Err faulted) rest = ended (fault_text model itno f
 after_turn model prefix itno (Ok agents) rest =
     with_turn (file_name prefix itno, file_text model itno agents) (line_text itno agents) (rest agents)
 
--- so many iterations after the one with this number
+-- so many iterations after the one with this number [FLAME User Manual]
 abbrev pub run : NarrowModel → List Sum → List ℕ → ℕ → ℕ → List (List ℤ) → Report
 run model sums prefix zero itno agents = ended [] 0
 run model sums prefix (suc turns) itno agents =

@@ -11,20 +11,20 @@ use Rattle.flame_spec.specs.KnownNames.{is_among}
 use Rattle.flame_spec.specs.Capitals.{capitals}
 use Rattle.flame_spec.specs.Trees.{Declared, Statement, declare, Statements, no_more, also}
 
--- the function of the model that a body is checked for, and the number of the file that the body stands in
+-- the function of the model that a body is checked for, and the number of the file that the body stands in [own]
 pub record Site : Type 0 where
   pub model : Model
   pub type : AgentType
   pub function : Function
   pub file : ℕ
 
--- a loop: over the message of this name, or over none
+-- a loop: over the message of this name, or over none [FLAME User Manual]
 pub data Loop : Type 0 where
   over_message : List ℕ → Loop
   over_none : Loop
 
 -- what a place sees: the locals of its scope; those of each scope round it, from the inside; the name of the item in
--- whose value the place is; the loops in whose bodies it is, from the inside
+-- whose value the place is; the loops in whose bodies it is, from the inside [C, 6.2.1]
 pub record Sight : Type 0 where
   pub scope : List (List ℕ)
   pub outer : List (List (List ℕ))
@@ -33,87 +33,88 @@ pub record Sight : Type 0 where
 
 -- ---- where scopes and loops begin
 
--- what the first statement of a function's body sees: a scope without locals, and no loop
+-- what the first statement of a function's body sees: a scope without locals, and no loop [C, 6.2.1]
 abbrev pub at_entry : Sight
 at_entry = record { scope = []; outer = []; own = None; loops = [] }
 
--- what a place sees at the beginning of a scope: of a block, of the body of a branch, or of a `for`
+-- what a place sees at the beginning of a scope: of a block, of the body of a branch, or of a `for` [C, 6.8]
 abbrev pub in_scope : Sight → Sight
 in_scope sight = record sight { scope = []; outer = sight.scope ∷ sight.outer }
 
--- what a place sees at the beginning of the body of a loop, which is a scope
+-- what a place sees at the beginning of the body of a loop, which is a scope [C, 6.8.5]
 abbrev pub in_loop : Loop → Sight → Sight
 in_loop loop sight = record sight { scope = []; outer = sight.scope ∷ sight.outer; loops = loop ∷ sight.loops }
 
--- what the value of the item of this name sees
+-- what the value of the item of this name sees [own]
 abbrev pub in_value_of : List ℕ → Sight → Sight
 in_value_of name sight = record sight { own = Some name }
 
 -- ---- what is declared
 
--- once the scope declares this name too
+-- once the scope declares this name too [C, 6.2.1]
 abbrev pub after_name : Sight → List ℕ → Sight
 after_name sight name = record sight { scope = name ∷ sight.scope }
 
--- once the scope declares the names of these items too
+-- once the scope declares the names of these items too [C, 6.2.1]
 abbrev pub after_items : Sight → List Declared → Sight
 after_items sight [] = sight
 after_items sight (item ∷ items) = after_items (after_name sight item.name) items
 
 -- what is seen after a statement: its names where it is a declaration; those of a scope inside it end with that scope
+-- [C, 6.2.1]
 abbrev pub after : Sight → Statement → Sight
 after sight (declare items) = after_items sight items
 after sight _ = sight
 
--- what is seen after these statements
+-- what is seen after these statements [C, 6.2.1]
 abbrev pub after_all : Sight → Statements → Sight
 after_all sight no_more = sight
 after_all sight (also statement statements) = after_all (after sight statement) statements
 
 -- ---- names
 
--- the word is a memory variable of the function's type in capitals
+-- the word is a memory variable of the function's type in capitals [FLAME User Manual]
 abbrev pub is_memory : Site → List ℕ → Bool
 is_memory site word = list_any (λ variable. bytes_eq (capitals variable.name) word) site.type.memory
 
--- the word is a constant in capitals
+-- the word is a constant in capitals [FLAME User Manual]
 abbrev pub is_constant : Site → List ℕ → Bool
 is_constant site word = list_any (λ constant. bytes_eq (capitals constant) word) site.model.constants
 
--- the word is `iteration_loop`, which reads the number of the iteration
+-- the word is `iteration_loop`, which reads the number of the iteration [FLAME User Manual]
 abbrev pub is_iteration : List ℕ → Bool
 is_iteration word = bytes_eq (codes "iteration_loop") word
 
--- the model gives the word a meaning
+-- the model gives the word a meaning [FLAME User Manual]
 abbrev pub is_given : Site → List ℕ → Bool
 is_given site word = is_memory site word || is_constant site word || is_iteration word
 
--- the word is a local of the scope or of one round it
+-- the word is a local of the scope or of one round it [C, 6.2.1]
 abbrev pub is_local : Sight → List ℕ → Bool
 is_local sight word = is_among word sight.scope || list_any (is_among word) sight.outer
 
--- the name is there and is this word
+-- the name is there and is this word [own]
 abbrev pub is_name_of : Option (List ℕ) → List ℕ → Bool
 is_name_of None word = false
 is_name_of (Some name) word = bytes_eq name word
 
 -- the word stands for something there: the model gives it a meaning, or it is a local; in its own value an item's name
--- stands for nothing, not even for a local of that name in a scope round it
+-- stands for nothing, not even for a local of that name in a scope round it [C, 6.2.1; an item in its own value: own]
 abbrev pub is_visible : Site → Sight → List ℕ → Bool
 is_visible site sight word = not (is_name_of sight.own word) && (is_given site word || is_local sight word)
 
 -- ---- loops
 
--- the loop is over the message
+-- the loop is over the message [FLAME User Manual]
 abbrev pub is_over : MessageType → Loop → Bool
 is_over message (over_message name) = bytes_eq name message.name
 is_over message over_none = false
 
--- a loop over the message is open
+-- a loop over the message is open [FLAME User Manual]
 abbrev pub is_open_over : Sight → MessageType → Bool
 is_open_over sight message = list_any (is_over message) sight.loops
 
--- no loop is open
+-- no loop is open [C, 6.8.6]
 abbrev pub is_outside : List Loop → Bool
 is_outside [] = true
 is_outside (loop ∷ loops) = false

@@ -13,20 +13,23 @@ use Rattle.flame_spec.specs.Trees.{Expression, number, name, field, get, signed,
 use Rattle.flame_spec.specs.Trees.{Declared, Assigned, Statement, empty, declare, assign, call, block, branch, while, for, do_while, loop_over, return, break, continue}
 use Rattle.flame_spec.specs.Trees.{Statements, no_more, also, Arms, no_arms, arm}
 
--- an operator with its line and the operand after it
+-- an operator with its line and the operand after it [own]
 pub record Joined : Type 0 where
   pub op : Op
   pub line : ℕ
   pub right : Expression
 
+-- expressions, one after another [own]
 abbrev pub expressions_of : List Expression → Expressions
 expressions_of [] = no_parts
 expressions_of (e ∷ es) = part e (expressions_of es)
 
+-- operators with their operands, one after another [own]
 abbrev pub links_of : List Joined → Links
 links_of [] = no_links
 links_of (l ∷ ls) = link l.op l.line l.right (links_of ls)
 
+-- a form of expressions, whose parts are seen already [own]
 abbrev pub expression_step : Expr-F Expression Joined → Expression
 expression_step (Expr-F.Number n) = number n
 expression_step (Expr-F.Name line word) = name line word
@@ -37,52 +40,56 @@ expression_step (Expr-F.Chain e more) = chain e.value (links_of more)
 expression_step (Expr-F.All parts) = all_of (expressions_of parts)
 expression_step (Expr-F.Any parts) = any_of (expressions_of parts)
 
+-- a link, whose operand is seen already [own]
 abbrev pub joined_step : Link-F Expression Joined → Joined
 joined_step l = record { op = l.op; line = l.line; right = l.right }
 
--- an expression
+-- an expression [own]
 abbrev pub expression : Expr → Expression
 expression = fold-Expr Expression Joined expression_step joined_step
 
--- expressions in order
+-- expressions in order [own]
 abbrev pub expressions : List Expr → Expressions
 expressions es = expressions_of (map expression es)
 
--- an operator with its line and the operand after it
+-- an operator with its line and the operand after it [own]
 abbrev pub joined : Link → Joined
 joined l = record { op = l.op; line = l.line; right = expression l.right }
 
--- operators with their operands, in order
+-- operators with their operands, in order [own]
 abbrev pub links : List Link → Links
 links ls = links_of (map joined ls)
 
--- a local that a declaration declares
+-- a local that a declaration declares [own]
 abbrev pub declared : Item → Declared
 declared item = record { line = item.line; name = item.name; value = option_map expression item.value }
 
--- an assignment
+-- an assignment [own]
 abbrev pub assigned : Assign → Assigned
 assigned a = record { line = a.line; name = a.name; op = a.op; op_line = a.op_line; value = expression a.value }
 
--- a test and its body
+-- a test and its body [own]
 pub record Tested : Type 0 where
   pub test : Expression
   pub body : Statements
 
--- the head of a `for`
+-- the head of a `for` [own]
 pub record Headed : Type 0 where
   pub first : Statements
   pub test : Option Expression
   pub step : Option Assigned
 
+-- statements, one after another [own]
 abbrev pub statements_of : List Statement → Statements
 statements_of [] = no_more
 statements_of (s ∷ ss) = also s (statements_of ss)
 
+-- tests with their bodies, one after another [own]
 abbrev pub arms_of : List Tested → Arms
 arms_of [] = no_arms
 arms_of (a ∷ more) = arm a.test a.body (arms_of more)
 
+-- a form of statements, whose parts are seen already [own]
 abbrev pub statement_step : Stmt-F Statement Tested Headed → Statement
 statement_step Stmt-F.Empty = empty
 statement_step (Stmt-F.Declare items) = declare (map declared items)
@@ -91,16 +98,20 @@ statement_step (Stmt-F.Call line word arguments) = call line word (expressions a
 statement_step (Stmt-F.Block body) = block (statements_of body)
 statement_step (Stmt-F.If tests otherwise) = branch (arms_of tests) (statements_of otherwise)
 statement_step (Stmt-F.While line test body) = while line (expression test) (statements_of body)
-statement_step (Stmt-F.For line head body) = for line head.value.first head.value.test head.value.step (statements_of body)
+statement_step (Stmt-F.For line head body) =
+    for line head.value.first head.value.test head.value.step (statements_of body)
 statement_step (Stmt-F.Do line body test) = do_while line (statements_of body) (expression test)
-statement_step (Stmt-F.Loop line word body end_line end_word) = loop_over line word (statements_of body) end_line end_word
+statement_step (Stmt-F.Loop line word body end_line end_word) =
+    loop_over line word (statements_of body) end_line end_word
 statement_step (Stmt-F.Return e) = return (expression e)
 statement_step (Stmt-F.Break line) = break line
 statement_step (Stmt-F.Continue line) = continue line
 
+-- a test and its body, seen already [own]
 abbrev pub arm_step : Arm-F Statement Tested Headed → Tested
 arm_step a = record { test = expression a.test; body = statements_of a.body }
 
+-- the head of a `for`, whose parts are seen already [own]
 abbrev pub head_step : Head-F Statement Tested Headed → Headed
 head_step h = record {
   first = statements_of h.first;
@@ -108,18 +119,18 @@ head_step h = record {
   step = option_map assigned h.step;
 }
 
--- a statement
+-- a statement [own]
 abbrev pub statement : Stmt → Statement
 statement = fold-Stmt Statement Tested Headed statement_step arm_step head_step
 
--- statements in order
+-- statements in order [own]
 abbrev pub statements : List Stmt → Statements
 statements ss = statements_of (map statement ss)
 
--- a test and its body
+-- a test and its body [own]
 abbrev pub tested : Arm → Tested
 tested a = record { test = expression a.test; body = statements a.body }
 
--- tests with their bodies, in order
+-- tests with their bodies, in order [own]
 abbrev pub arms : List Arm → Arms
 arms more = arms_of (map tested more)

@@ -5,42 +5,41 @@ use Rattle.std.specs.Str.{bytes_eq}
 use Rattle.flame_spec.specs.declared.model.Model.{Model}
 use Rattle.flame_spec.specs.declared.model.AgentType.{AgentType}
 use Rattle.flame_spec.specs.declared.model.Function.{Function}
+use Rattle.flame_spec.specs.KnownNames.{is_among}
 
--- the text is among these
-abbrev pub is_among : List (List ℕ) → List ℕ → Bool
-is_among texts text = list_any (bytes_eq text) texts
-
--- these texts without the earlier ones, each once
+-- these texts without the earlier ones, each once [own]
 abbrev pub distinct_after : List (List ℕ) → List (List ℕ) → List (List ℕ)
 distinct_after earlier [] = []
 distinct_after earlier (text ∷ texts) =
-    if is_among earlier text
+    if is_among text earlier
     then distinct_after earlier texts
     else text ∷ distinct_after (earlier ++ text ∷ []) texts
 
--- these texts, each once, where it first stands
+-- these texts, each once, where it first stands [own]
 abbrev pub distinct : List (List ℕ) → List (List ℕ)
 distinct texts = distinct_after [] texts
 
--- what each function leaves and what it enters, function by function
+-- what each function leaves and what it enters, function by function [XMML]
 abbrev pub ends : List Function → List (List ℕ)
 ends [] = []
 ends (function ∷ functions) = function.current ∷ function.next ∷ ends functions
 
 -- the states of a type with these functions; without functions it has the one state `start`
+-- [FLAME User Manual; without functions: own]
 abbrev pub states : List Function → List (List ℕ)
 states [] = codes "start" ∷ []
 states (function ∷ functions) = distinct (ends (function ∷ functions))
 
--- one of the functions enters the state
+-- one of the functions enters the state [FLAME User Manual]
 abbrev pub is_entered : List Function → List ℕ → Bool
 is_entered functions state = list_any (λ function. bytes_eq function.next state) functions
 
--- the start states: those that no function enters, in the order of their first function
+-- the start states: those that no function enters, in the order of their first function [FLAME User Manual]
 abbrev pub start_states : List Function → List (List ℕ)
 start_states functions = filter (λ state. not (is_entered functions state)) (states functions)
 
 -- the first of these types that has two start states or more, where they are numbered from i, with its start states
+-- [own]
 abbrev pub many_from : ℕ → List AgentType → Option (ℕ × List (List ℕ))
 many_from i [] = None
 many_from i (type ∷ types) =
@@ -48,6 +47,6 @@ many_from i (type ∷ types) =
     then Some (i, start_states type.functions)
     else many_from (i + 1) types
 
--- the first type of the model that has two start states or more, with these
+-- the first type of the model that has two start states or more, with these [own]
 abbrev pub many_starts : Model → Option (ℕ × List (List ℕ))
 many_starts model = many_from 0 model.agents

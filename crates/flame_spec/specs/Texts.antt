@@ -7,7 +7,7 @@ use Rattle.flame_spec.specs.declared.model.NarrowModel.{NarrowModel}
 use Rattle.flame_spec.specs.Pieces.{laid}
 use Rattle.flame_spec.specs.Meaning.{Faulted, held}
 
--- an agent's memory in an iteration file
+-- an agent's memory in an iteration file [own]
 abbrev pub agent_text : NarrowModel → List ℤ → List ℕ
 agent_text model memory =
     laid (
@@ -21,16 +21,17 @@ agent_text model memory =
     ∷ []
     )
 
--- the agents after the first, each after a comma
+-- the agents after the first, each after a comma [own]
 abbrev pub more_agents : NarrowModel → List (List ℤ) → List ℕ
 more_agents model [] = []
 more_agents model (memory ∷ memories) = codes "," ++ agent_text model memory ++ more_agents model memories
 
+-- the agents, with commas between them [own]
 abbrev pub agents_text : NarrowModel → List (List ℤ) → List ℕ
 agents_text model [] = []
 agents_text model (memory ∷ memories) = agent_text model memory ++ more_agents model memories
 
--- the file of an iteration
+-- the file of an iteration [JSON]
 abbrev pub file_text : NarrowModel → ℕ → List (List ℤ) → List ℕ
 file_text model itno agents =
     laid (
@@ -42,11 +43,11 @@ file_text model itno agents =
     ∷ []
     )
 
--- the name of that file
+-- the name of that file [FLAME User Manual]
 abbrev pub file_name : List ℕ → ℕ → List ℕ
 file_name prefix itno = laid (prefix ∷ decimal itno ∷ codes ".json" ∷ [])
 
--- the line that is printed after it; a narrow model has no messages
+-- the line that is printed after it; a narrow model has no messages [own]
 abbrev pub line_text : ℕ → List (List ℤ) → List ℕ
 line_text itno agents =
     laid (
@@ -58,12 +59,13 @@ line_text itno agents =
     ∷ []
     )
 
+-- the name of the cause [own]
 abbrev pub cause_text : Cause → List ℕ
 cause_text Overflow = codes "Overflow"
 cause_text DivideByZero = codes "DivideByZero"
 cause_text Fuel = codes "Fuel"
 
--- why the agent with this memory faulted
+-- why the agent with this memory faulted [own]
 abbrev pub reason_text : NarrowModel → Faulted → List ℕ
 reason_text model faulted =
     laid (
@@ -78,7 +80,7 @@ reason_text model faulted =
     ∷ []
     )
 
--- the line for an iteration that faulted
+-- the line for an iteration that faulted [own]
 abbrev pub fault_text : NarrowModel → ℕ → Faulted → List ℕ
 fault_text model itno faulted =
     laid (

@@ -1,10 +1,10 @@
--- The trees of function files, as definitions go through them: the same forms as in the data, with plain lists of their own.
+-- The trees of function files, as definitions go through them: the same forms as in the data, with plain lists.
 use Rattle.std.specs.Prelude.{ℕ, ℤ, List, Option}
 use Rattle.flame_ops.specs.declared.integers.Op.{Op}
 use Rattle.flame_spec.specs.declared.tree.Sign.{Sign}
 
 mutual
-  -- an expression; a number before a name is the line of its word
+  -- an expression; a number before a name is the line of its word [C, 6.5; `get` and `field`: FLAME User Manual]
   pub data Expression : Type 0 where
     number : ℤ → Expression
     name : ℕ → List ℕ → Expression
@@ -15,23 +15,23 @@ mutual
     all_of : Expressions → Expression
     any_of : Expressions → Expression
 
-  -- expressions in order
+  -- expressions in order [C, 6.5]
   pub data Expressions : Type 0 where
     no_parts : Expressions
     part : Expression → Expressions → Expressions
 
-  -- operators with their lines, each with the operand after it, in order
+  -- operators with their lines, each with the operand after it, in order [C, 6.5]
   pub data Links : Type 0 where
     no_links : Links
     link : Op → ℕ → Expression → Links → Links
 
--- a local that a declaration declares
+-- a local that a declaration declares [C, 6.7]
 pub record Declared : Type 0 where
   pub line : ℕ
   pub name : List ℕ
   pub value : Option Expression
 
--- an assignment
+-- an assignment [C, 6.5.16]
 pub record Assigned : Type 0 where
   pub line : ℕ
   pub name : List ℕ
@@ -40,7 +40,7 @@ pub record Assigned : Type 0 where
   pub value : Expression
 
 mutual
-  -- a statement; a number before it is the line of its word or keyword
+  -- a statement; a number before it is the line of its word or keyword [C, 6.8; `loop_over`: FLAME User Manual]
   pub data Statement : Type 0 where
     empty : Statement
     declare : List Declared → Statement
@@ -56,12 +56,12 @@ mutual
     break : ℕ → Statement
     continue : ℕ → Statement
 
-  -- statements in order
+  -- statements in order [C, 6.8.2]
   pub data Statements : Type 0 where
     no_more : Statements
     also : Statement → Statements → Statements
 
-  -- tests with their bodies, in order
+  -- tests with their bodies, in order [C, 6.8.4]
   pub data Arms : Type 0 where
     no_arms : Arms
     arm : Expression → Statements → Arms → Arms

@@ -1,4 +1,4 @@
--- Conditions, choices and views of some small models, worked by hand.
+-- Conditions, choices and views of some small models, worked by hand. [own]
 use Rattle.std.specs.Prelude.{◌≡◌, ℕ, ℤ, pos, List, [], ◌∷◌, codes, Bool, true, false, Option, Some, None, map}
 use Rattle.flame_ops.specs.declared.integers.Op.TheVariants.{Eq, Ge}
 use Rattle.flame_spec.specs.declared.condition.Condition.{Condition}
@@ -36,9 +36,11 @@ pair a b = pos a ∷ pos b ∷ []
 
 -- ---- a sort by k, the greatest first: equal numbers there by content
 
+-- rows that have equal numbers in their first column
 abbrev pub sorted_board : List (List ℤ)
 sorted_board = pair 1 1 ∷ pair 1 9 ∷ pair 2 3 ∷ pair 2 5 ∷ []
 
+-- the greatest key comes first, and equal keys go by content ascending
 abbrev pub SortedByKey : Type 0
 SortedByKey =
     view_of (agent_type (codes "d" ∷ []) []) (message_type (codes "k" ∷ codes "v" ∷ []))
@@ -47,6 +49,7 @@ SortedByKey =
 
 -- ---- a filter `m.v = a.x`: equal messages pass as often as they stand
 
+-- two equal messages pass, and the third does not
 abbrev pub FilteredByMemory : Type 0
 FilteredByMemory =
     view_of (agent_type (codes "x" ∷ codes "n" ∷ []) []) (message_type (codes "v" ∷ []))
@@ -56,12 +59,14 @@ FilteredByMemory =
 
 -- ---- a week of 7 iterations, phase 2, duration 2: of the iterations 1 to 9 it holds in 2, 3 and 9
 
+-- whether the condition holds in an iteration
 abbrev pub holds_in_week : ℕ → Bool
 holds_in_week iteration =
     condition_holds (agent_type (codes "x" ∷ []) [])
     (record { name = codes "week"; unit = codes "iteration"; period = pos 7 } ∷ [])
     (Time (codes "week") (Number (pos 2)) (pos 2)) (pos 0 ∷ []) (pos iteration)
 
+-- it holds in 2, 3 and 9
 abbrev pub HoldsInWeek : Type 0
 HoldsInWeek =
     map holds_in_week (1 ∷ 2 ∷ 3 ∷ 4 ∷ 5 ∷ 6 ∷ 7 ∷ 8 ∷ 9 ∷ [])
@@ -83,6 +88,7 @@ choice_at functions x = choice (model_of functions) 0 (codes "s") (pos x ∷ [])
 abbrev pub x_at_least_0 : Condition
 x_at_least_0 = Compare Ge (Agent (codes "x")) (Number (pos 0))
 
+-- `a.x = 9`
 abbrev pub x_is_9 : Condition
 x_is_9 = Compare Eq (Agent (codes "x")) (Number (pos 9))
 

@@ -18,15 +18,15 @@ use Rattle.flame_spec.specs.declared.model.Input.{Input}
 use Rattle.flame_spec.specs.declared.model.Sort.{Sort}
 use Rattle.flame_spec.specs.Names.{is_filled, is_name}
 
--- a number in the range of int: -2147483648 to 2147483647
+-- a number in the range of int: -2147483648 to 2147483647 [C, 6.2.5, of 32 bits]
 abbrev pub is_int : ℤ → Bool
 is_int number = int_le (negsuc 2147483647) number && int_le number (pos 2147483647)
 
--- a number from 1 to 2147483647
+-- a number from 1 to 2147483647 [own]
 abbrev pub is_positive_int : ℤ → Bool
 is_positive_int number = int_le (pos 1) number && int_le number (pos 2147483647)
 
--- an operator that compares
+-- an operator that compares [XMML]
 abbrev pub is_comparison : Op → Bool
 is_comparison Eq = true
 is_comparison Ne = true
@@ -36,19 +36,19 @@ is_comparison Le = true
 is_comparison Ge = true
 is_comparison _ = false
 
--- a number in the range of int, or a variable by its name
+-- a number in the range of int, or a variable by its name [XMML]
 abbrev pub is_well_formed_operand : Operand → Bool
 is_well_formed_operand (Number number) = is_int number
 is_well_formed_operand (Agent name) = is_name name
 is_well_formed_operand (Message name) = is_name name
 
--- a number in the range of int, or a variable of the agent
+-- a number in the range of int, or a variable of the agent [XMML]
 abbrev pub is_well_formed_phase : Operand → Bool
 is_well_formed_phase (Number number) = is_int number
 is_well_formed_phase (Agent name) = is_name name
 is_well_formed_phase (Message name) = false
 
--- a form of a condition whose parts are well formed; `timed` tells whether a time condition may stand there
+-- a form of a condition whose parts are well formed; `timed` tells whether a time condition may stand there [XMML]
 abbrev pub well_formed_step : Bool → Condition-F Bool → Bool
 well_formed_step timed (Condition-F.Compare op left right) =
     is_comparison op && (is_well_formed_operand left && is_well_formed_operand right)
@@ -58,38 +58,38 @@ well_formed_step timed (Condition-F.Not part) = part.value
 well_formed_step timed (Condition-F.Time period phase duration) =
     timed && (is_name period && (is_well_formed_phase phase && is_positive_int duration))
 
--- a condition
+-- a condition [XMML]
 abbrev pub is_well_formed_condition : Condition → Bool
 is_well_formed_condition = fold-Condition Bool (well_formed_step true)
 
--- a filter: a condition without a time condition
+-- a filter: a condition without a time condition [XMML]
 abbrev pub is_well_formed_filter : Condition → Bool
 is_well_formed_filter = fold-Condition Bool (well_formed_step false)
 
--- a time unit
+-- a time unit [XMML]
 abbrev pub is_well_formed_unit : TimeUnit → Bool
 is_well_formed_unit unit = is_name unit.name && (is_name unit.unit && is_positive_int unit.period)
 
--- a variable: it is no array
+-- a variable: it is no array [XMML]
 abbrev pub is_well_formed_variable : Variable → Bool
 is_well_formed_variable variable = is_name variable.name && is_none variable.length
 
--- a message type
+-- a message type [XMML]
 abbrev pub is_well_formed_message : MessageType → Bool
 is_well_formed_message message = is_name message.name && list_all is_well_formed_variable message.variables
 
--- a sort of an input
+-- a sort of an input [XMML]
 abbrev pub is_well_formed_sort : Sort → Bool
 is_well_formed_sort sort = is_name sort.key
 
--- an input of a function
+-- an input of a function [XMML]
 abbrev pub is_well_formed_input : Input → Bool
 is_well_formed_input input =
     is_name input.message
     && (option_map_or is_well_formed_filter input.filter true
     && option_map_or is_well_formed_sort input.sort true)
 
--- a function
+-- a function [XMML]
 abbrev pub is_well_formed_function : Function → Bool
 is_well_formed_function function =
     is_name function.name
@@ -99,14 +99,14 @@ is_well_formed_function function =
     && (list_all is_well_formed_input function.inputs
     && list_all is_name function.outputs))))
 
--- an agent type
+-- an agent type [XMML]
 abbrev pub is_well_formed_agent : AgentType → Bool
 is_well_formed_agent agent =
     is_name agent.name
     && (list_all is_well_formed_variable agent.memory
     && list_all is_well_formed_function agent.functions)
 
--- a model
+-- a model [XMML]
 abbrev pub is_well_formed : Model → Bool
 is_well_formed model =
     list_all is_name model.constants

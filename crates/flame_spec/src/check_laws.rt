@@ -32,15 +32,15 @@ pub fn names()
     ensures declared { NamesDeclaredAreNew }
 {}
 
-/// Where function files have no check faults, each call of a function of the model gets or sets a memory variable, sends
-/// an output or bears an agent, with as many arguments as there are values to store.
+/// Where function files have no check faults, each call of a function of the model gets or sets a memory variable,
+/// sends an output or bears an agent, with as many arguments as there are values to store.
 pub fn calls()
     ensures getters { GettersGet }
     ensures forms { CallsAreForms }
 {}
 
-/// Where function files have no check faults, each message loop of a function of the model is over one of its inputs, and
-/// in no other loop over that message; each `word->variable` stands in a loop over its message; each `break` and each
+/// Where function files have no check faults, each message loop of a function of the model is over one of its inputs,
+/// and in no other loop over that message; each `word->variable` stands in a loop over its message; each `break` and each
 /// `continue` stands in a loop.
 pub fn loops()
     ensures inputs { LoopsAreOverInputs }

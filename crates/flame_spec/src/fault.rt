@@ -27,8 +27,8 @@ pub struct NameFault {
 /// What is wrong with a name of a model.
 #[derive(Clone, Copy, Debug, PartialEq, Eq)]
 pub enum NameKind {
-    /// An earlier one of its kind has this name; of a unit also `iteration`, of a function one with the same states too,
-    /// of an input or an output one of the same message.
+    /// An earlier one of its kind has this name; of a unit also `iteration`, of a function one with the same states
+    /// too, of an input or an output one of the same message.
     Duplicate,
     /// In capitals, as function files write it, it is equal to an earlier name: a constant's, a message's or a memory
     /// variable's among its like, or of a memory variable a constant's.
@@ -73,7 +73,8 @@ pub enum CheckKind {
     Redeclared,
     /// No form of a call has this word.
     UnknownCall,
-    /// The call has another number of arguments than it wants: one to set a variable, else one for each declared variable.
+    /// The call has another number of arguments than it wants: one to set a variable, else one for each declared
+    /// variable.
     WrongCount,
     /// The function does not output this message.
     NotOutput,
