@@ -8,4 +8,5 @@ lifted to test height = if test then max height to else height
 -- 0, or 1 more than the greatest height of those functions in the list that stand before g
 abbrev pub reached : (ℕ → ℕ → Bool) → (ℕ → ℕ) → List ℕ → ℕ → ℕ
 reached before height [] g = 0
-reached before height (f ∷ functions) g = max (if before f g then height f + 1 else 0) (reached before height functions g)
+reached before height (f ∷ functions) g =
+    max (if before f g then height f + 1 else 0) (reached before height functions g)

@@ -27,7 +27,10 @@ pub fn first_waiting(waiting: &[usize]) -> Option<u32>
 /// Points each of the targets that points nowhere yet to the function.
 fn point(targets: &[u32], function: u32, backs: &mut [Option<u32>])
     requires { All (λ g. g < length backs.old) targets.now }
-    ensures { (g : ℕ) → g < length backs.old → slice_index_or backs.new g None ≡ pointed function (is_in g targets.now) (slice_index_or backs.old g None) }
+    ensures { (g : ℕ)
+        → g < length backs.old
+        → slice_index_or backs.new g None
+        ≡ pointed function (is_in g targets.now) (slice_index_or backs.old g None) }
 {
     for target in targets {
         backs[*target as usize] = backs[*target as usize].or(Some(function));
@@ -43,7 +46,8 @@ fn point_back(
     requires few { length lists.now < 2 ^ 32 }
     requires ascending { AreAscending lists.now }
     requires same { length waiting.now ≡ length lists.now }
-    ensures { IfOk result (λ backs. ArePointing (length lists.now) (length lists.now) (follows lists.now) waiting.now backs.items) }
+    ensures { IfOk result (λ backs.
+        ArePointing (length lists.now) (length lists.now) (follows lists.now) waiting.now backs.items) }
 {
     let mut backs: Vec<Option<u32>> = vec![in alloc; None; lists.len()]?;
     for (f, open) in waiting.iter().enumerate() {

@@ -31,7 +31,8 @@ fn push_edges(before: u32, targets: &[u32], edges: &mut Vec<Edge>) -> Result<(),
 fn flatten(alloc: Global, lists: &[Targets]) -> Result<Vec<Edge>, NoMemory>
     requires few { length lists.now < 2 ^ 32 }
     requires ascending { AreAscending lists.now }
-    ensures { IfOk result (λ edges. edges.items ≡ edges_below (length lists.now) (length lists.now) (follows lists.now)) }
+    ensures { IfOk result (λ edges.
+        edges.items ≡ edges_below (length lists.now) (length lists.now) (follows lists.now)) }
 {
     let mut edges: Vec<Edge> = Vec::new(alloc);
     for (i, list) in lists.iter().enumerate() {

@@ -15,7 +15,9 @@ use std::alloc::Global;
 /// Lifts each of the targets to this height, unless it is as high already.
 fn lift(targets: &[u32], height: u32, heights: &mut [u32])
     requires { All (λ g. g < length heights.old) targets.now }
-    ensures { (g : ℕ) → g < length heights.old → slice_index heights.new g ≡ lifted height (is_in g targets.now) (slice_index heights.old g) }
+    ensures { (g : ℕ)
+        → g < length heights.old
+        → slice_index heights.new g ≡ lifted height (is_in g targets.now) (slice_index heights.old g) }
 {
     for target in targets {
         heights[*target as usize] = heights[*target as usize].max(height);

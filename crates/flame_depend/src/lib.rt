@@ -1,4 +1,5 @@
-//! The order in which the functions of a model run: what stands before what, the order, layers, cycles and start states.
+//! The order in which the functions of a model run: what stands before what, the order, layers, cycles and start
+//! states.
 #![tactic(auto)]
 
 pub mod counted;

@@ -135,7 +135,8 @@ pub fn successors(
 ) -> Result<Vec<Targets>, NoMemory>
     requires few { length places.now < 2 ^ 32 }
     requires within { AreOfTypes types (map shown places.now) }
-    ensures { IfOk result (λ lists. AreSuccessors (length places.now) (before_among (map shown places.now)) lists.items) }
+    ensures { IfOk result (λ lists.
+        AreSuccessors (length places.now) (before_among (map shown places.now)) lists.items) }
 {
     let entering = entering(alloc, types, places)?;
     let adding = adding(alloc, places)?;

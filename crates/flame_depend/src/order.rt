@@ -15,7 +15,9 @@ use std::alloc::Global;
 fn raise(targets: &[u32], waiting: &mut [usize])
     requires within { All (λ g. g < length waiting.old) targets.now }
     requires small { (g : ℕ) → g < length waiting.old → slice_index waiting.old g < 2 ^ 63 }
-    ensures { (g : ℕ) → g < length waiting.old → slice_index waiting.new g ≡ slice_index waiting.old g + times g targets.now }
+    ensures { (g : ℕ)
+        → g < length waiting.old
+        → slice_index waiting.new g ≡ slice_index waiting.old g + times g targets.now }
 {
     for target in targets {
         waiting[*target as usize] += 1;
@@ -25,7 +27,8 @@ fn raise(targets: &[u32], waiting: &mut [usize])
 /// For each function how many functions stand before it.
 fn count_predecessors(alloc: Global, lists: &[Targets]) -> Result<Vec<usize>, NoMemory>
     requires { AreAscending lists.now }
-    ensures { IfOk result (λ waiting. AreWaiting (length lists.now) (length lists.now) (follows lists.now) [] waiting.items) }
+    ensures { IfOk result (λ waiting.
+        AreWaiting (length lists.now) (length lists.now) (follows lists.now) [] waiting.items) }
 {
     let mut waiting: Vec<usize> = vec![in alloc; 0usize; lists.len()]?;
     for list in lists {
@@ -37,7 +40,10 @@ fn count_predecessors(alloc: Global, lists: &[Targets]) -> Result<Vec<usize>, No
 /// The functions before which none stands.
 fn first_ready(alloc: Global, waiting: &[usize]) -> Result<Ready, NoMemory>
     requires { length waiting.now < 2 ^ 32 }
-    ensures { IfOk result (λ ready. (g : ℕ) → is_in g ready ≡ (nat_lt g (length waiting.now) && (slice_index waiting.now g == 0))) }
+    ensures { IfOk result (λ ready.
+        (g : ℕ)
+        → is_in g ready
+        ≡ (nat_lt g (length waiting.now) && (slice_index waiting.now g == 0))) }
 {
     let mut ready = Ready::new(alloc);
     for (g, open) in waiting.iter().enumerate() {
@@ -52,8 +58,14 @@ fn first_ready(alloc: Global, waiting: &[usize]) -> Result<Ready, NoMemory>
 fn settle(targets: &[u32], waiting: &mut [usize], ready: &mut Ready) -> Result<(), NoMemory>
     requires within { All (λ g. g < length waiting.old) targets.now }
     requires enough { (g : ℕ) → g < length waiting.old → times g targets.now ≤ slice_index waiting.old g }
-    ensures counts { OnOk result ((g : ℕ) → g < length waiting.old → slice_index waiting.new g + times g targets.now ≡ slice_index waiting.old g) }
-    ensures ready { OnOk result ((g : ℕ) → is_in g ready.new ≡ (is_in g ready.old || (is_in g targets.now && (slice_index waiting.new g == 0)))) }
+    ensures counts { OnOk result (
+        (g : ℕ)
+        → g < length waiting.old
+        → slice_index waiting.new g + times g targets.now ≡ slice_index waiting.old g) }
+    ensures ready { OnOk result (
+        (g : ℕ)
+        → is_in g ready.new
+        ≡ (is_in g ready.old || (is_in g targets.now && (slice_index waiting.new g == 0)))) }
 {
     for target in targets {
         waiting[*target as usize] -= 1;
@@ -76,7 +88,13 @@ pub fn put_in_order(alloc: Global, lists: &[Targets]) -> Result<Ordered, NoMemor
     requires few { length lists.now < 2 ^ 32 }
     requires ascending { AreAscending lists.now }
     ensures order { IfOk result (λ ordered. ordered.order.items ≡ order (length lists.now) (follows lists.now)) }
-    ensures waiting { IfOk result (λ ordered. AreWaiting (length lists.now) (length lists.now) (follows lists.now) ordered.order.items ordered.waiting.items) }
+    ensures waiting { IfOk result (λ ordered.
+        AreWaiting
+        (length lists.now)
+        (length lists.now)
+        (follows lists.now)
+        ordered.order.items
+        ordered.waiting.items) }
 {
     let mut waiting = count_predecessors(alloc, lists)?;
     let mut ready = first_ready(alloc, &waiting)?;

@@ -22,7 +22,9 @@ fn place_type<'a>(
     kind: &'a AgentType,
     places: &mut Vec<Placed<'a>>,
 ) -> Result<(), NoMemory>
-    ensures { OnOk result (map shown places.new.items ≡ map shown places.old.items ++ map (at_type agent kind.now) kind.now.functions) }
+    ensures { OnOk result (
+        map shown places.new.items
+        ≡ map shown places.old.items ++ map (at_type agent kind.now) kind.now.functions) }
 {
     for function in kind.functions.items() {
         places.push(Placed {

@@ -18,7 +18,10 @@ use std::collections::HashSet;
 /// Adds the text, and tells whether it is new.
 fn enter(alloc: Global, texts: &mut HashSet<String>, text: &str) -> Result<bool, NoMemory>
     ensures added { IfOk result (λ added. added ≡ not (contains_text texts.old text.now)) }
-    ensures after { OnOk result ((q : List ℕ) → contains_text texts.new q ≡ (contains_text texts.old q || bytes_eq text.now q)) }
+    ensures after { OnOk result (
+        (q : List ℕ)
+        → contains_text texts.new q
+        ≡ (contains_text texts.old q || bytes_eq text.now q)) }
 {
     let copy = String::from_str(alloc, text)?;
     let added = texts.insert(copy)?;

@@ -13,7 +13,10 @@ pub type Table = HashMap<String, Vec<u32>>;
 
 /// Notes the function under the name.
 pub fn note(alloc: Global, table: &mut Table, name: &str, function: u32) -> Result<(), NoMemory>
-    ensures { OnOk result ((q : List ℕ) → listed table.new q ≡ (if bytes_eq q name.now then listed table.old q ++ function ∷ [] else listed table.old q)) }
+    ensures { OnOk result (
+        (q : List ℕ)
+        → listed table.new q
+        ≡ (if bytes_eq q name.now then listed table.old q ++ function ∷ [] else listed table.old q)) }
 {
     let key = String::from_str(alloc, name)?;
     table.entry(key)?.or_default().push(function)?;
