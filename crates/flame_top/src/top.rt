@@ -36,8 +36,8 @@ pub struct Ended {
 /// first iteration that faults. On every status but 0 it writes one line to `err`. A model or function file has at most
 /// 4,194,304 bytes, a population file at most 67,108,864, and no iteration a number above 2147483647.
 ///
-/// An iteration is that of the FLAME User Manual for the narrow models of today: each agent runs its function once. `rt`
-/// and `gate` are not used by a run today.
+/// An iteration is that of the FLAME User Manual for the narrow models of today: each agent runs its function once.
+/// `rt` and `gate` are not used by a run today.
 pub fn flame<Rt: Threads + Wait + Sync, D: Depot, S: Sink, G: Gate>(
     _rt: &Rt,
     alloc: Global,
@@ -60,7 +60,7 @@ pub fn flame<Rt: Threads + Wait + Sync, D: Depot, S: Sink, G: Gate>(
         → Tells (report words.now told).error (Rose (S.faults err.old) (S.faults err.new))
         (S.written err.old) (S.written err.new) }
 
-    // Where neither the depot's counts nor that of `out` rose, no other answer but want of memory is given.
+    // Where neither the depot's counts nor that of `out` rose, the status is the report's or that of want of memory.
     ensures complete { (told : Files) → D.files depot.old ≡ Some told
         → ¬ (Rose (D.read_faults depot.old) (D.read_faults depot.new))
         → ¬ (Rose (D.put_faults depot.old) (D.put_faults depot.new))
