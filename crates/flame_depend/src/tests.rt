@@ -23,7 +23,8 @@ type Step = (
 /// The functions of each type; the edges; the order, layers and starts, or the fault.
 type Case = (&'static [&'static [Step]], &'static str, &'static str);
 
-static CASES: [Case; 17] = [
+/// Models that have a plan.
+static PLANS: [Case; 13] = [
     (&[], "", "plan [] [] []"),
     (&[&[]], "", "plan [] [] [start]"),
     // The reader stands before the writer in the document, and runs behind it; the third function has layer 0.
@@ -35,34 +36,6 @@ static CASES: [Case; 17] = [
         ],
         "1>0",
         "plan [1 0 2] [1 0 0] [s s s]",
-    ),
-    // Each of two types reads what the other adds.
-    (
-        &[&[("s", "e", &["n"], &["m"])], &[("s", "e", &["m"], &["n"])]],
-        "0>1 1>0",
-        "cycle [0 1]",
-    ),
-    // A function stands before itself, by message or by state.
-    (&[&[("s", "e", &["m"], &["m"])]], "0>0", "cycle [0]"),
-    (&[&[("s", "s", &[], &[])]], "0>0", "cycle [0]"),
-    // Two start states, and the first such type.
-    (
-        &[&[("a", "c", &[], &[]), ("b", "c", &[], &[])]],
-        "",
-        "starts 0 [a b]",
-    ),
-    (
-        &[
-            &[("s", "e", &[], &[])],
-            &[
-                ("b", "c", &[], &[]),
-                ("a", "c", &[], &[]),
-                ("b", "c", &[], &[]),
-            ],
-            &[("x", "z", &[], &[]), ("y", "z", &[], &[])],
-        ],
-        "",
-        "starts 1 [b a]",
     ),
     // The state `start` has nothing to do with a type that has functions.
     (&[&[("a", "start", &[], &[])]], "", "plan [0] [0] [a]"),
@@ -112,6 +85,76 @@ static CASES: [Case; 17] = [
         "0>1 0>2 1>2",
         "plan [0 1 2] [0 1 2] [a]",
     ),
+    // A type without functions between two others.
+    (
+        &[&[("s", "e", &[], &[])], &[], &[("a", "b", &[], &[])]],
+        "",
+        "plan [0 1] [0 0] [s start a]",
+    ),
+    // Nobody adds the message that is read or reads the one that is added; states of their names are no messages.
+    (
+        &[&[("s", "e", &["m"], &["n"])], &[("n", "m", &[], &[])]],
+        "",
+        "plan [0 1] [0 0] [s n]",
+    ),
+    // Four types, and a function with two predecessors in other layers.
+    (
+        &[
+            &[("s", "t", &["n"], &[])],
+            &[("s", "t", &["m"], &["n"])],
+            &[("s", "t", &[], &["m"]), ("t", "e", &["n"], &["p"])],
+            &[("s", "e", &["m", "p"], &[])],
+        ],
+        "1>0 1>3 2>1 2>3 2>4 3>4",
+        "plan [2 1 0 3 4] [2 1 0 2 3] [s s s s]",
+    ),
+    // Rabbits graze and flee, foxes prowl and hunt.
+    (
+        &[
+            &[
+                ("start", "grazed", &[], &["r"]),
+                ("grazed", "end", &["f"], &[]),
+            ],
+            &[
+                ("start", "prowled", &[], &["f"]),
+                ("prowled", "end", &["r"], &[]),
+            ],
+        ],
+        "0>1 0>3 2>1 2>3",
+        "plan [0 2 1 3] [0 1 0 1] [start start]",
+    ),
+];
+
+/// Models that have a cycle, or a type with two start states.
+static FAULTS: [Case; 14] = [
+    // Each of two types reads what the other adds.
+    (
+        &[&[("s", "e", &["n"], &["m"])], &[("s", "e", &["m"], &["n"])]],
+        "0>1 1>0",
+        "cycle [0 1]",
+    ),
+    // A function stands before itself, by message or by state.
+    (&[&[("s", "e", &["m"], &["m"])]], "0>0", "cycle [0]"),
+    (&[&[("s", "s", &[], &[])]], "0>0", "cycle [0]"),
+    // Two start states, and the first such type.
+    (
+        &[&[("a", "c", &[], &[]), ("b", "c", &[], &[])]],
+        "",
+        "starts 0 [a b]",
+    ),
+    (
+        &[
+            &[("s", "e", &[], &[])],
+            &[
+                ("b", "c", &[], &[]),
+                ("a", "c", &[], &[]),
+                ("b", "c", &[], &[]),
+            ],
+            &[("x", "z", &[], &[]), ("y", "z", &[], &[])],
+        ],
+        "",
+        "starts 1 [b a]",
+    ),
     // The cycle is written in the direction in which its functions stand before one another.
     (
         &[&[
@@ -131,6 +174,51 @@ static CASES: [Case; 17] = [
         ]],
         "1>0 1>2 2>1",
         "cycle [1 2]",
+    ),
+    // A function before itself by state and by message too is one edge.
+    (&[&[("s", "s", &["m"], &["m"])]], "0>0", "cycle [0]"),
+    // What runs before a cycle is no part of it.
+    (
+        &[&[("s", "e", &[], &[]), ("e", "e", &[], &[])]],
+        "0>1 1>1",
+        "cycle [1]",
+    ),
+    (
+        &[
+            &[("s", "e", &[], &["m"])],
+            &[("a", "b", &["m"], &[]), ("b", "a", &[], &[])],
+        ],
+        "0>1 1>2 2>1",
+        "cycle [1 2]",
+    ),
+    // The first function left over waits for the second cycle, so that one is named.
+    (
+        &[
+            &[("s", "e", &["m"], &[])],
+            &[("a", "b", &[], &[]), ("b", "a", &[], &[])],
+            &[("c", "d", &[], &["m"]), ("d", "c", &[], &[])],
+        ],
+        "1>2 2>1 3>0 3>4 4>3",
+        "cycle [3 4]",
+    ),
+    // A cycle by states and messages over two types.
+    (
+        &[
+            &[("s", "t", &["n"], &[]), ("t", "e", &[], &["m"])],
+            &[("s", "e", &["m"], &["n"])],
+        ],
+        "0>1 1>2 2>0",
+        "cycle [0 1 2]",
+    ),
+    // A cycle goes before two start states of the same type.
+    (
+        &[&[
+            ("a", "c", &[], &[]),
+            ("b", "c", &[], &[]),
+            ("c", "c", &[], &[]),
+        ]],
+        "0>2 1>2 2>2",
+        "cycle [2]",
     ),
     // Of two cycles the one that is met first, before many start states.
     (
@@ -293,8 +381,13 @@ fn check_cases(rt: &impl Abort, alloc: Global, cases: &[Case]) -> Result<(), Fai
 }
 
 #[test]
-fn models_have_their_edges_and_their_plans(rt: HostRuntime) -> Result<(), Failed> {
-    check_cases(&rt, rt.alloc(), &CASES)
+fn models_have_their_edges_and_plans(rt: HostRuntime) -> Result<(), Failed> {
+    check_cases(&rt, rt.alloc(), &PLANS)
+}
+
+#[test]
+fn models_have_their_edges_and_faults(rt: HostRuntime) -> Result<(), Failed> {
+    check_cases(&rt, rt.alloc(), &FAULTS)
 }
 
 /// A function from one numbered state to another.
