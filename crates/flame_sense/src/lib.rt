@@ -12,4 +12,6 @@ pub mod outcome;
 mod reading;
 mod scene;
 mod statement;
+#[cfg(test)]
+mod tests;
 mod words;
