@@ -62,7 +62,25 @@ fn shown(alloc: Global, outcome: &Outcome) -> Result<String, Fail> {
     }
 }
 
-/// The run of a function of the file in iteration 7, where the constant limit is 1000.
+/// What a function of the file comes to in iteration 7, where the constant limit is 1000.
+fn outcome_of(
+    alloc: Global,
+    m: &[&[i32]],
+    n: &[&[i32]],
+    function: u32,
+    file: &str,
+    memory: &[i32],
+    fuel: u32,
+) -> Result<Outcome, NoMemory> {
+    let source = source(alloc, file)?;
+    let memory = row(alloc, memory)?;
+    let boards = boards(alloc, m, n)?;
+    let constants = row(alloc, &[1000])?;
+    evaluate(
+        alloc, &source, function, &memory, &boards, &constants, 7, fuel,
+    )
+}
+
 fn check_run(
     rt: &impl Abort,
     alloc: Global,
@@ -71,13 +89,7 @@ fn check_run(
     run: &Alone,
 ) -> Result<(), Fail> {
     let (function, file, memory, fuel, want) = run;
-    let source = source(alloc, file)?;
-    let memory = row(alloc, memory)?;
-    let boards = boards(alloc, m, n)?;
-    let constants = row(alloc, &[1000])?;
-    let outcome = evaluate(
-        alloc, &source, *function, &memory, &boards, &constants, 7, *fuel,
-    )?;
+    let outcome = outcome_of(alloc, m, n, *function, file, memory, *fuel)?;
     let line = shown(alloc, &outcome)?;
     assert_eq!(rt; line.as_str(), *want, "{file}");
     Ok(())

@@ -35,7 +35,8 @@ static ADDED: [Alone; 9] = [
     ),
     (
         ADD,
-        "int add ( ) { add_B_agent ( 1 ) ; add_n_message ( 2 ) ; add_B_agent ( 3 ) ; add_n_message ( 4 ) ; return 7 ; }",
+        "int add ( ) { add_B_agent ( 1 ) ; add_n_message ( 2 ) ; add_B_agent ( 3 ) ;
+            add_n_message ( 4 ) ; return 7 ; }",
         &[0, 0],
         0,
         "removed sent 1 [2] sent 1 [4] born 1 [1] born 1 [3] left 0",

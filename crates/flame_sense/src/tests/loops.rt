@@ -187,17 +187,19 @@ static TURNS: [Alone; 14] = [
     ),
     (
         F,
-        "int f ( ) { int i , j ; for ( i = 0 ; i < 3 ; i ++ ) for ( j = 0 ; ; j ++ ) { if ( j == i ) break ; X ++ ; } }",
+        "int f ( ) { int i , j ; for ( i = 0 ; i < 3 ; i ++ )
+            for ( j = 0 ; ; j ++ ) { if ( j == i ) break ; X ++ ; } }",
         &[0, 0],
         9,
         "[3, 0] left 0",
     ),
     (
         F,
-        "int f ( ) { int i , j ; for ( i = 0 ; i < 3 ; i ++ ) for ( j = 0 ; ; j ++ ) { if ( j == i ) break ; X ++ ; } }",
+        "int f ( ) { int i , j ; for ( i = 0 ; i < 3 ; i ++ )
+            for ( j = 0 ; ; j ++ ) { if ( j == i ) break ; X ++ ; } }",
         &[0, 0],
         8,
-        "Fuel at line 1",
+        "Fuel at line 2",
     ),
     (
         F,

@@ -116,8 +116,8 @@ static TURNS: [Over; 12] = [
         n: &[&[2], &[3]],
         run: (
             F,
-            "int f ( ) { int i ; START_N_MESSAGE_LOOP for ( i = 0 ; ; i ++ ) { if ( i == n_message -> v ) break ; X ++ ; }
-                Y ++ ; FINISH_N_MESSAGE_LOOP }",
+            "int f ( ) { int i ; START_N_MESSAGE_LOOP for ( i = 0 ; ; i ++ ) { if ( i == n_message -> v ) break ;
+                X ++ ; } Y ++ ; FINISH_N_MESSAGE_LOOP }",
             &[0, 0],
             9,
             "[5, 2] left 0",
