@@ -7,7 +7,7 @@ static CONDITION: Around = Around {
     path: "/xmodel/agents/0/functions/0/condition",
 };
 
-static CONDITION_ROWS: [Row; 41] = [
+static CONDITION_ROWS: [Row; 59] = [
     ("7", " Condition"),
     ("[]", " Condition"),
     (r#""EQ""#, " Condition"),
@@ -89,6 +89,57 @@ static CONDITION_ROWS: [Row; 41] = [
         "/time/phase Phase",
     ),
     (r#"{"time":{"phase":7,"period":""}}"#, "/time/period Name"),
+    (
+        r#"{"time":{"phase":"x","period":null}}"#,
+        "/time/period Name",
+    ),
+    (r#"{"time":{"period":7}}"#, "/time/period Name"),
+    (
+        r#"{"time":{"period":"iteration","phase":"a."}}"#,
+        "/time/phase Phase",
+    ),
+    (
+        r#"{"time":{"period":"iteration","phase":{}}}"#,
+        "/time/phase Phase",
+    ),
+    (
+        r#"{"time":{"period":"iteration","phase":-0}}"#,
+        "/time/phase Phase",
+    ),
+    (r#"{"time":{"period":"iteration","phase":"-0"}}"#, ""),
+    (
+        r#"{"time":{"period":"iteration","phase":-2147483648,"duration":2147483647}}"#,
+        "",
+    ),
+    (
+        r#"{"time":{"period":"iteration","duration":2147483648}}"#,
+        "/time/duration Positive",
+    ),
+    (
+        r#"{"time":{"period":"iteration","duration":"0"}}"#,
+        "/time/duration Positive",
+    ),
+    (
+        r#"{"time":{"period":"iteration","duration":true}}"#,
+        "/time/duration Positive",
+    ),
+    (r#"{"op":"EQ","lhs":{"value":1},"rhs":null}"#, "/rhs Object"),
+    (r#"{"op":"EQ","lhs":{"value":1},"rhs":[]}"#, "/rhs Object"),
+    (
+        r#"{"op":"EQ","lhs":{"value":1},"rhs":{"value":[]}}"#,
+        "/rhs/value Operand",
+    ),
+    (
+        r#"{"op":"AND","lhs":{"time":{"period":"d"}},"rhs":null}"#,
+        "/rhs Condition",
+    ),
+    (r#"{"op":"AND","lhs":[],"rhs":[]}"#, "/lhs Condition"),
+    (
+        r#"{"op":"EQ","lhs":{"value":1},"rhs":{"value":1},"op":"AND"}"#,
+        "/lhs/op Op",
+    ),
+    (r#"{"op":[],"lhs":7}"#, "/op Op"),
+    (r#"{"NOT":7,"op":7}"#, "/op Op"),
 ];
 
 static FILTER: Around = Around {

@@ -33,7 +33,7 @@ static XMODEL: Around = Around {
     path: "/xmodel",
 };
 
-static XMODEL_ROWS: [Row; 31] = [
+static XMODEL_ROWS: [Row; 49] = [
     (r#""environment":7"#, "/environment Object"),
     (r#""environment":[]"#, "/environment Object"),
     (r#""environment":null"#, ""),
@@ -80,8 +80,56 @@ static XMODEL_ROWS: [Row; 31] = [
     (r#""models":"""#, "/models Empty"),
     (r#""models":[]"#, ""),
     (r#""models":null"#, ""),
+    (
+        r#""messages":[{"name":"m","variables":[null]}]"#,
+        "/messages/0/variables/0 Object",
+    ),
+    (
+        r#""messages":[{"name":"m","variables":[{"name":"x"}]}]"#,
+        "/messages/0/variables/0/type Int",
+    ),
+    (
+        r#""messages":[{"name":"m","variables":[{"type":"int","name":null}]}]"#,
+        "/messages/0/variables/0/name Name",
+    ),
+    (r#""agents":null"#, ""),
+    (r#""agents":[[]]"#, "/agents/0 Object"),
+    (r#""agents":[{"name":null}]"#, "/agents/0/name Name"),
+    (r#""agents":[{"name":7}]"#, "/agents/0/name Name"),
+    (r#""agents":[{"name":"A B"}]"#, "/agents/0/name Name"),
+    (
+        r#""agents":[{"name":"A","memory":[{"type":"float","name":"x"}]}]"#,
+        "/agents/0/memory/0/type Int",
+    ),
+    (
+        r#""agents":[{"name":"A","memory":[{"type":"int","name":"x"},{"type":"int"}]}]"#,
+        "/agents/0/memory/1/name Name",
+    ),
+    (
+        r#""agents":[{"name":"A","functions":[null]}]"#,
+        "/agents/0/functions/0 Object",
+    ),
+    (r#""models":false"#, "/models Empty"),
+    (
+        r#""messages":[{"name":"a"},{"name":"b"},{"name":"c"},{"name":"d"},{"name":"e"},{"name":"f"},{"name":"g"},{"name":"h"},{"name":"i"},{"name":"j"},{"name":"k"},{}]"#,
+        "/messages/11/name Name",
+    ),
     // Walked in the order of the form, whatever the order in the text.
     (r#""models":7,"environment":7"#, "/environment Object"),
+    (r#""messages":7,"environment":7"#, "/environment Object"),
+    (
+        r#""messages":[{"name":"m","variables":[{"type":"int"}]},{"name":7}]"#,
+        "/messages/0/variables/0/name Name",
+    ),
+    (
+        r#""messages":[{"name":"m","variables":[{"type":"int"},7]}]"#,
+        "/messages/0/variables/0/name Name",
+    ),
+    (r#""agents":[{"memory":7,"name":7}]"#, "/agents/0/name Name"),
+    (
+        r#""agents":[{"name":"A","functions":[7]},{"name":7}]"#,
+        "/agents/0/functions/0 Object",
+    ),
     (r#""agents":7,"messages":7"#, "/messages List"),
     (r#""models":7,"agents":7"#, "/agents List"),
     (
@@ -104,7 +152,7 @@ static ENVIRONMENT: Around = Around {
     path: "/xmodel",
 };
 
-static ENVIRONMENT_ROWS: [Row; 36] = [
+static ENVIRONMENT_ROWS: [Row; 47] = [
     ("", "/messages List"),
     (r#""constants":{}"#, "/environment/constants List"),
     (r#""constants":[7]"#, "/environment/constants/0 Object"),
@@ -216,6 +264,44 @@ static ENVIRONMENT_ROWS: [Row; 36] = [
         r#""functionFiles":[[]]"#,
         "/environment/functionFiles/0 FileName",
     ),
+    (
+        r#""constants":[{"type":"int","name":null}]"#,
+        "/environment/constants/0/name Name",
+    ),
+    (
+        r#""constants":[{"type":["int"],"name":"c"}]"#,
+        "/environment/constants/0/type Int",
+    ),
+    (
+        r#""constants":[[{"type":"int","name":"c"}]]"#,
+        "/environment/constants/0 Object",
+    ),
+    (r#""timeUnits":[null]"#, "/environment/timeUnits/0 Object"),
+    (
+        r#""timeUnits":[{"name":null,"unit":"iteration","period":1}]"#,
+        "/environment/timeUnits/0/name Name",
+    ),
+    (
+        r#""timeUnits":[{"name":"2d","unit":"iteration","period":1}]"#,
+        "/environment/timeUnits/0/name Name",
+    ),
+    (
+        r#""timeUnits":[{"name":"d","unit":null,"period":1}]"#,
+        "/environment/timeUnits/0/unit Name",
+    ),
+    (
+        r#""timeUnits":[{"name":"d","unit":"","period":1}]"#,
+        "/environment/timeUnits/0/unit Name",
+    ),
+    (
+        r#""timeUnits":[{"name":"d","unit":"iteration","period":1},{"name":"w"}]"#,
+        "/environment/timeUnits/1/unit Name",
+    ),
+    (
+        r#""timeUnits":[{"period":0,"unit":"iteration","name":"d"},7]"#,
+        "/environment/timeUnits/0/period Positive",
+    ),
+    (r#""dataTypes":[null]"#, "/environment/dataTypes Empty"),
 ];
 
 static FUNCTION: Around = Around {
@@ -224,7 +310,7 @@ static FUNCTION: Around = Around {
     path: "/xmodel/agents/1/functions/0",
 };
 
-static FUNCTION_ROWS: [Row; 34] = [
+static FUNCTION_ROWS: [Row; 40] = [
     ("", "/name Name"),
     (r#""name":"f""#, "/currentState State"),
     (r#""name":"f","currentState":"s""#, "/nextState State"),
@@ -242,7 +328,31 @@ static FUNCTION_ROWS: [Row; 34] = [
         "/nextState State",
     ),
     (r#""name":"f","currentState":"9 ü","nextState":" ""#, ""),
+    (
+        r#""name":null,"currentState":"s","nextState":"e""#,
+        "/name Name",
+    ),
+    (
+        r#""name":"f g","currentState":"s","nextState":"e""#,
+        "/name Name",
+    ),
+    (
+        r#""name":"f","currentState":["s"],"nextState":"e""#,
+        "/currentState State",
+    ),
+    (
+        r#""name":"f","currentState":"s","nextState":null"#,
+        "/nextState State",
+    ),
+    (
+        r#""name":"f","currentState":"s","nextState":"""#,
+        "/nextState State",
+    ),
     (r#""nextState":7,"currentState":7,"name":7"#, "/name Name"),
+    (
+        r#""condition":7,"nextState":7,"currentState":"s","name":"f""#,
+        "/nextState State",
+    ),
     (
         r#""nextState":7,"currentState":7,"name":"f""#,
         "/currentState State",
@@ -345,6 +455,114 @@ static FUNCTION_ROWS: [Row; 34] = [
     ),
 ];
 
+static INPUT: Around = Around {
+    before: r#"{"xmodel":{"agents":[{"name":"A","functions":[{"name":"f","currentState":"s","nextState":"e","inputs":[{"messageName":"m","#,
+    after: r#"}],"outputs":[{"messageName":7}]}]}]}}"#,
+    path: "/xmodel/agents/0/functions/0",
+};
+
+static INPUT_ROWS: [Row; 33] = [
+    (r#""other":7"#, "/outputs/0/messageName Name"),
+    (r#""messageName":null"#, "/inputs/0/messageName Name"),
+    (r#""messageName":7"#, "/inputs/0/messageName Name"),
+    (r#""messageName":"m n""#, "/inputs/0/messageName Name"),
+    (r#""random":true"#, "/outputs/0/messageName Name"),
+    (r#""random":false"#, "/outputs/0/messageName Name"),
+    (r#""random":"true""#, "/outputs/0/messageName Name"),
+    (r#""random":"false""#, "/outputs/0/messageName Name"),
+    (r#""random":"FALSE""#, "/inputs/0/random Truth"),
+    (r#""random":" true""#, "/inputs/0/random Truth"),
+    (r#""random":"""#, "/inputs/0/random Truth"),
+    (r#""random":"1""#, "/inputs/0/random Truth"),
+    (r#""random":1"#, "/inputs/0/random Truth"),
+    (r#""random":0"#, "/inputs/0/random Truth"),
+    (r#""random":[]"#, "/inputs/0/random Truth"),
+    (r#""random":{}"#, "/inputs/0/random Truth"),
+    (r#""filter":null"#, "/outputs/0/messageName Name"),
+    (r#""filter":[]"#, "/inputs/0/filter Condition"),
+    (r#""filter":{}"#, "/inputs/0/filter/op Op"),
+    (r#""sort":7"#, "/inputs/0/sort Object"),
+    (r#""sort":"x""#, "/inputs/0/sort Object"),
+    (
+        r#""sort":{"key":"x","order":"ascend"}"#,
+        "/outputs/0/messageName Name",
+    ),
+    (
+        r#""sort":{"key":"x","order":"descend"}"#,
+        "/outputs/0/messageName Name",
+    ),
+    (
+        r#""sort":{"key":null,"order":"ascend"}"#,
+        "/inputs/0/sort/key Name",
+    ),
+    (
+        r#""sort":{"key":"m.x","order":"ascend"}"#,
+        "/inputs/0/sort/key Name",
+    ),
+    (
+        r#""sort":{"key":"x","order":null}"#,
+        "/inputs/0/sort/order Order",
+    ),
+    (
+        r#""sort":{"key":"x","order":7}"#,
+        "/inputs/0/sort/order Order",
+    ),
+    (
+        r#""sort":{"key":"x","order":""}"#,
+        "/inputs/0/sort/order Order",
+    ),
+    (
+        r#""sort":{"key":"x","order":"Ascend"}"#,
+        "/inputs/0/sort/order Order",
+    ),
+    (
+        r#""sort":{"key":"x","order":"ascending"}"#,
+        "/inputs/0/sort/order Order",
+    ),
+    (
+        r#""sort":{"key":"x","order":"descend "}"#,
+        "/inputs/0/sort/order Order",
+    ),
+    (
+        r#""sort":7,"sort":{"order":"ascend","key":"x"}"#,
+        "/outputs/0/messageName Name",
+    ),
+    (r#""random":7,"random":null"#, "/outputs/0/messageName Name"),
+];
+
+static OUTPUT: Around = Around {
+    before: r#"{"xmodel":{"agents":[{"name":"A","functions":[{"name":"f","currentState":"s","nextState":"e","inputs":"#,
+    after: "}]}]}}",
+    path: "/xmodel/agents/0/functions/0",
+};
+
+static OUTPUT_ROWS: [Row; 12] = [
+    ("{}", "/inputs List"),
+    (r#""m""#, "/inputs List"),
+    ("[null]", "/inputs/0 Object"),
+    (r#"["m"]"#, "/inputs/0 Object"),
+    (
+        r#"[{"messageName":"m"},{"messageName":"n","random":7},{}]"#,
+        "/inputs/1/random Truth",
+    ),
+    (
+        r#"[{"messageName":"m","sort":7},{"messageName":7}]"#,
+        "/inputs/0/sort Object",
+    ),
+    (r#"[],"outputs":{}"#, "/outputs List"),
+    (r#"[],"outputs":"m""#, "/outputs List"),
+    (r#"[],"outputs":["m"]"#, "/outputs/0 Object"),
+    (
+        r#"[],"outputs":[{"messageName":null}]"#,
+        "/outputs/0/messageName Name",
+    ),
+    (
+        r#"[],"outputs":[{"messageName":7},7]"#,
+        "/outputs/0/messageName Name",
+    ),
+    (r#"[],"outputs":[]"#, ""),
+];
+
 #[test]
 fn whole_values(rt: HostRuntime) -> Result<(), Failed> {
     check_faults(&rt, rt.alloc(), &WHOLE, &WHOLE_ROWS)?;
@@ -358,5 +576,7 @@ fn environments(rt: HostRuntime) -> Result<(), Failed> {
 
 #[test]
 fn functions(rt: HostRuntime) -> Result<(), Failed> {
-    check_faults(&rt, rt.alloc(), &FUNCTION, &FUNCTION_ROWS)
+    check_faults(&rt, rt.alloc(), &FUNCTION, &FUNCTION_ROWS)?;
+    check_faults(&rt, rt.alloc(), &INPUT, &INPUT_ROWS)?;
+    check_faults(&rt, rt.alloc(), &OUTPUT, &OUTPUT_ROWS)
 }

@@ -63,6 +63,58 @@ static BARE: Case = Case {
     ],
 };
 
+/// Each object has a key that no form names, null at keys that may be missing, or a key that stands twice.
+static STRANGE: Case = Case {
+    value: &[
+        r#"{"x":7,"xmodel":{"x":[null],"version":2,"models":null,"environment":{"x":{},"constants":[{"x":"","length":-1,"#,
+        r#""type":7,"type":"int","name":"a","name":"c"}],"dataTypes":null,"#,
+        r#""timeUnits":[{"x":[],"name":"d","unit":"w","unit":"iteration","period":0,"period":1}]},"#,
+        r#""messages":[{"x":false,"name":"m","variables":[{"x":1.5,"type":"int","name":"v","length":null}]},"#,
+        r#"{"name":"n","variables":[7],"variables":null}],"#,
+        r#""agents":7,"agents":[{"x":7,"name":"A","memory":[{"description":"","type":"int","name":"y"}],"#,
+        r#""functions":[{"x":7,"name":"f","currentState":"s","nextState":"e","#,
+        r#""condition":{"x":7,"lhs":{"x":7,"value":0,"value":1},"rhs":{"value":"0x","value":"a.y"},"op":"AND","op":"GT"},"#,
+        r#""inputs":[{"x":7,"messageName":"m","random":null,"filter":{"x":7,"not":{"op":"NEQ","time":null,"#,
+        r#""lhs":{"value":"m.v"},"rhs":{"value":2}},"op":7},"sort":{"x":7,"key":"v","order":"up","order":"ascend"}}],"#,
+        r#""outputs":[{"x":7,"messageName":"n"}]},"#,
+        r#"{"name":"g","currentState":"s","nextState":"e","inputs":null,"#,
+        r#""condition":{"op":7,"not":null,"time":{"x":7,"period":"d","phase":null,"duration":7,"duration":null}}}]}]}}"#,
+    ],
+    model: &[
+        r#"Model { constants: ["c"], files: [], units: [TimeUnit { name: "d", unit: "iteration", period: 1 }], "#,
+        r#"messages: [MessageType { name: "m", variables: [Variable { name: "v", length: None }] }, "#,
+        r#"MessageType { name: "n", variables: [] }], "#,
+        r#"agents: [AgentType { name: "A", memory: [Variable { name: "y", length: None }], "#,
+        r#"functions: [Function { name: "f", current: "s", next: "e", "#,
+        r#"condition: Some(Compare(Gt, Number(1), Agent("y"))), "#,
+        r#"inputs: [Input { message: "m", random: false, "#,
+        r#"filter: Some(Not(Compare(Ne, Message("v"), Number(2)))), "#,
+        r#"sort: Some(Sort { key: "v", descending: false }) }], outputs: ["n"] }, "#,
+        r#"Function { name: "g", current: "s", next: "e", condition: Some(Time("d", Number(0), 1)), "#,
+        r#"inputs: [], outputs: [] }] }] }"#,
+    ],
+};
+
+/// A condition with `not`, `time` and `op` at once is the negation; with `time` and `op` it is the time condition.
+static CHOICE: Case = Case {
+    value: &[
+        r#"{"xmodel":{"agents":[{"name":"A","functions":[{"name":"f","currentState":"s","nextState":"e","#,
+        r#""condition":{"op":"EQ","lhs":{"value":1},"rhs":{"value":2},"time":{"period":"d"},"#,
+        r#""not":{"op":"EQ","lhs":{"value":3},"rhs":{"value":"-4"},"time":{"period":"w","phase":"5","duration":"6"}}}},"#,
+        r#"{"name":"g","currentState":"s","nextState":"e","#,
+        r#""condition":{"op":"OR","lhs":{"op":"EQ","lhs":{"value":"-2147483648"},"rhs":{"value":2147483647}},"#,
+        r#""rhs":{"not":{"not":{"time":{"period":"iteration","phase":"-007","duration":2147483647}}}}}}]}]}}"#,
+    ],
+    model: &[
+        r#"Model { constants: [], files: [], units: [], messages: [], agents: [AgentType { name: "A", memory: [], "#,
+        r#"functions: [Function { name: "f", current: "s", next: "e", "#,
+        r#"condition: Some(Not(Time("w", Number(5), 6))), inputs: [], outputs: [] }, "#,
+        r#"Function { name: "g", current: "s", next: "e", "#,
+        r#"condition: Some(Or(Compare(Eq, Number(-2147483648), Number(2147483647)), "#,
+        r#"Not(Not(Time("iteration", Number(-7), 2147483647))))), inputs: [], outputs: [] }] }] }"#,
+    ],
+};
+
 static NOTHING: Case = Case {
     value: &[r#"{"xmodel":{}}"#],
     model: &["Model { constants: [], files: [], units: [], messages: [], agents: [] }"],
@@ -118,5 +170,7 @@ fn check_model(rt: &impl Abort, alloc: Global, case: &Case) -> Result<(), Failed
 fn models(rt: HostRuntime) -> Result<(), Failed> {
     check_model(&rt, rt.alloc(), &WHOLE)?;
     check_model(&rt, rt.alloc(), &BARE)?;
+    check_model(&rt, rt.alloc(), &STRANGE)?;
+    check_model(&rt, rt.alloc(), &CHOICE)?;
     check_model(&rt, rt.alloc(), &NOTHING)
 }

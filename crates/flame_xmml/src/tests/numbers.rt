@@ -46,7 +46,7 @@ static OPERAND: Around = Around {
     path: "/xmodel/agents/0/functions/0/condition/lhs/value",
 };
 
-static OPERAND_ROWS: [Row; 27] = [
+static OPERAND_ROWS: [Row; 34] = [
     ("0", ""),
     ("2147483647", ""),
     ("-2147483648", ""),
@@ -74,6 +74,22 @@ static OPERAND_ROWS: [Row; 27] = [
     (r#""m.x.y""#, " Operand"),
     (r#""a.ü""#, " Operand"),
     ("{}", " Operand"),
+    ("1e3", " Operand"),
+    ("18446744073709551616", " Operand"),
+    (r#""99999999999999999999""#, " Operand"),
+    (r#""a. x""#, " Operand"),
+    (
+        r#""a.a123456789a123456789a123456789a123456789a123456789a123456789a123456789a123456789a123456789a123456789""#,
+        "",
+    ),
+    (
+        r#""a.a123456789a123456789a123456789a123456789a123456789a123456789a123456789a123456789a123456789a1234567890""#,
+        " Operand",
+    ),
+    (
+        r#""m.a123456789a123456789a123456789a123456789a123456789a123456789a123456789a123456789a123456789a1234567890""#,
+        " Operand",
+    ),
 ];
 
 static NAME: Around = Around {
