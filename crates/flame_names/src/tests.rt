@@ -502,7 +502,7 @@ static LEAVES: [(&str, &str); 14] = [
     ),
 ];
 
-static ORDER: [(&str, &str); 8] = [
+static ORDER: [(&str, &str); 30] = [
     (
         "unit d iteration 1; unit d iteration 1; constant x; constant x",
         "/xmodel/environment/constants/1/name Duplicate x",
@@ -534,6 +534,95 @@ static ORDER: [(&str, &str); 8] = [
     (
         "if a.x 1 =; function f s t; function f s t; agent A",
         "/xmodel/agents/0/functions/0/condition/lhs/value UnknownVariable a.x",
+    ),
+    (
+        "constant x; constant x; constant X",
+        "/xmodel/environment/constants/1/name Duplicate x",
+    ),
+    (
+        "constant x; constant X; constant x",
+        "/xmodel/environment/constants/1/name Clash X",
+    ),
+    (
+        "unit a iteration 2; unit a a 2147483647",
+        "/xmodel/environment/timeUnits/1/name Duplicate a",
+    ),
+    (
+        "unit a b 2147483647; unit a iteration 1",
+        "/xmodel/environment/timeUnits/0/unit UnknownUnit b",
+    ),
+    (
+        "unit a iteration 2; unit b a 1073741824; unit c d 1",
+        "/xmodel/environment/timeUnits/1/period LongUnit b",
+    ),
+    (
+        "message m; variable x; variable x; message m",
+        "/xmodel/messages/1/name Duplicate m",
+    ),
+    (
+        "message m; variable x; variable x; message M",
+        "/xmodel/messages/1/name Clash M",
+    ),
+    (
+        "agent A; variable x; variable x; agent A",
+        "/xmodel/agents/1/name Duplicate A",
+    ),
+    (
+        "constant x; variable y; variable y; variable x; agent A",
+        "/xmodel/agents/0/memory/1/name Duplicate y",
+    ),
+    (
+        "constant x; variable x; variable x; agent A",
+        "/xmodel/agents/0/memory/0/name Clash x",
+    ),
+    (
+        "variable x; variable X; output m; function f s t; agent A",
+        "/xmodel/agents/0/memory/1/name Clash X",
+    ),
+    (
+        "output m; function f s t; agent A; agent A",
+        "/xmodel/agents/0/functions/0/outputs/0/messageName UnknownMessage m",
+    ),
+    (
+        "function f s t; if a.x 1 =; function f s t; agent A",
+        "/xmodel/agents/0/functions/1/name Duplicate f",
+    ),
+    (
+        "function f s t; agent A; if a.x 1 =; function f s t; agent B",
+        "/xmodel/agents/1/functions/0/name FunctionShared f",
+    ),
+    (
+        "if a.x 1 =; input m; if t:day; function f s t; agent A",
+        "/xmodel/agents/0/functions/0/condition/time/period UnknownUnit day",
+    ),
+    (
+        "shuffled m; function f s t; agent A",
+        "/xmodel/agents/0/functions/0/inputs/0/messageName UnknownMessage m",
+    ),
+    (
+        "message m; shuffled m; input m; output o; function f s t; agent A",
+        "/xmodel/agents/0/functions/0/inputs/0/random RandomOrder m",
+    ),
+    (
+        "message m; key y; input m; input n; function f s t; agent A",
+        "/xmodel/agents/0/functions/0/inputs/0/sort/key UnknownVariable y",
+    ),
+    (
+        "message m; output n; output n; output m; output m; function f s t; agent A",
+        "/xmodel/agents/0/functions/0/outputs/0/messageName UnknownMessage n",
+    ),
+    (
+        "message m; output m; output m; output n; function f s t; agent A",
+        "/xmodel/agents/0/functions/0/outputs/1/messageName Duplicate m",
+    ),
+    (
+        "output m; function f s t; function f s t; agent A",
+        "/xmodel/agents/0/functions/0/outputs/0/messageName UnknownMessage m",
+    ),
+    (
+        "constant a; constant b; constant c; constant d; constant e; constant f; \
+         constant g; constant h; constant i; constant j; constant k; constant a",
+        "/xmodel/environment/constants/11/name Duplicate a",
     ),
 ];
 
