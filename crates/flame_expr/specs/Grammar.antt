@@ -3,7 +3,8 @@ use Rattle.std.specs.Prelude.{◌≡◌, ℕ, zero, suc, ◌<◌, List, [], ◌�
 use Rattle.flame_ops.specs.declared.integers.Op.{Op}
 use Rattle.flame_spec.specs.declared.tree.Sign.{Sign}
 use Rattle.flame_spec.specs.declared.tree.SignKind.{SignKind}
-use Rattle.flame_spec.specs.Trees.{Expression, number, name, field, get, signed, chain, all_of, any_of, Expressions, no_parts, part, Links, no_links, link}
+use Rattle.flame_spec.specs.Trees.{Expression, number, name, field, get, signed, chain, all_of, any_of, Expressions}
+use Rattle.flame_spec.specs.Trees.{no_parts, part, Links, no_links, link}
 use Rattle.flame_lex.specs.declared.token.Token.{Token}
 use Rattle.flame_expr.specs.declared.lexeme.Lexeme.TheVariants.{Word, Number, Open, Close, Arrow, AndAnd, OrOr}
 use Rattle.flame_expr.specs.Lexemes.{first, text, value, line, behind}

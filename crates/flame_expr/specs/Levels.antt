@@ -4,7 +4,9 @@ use Rattle.flame_ops.specs.declared.integers.Op as op
 use Rattle.flame_ops.specs.declared.integers.Op.TheVariants.{Add, Sub, Mul, Div, Rem, Lt, Gt, Le, Ge, Eq, Ne}
 use Rattle.flame_spec.specs.declared.tree.SignKind as sign
 use Rattle.flame_expr.specs.declared.lexeme.Lexeme.{Lexeme}
-use Rattle.flame_expr.specs.declared.lexeme.Lexeme.TheVariants.{Plus, Minus, Star, Slash, Percent, Same, Differs, Bang, Below, Above, AtMost, AtLeast, AndAnd, OrOr, Open, Arrow}
+use Rattle.flame_expr.specs.declared.lexeme.Lexeme.TheVariants.{Plus, Minus, Star, Slash, Percent, Same, Differs}
+use Rattle.flame_expr.specs.declared.lexeme.Lexeme.TheVariants.{Bang, Below, Above, AtMost, AtLeast, AndAnd, OrOr}
+use Rattle.flame_expr.specs.declared.lexeme.Lexeme.TheVariants.{Open, Arrow}
 
 -- the operators between parts of this level
 abbrev pub operators : ℕ → List Lexeme

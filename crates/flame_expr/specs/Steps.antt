@@ -2,7 +2,11 @@
 use Rattle.std.specs.Prelude.{◌≡◌, ℕ, zero, suc, ◌≤◌, ◌<◌, List, [], ◌∷◌, length, drop}
 use Rattle.flame_lex.specs.declared.token.Token.{Token}
 use Rattle.flame_expr.specs.declared.lexeme.Lexeme.{Lexeme}
-use Rattle.flame_expr.specs.declared.lexeme.Lexeme.TheVariants.{Word, Number, Start, Finish, PlusPlus, MinusMinus, PlusSet, MinusSet, StarSet, SlashSet, PercentSet, Set, Open, Close, OpenBrace, CloseBrace, Comma, Semicolon, Arrow, Int, Void, If, Else, While, For, Do, Return, Break, Continue}
+use Rattle.flame_expr.specs.declared.lexeme.Lexeme.TheVariants.{Word, Number, Start, Finish, PlusPlus, MinusMinus}
+use Rattle.flame_expr.specs.declared.lexeme.Lexeme.TheVariants.{PlusSet, MinusSet, StarSet, SlashSet, PercentSet}
+use Rattle.flame_expr.specs.declared.lexeme.Lexeme.TheVariants.{Set, Open, Close, OpenBrace, CloseBrace, Comma}
+use Rattle.flame_expr.specs.declared.lexeme.Lexeme.TheVariants.{Semicolon, Arrow, Int, Void, If, Else, While, For}
+use Rattle.flame_expr.specs.declared.lexeme.Lexeme.TheVariants.{Do, Return, Break, Continue}
 use Rattle.flame_expr.specs.Lexemes.{lexeme_of}
 use Rattle.flame_expr.specs.Levels.{operators, signs}
 

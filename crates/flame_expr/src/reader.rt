@@ -10,7 +10,8 @@ ghost use Rattle.flame_expr.specs.Levels.{joins, op_of, sign_of};
 ghost use Rattle.flame_expr.specs.Steps as steps;
 ghost use Rattle.flame_expr.specs.Steps.{one_of, many, form, lexeme, expr};
 ghost use Rattle.flame_expr.specs.Grammar as grammar;
-ghost use Rattle.flame_expr.specs.Grammar.{Reads, Tail, Conjuncts, Disjuncts, Signs, Primary, Bracketed, Closed, all_parts, any_parts};
+ghost use Rattle.flame_expr.specs.Grammar.{Reads, Tail, Conjuncts, Disjuncts, Signs, Primary, Bracketed, Closed};
+ghost use Rattle.flame_expr.specs.Grammar.{all_parts, any_parts};
 ghost use Rattle.flame_expr.specs.Reader.{Ended, StopsBy};
 
 use crate::cursor::{expect, lexeme_at, line_at, number_at, syntax, text_at};
@@ -132,7 +133,8 @@ fn chain(alloc: Global, tokens: &[Token], at: usize, level: u32) -> Result<(Expr
     requires size { length tokens.now < 2 ^ 32 }
     requires within { at ≤ length tokens.now }
     ensures tree { IfOk result (λ r. Reads (suc level) (drop at tokens.now) (expression r.0) (drop r.1 tokens.now)) }
-    ensures ended { IfOk result (λ r. Ended (joins (suc level)) (form (steps.level (suc level)) ∷ []) tokens.now at r.1) }
+    ensures ended { IfOk result (λ r.
+        Ended (joins (suc level)) (form (steps.level (suc level)) ∷ []) tokens.now at r.1) }
     ensures ahead { IfOk result (λ r. at < r.1) }
     ensures stopped { IfErr result (StopsBy (joins (suc level)) (form (steps.level (suc level)) ∷ []) tokens.now at) }
 {

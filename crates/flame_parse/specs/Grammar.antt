@@ -1,9 +1,13 @@
 -- The grammar of statements and function files, by cases: tokens, what they are, and the tokens behind it.
 use Rattle.std.specs.Prelude.{◌≡◌, ℕ, pos, List, [], ◌∷◌, Option, Some, None}
 use Rattle.flame_ops.specs.declared.integers.Op.{Op}
-use Rattle.flame_spec.specs.Trees.{Expression, number, Expressions, no_parts, part, Declared, Assigned, Statement, empty, declare, assign, call, block, branch, while, for, do_while, loop_over, return, break, continue, Statements, no_more, also, Arms, no_arms, arm}
+use Rattle.flame_spec.specs.Trees.{Expression, number, Expressions, no_parts, part, Declared, Assigned, Statement}
+use Rattle.flame_spec.specs.Trees.{empty, declare, assign, call, block, branch, while, for, do_while, loop_over}
+use Rattle.flame_spec.specs.Trees.{return, break, continue, Statements, no_more, also, Arms, no_arms, arm}
 use Rattle.flame_lex.specs.declared.token.Token.{Token}
-use Rattle.flame_expr.specs.declared.lexeme.Lexeme.TheVariants.{Word, Start, Finish, Set, Open, Close, OpenBrace, CloseBrace, Comma, Semicolon, Int, Void, If, Else, While, For, Do, Return, Break, Continue}
+use Rattle.flame_expr.specs.declared.lexeme.Lexeme.TheVariants.{Word, Start, Finish, Set, Open, Close, OpenBrace}
+use Rattle.flame_expr.specs.declared.lexeme.Lexeme.TheVariants.{CloseBrace, Comma, Semicolon, Int, Void, If, Else}
+use Rattle.flame_expr.specs.declared.lexeme.Lexeme.TheVariants.{While, For, Do, Return, Break, Continue}
 use Rattle.flame_expr.specs.Lexemes.{first, text, line, behind}
 use Rattle.flame_expr.specs.Grammar.{Reads, Bracketed}
 use Rattle.flame_parse.specs.Operators.{set_op, step_op}
@@ -56,7 +60,13 @@ pub data Assignment : List Token → Assigned → List Token → Type 0 where
       {ts : List Token} {op : Op}
       → step_op (first ts) ≡ Some op → first (behind ts) ≡ Word
       → Assignment ts
-      (record { line = line (behind ts); name = text (behind ts); op = Some op; op_line = line ts; value = number (pos 1) })
+      (record {
+        line = line (behind ts);
+        name = text (behind ts);
+        op = Some op;
+        op_line = line ts;
+        value = number (pos 1);
+      })
       (behind (behind ts))
 
 -- ("," expr)*
@@ -179,7 +189,8 @@ mutual
     no_else : {rest : List Token} → Elses rest no_arms no_more rest
     else_if :
         {ts m n rest : List Token} {e : Expression} {ss os : Statements} {as' : Arms}
-        → first ts ≡ Else → first (behind ts) ≡ If → Bracketed (behind (behind ts)) e m → Body m ss n → Elses n as' os rest
+        → first ts ≡ Else → first (behind ts) ≡ If → Bracketed (behind (behind ts)) e m → Body m ss n
+        → Elses n as' os rest
         → Elses ts (arm e ss as') os rest
     an_else :
         {ts rest : List Token} {ss : Statements}

@@ -1,4 +1,5 @@
 pub mod Operators
+pub mod Parts
 pub mod Grammar
 pub mod Units
 pub mod Laws

@@ -3,7 +3,10 @@ use Rattle.std.specs.Prelude.{Bool, true, false, List, [], ◌∷◌, ◌++◌, 
 use Rattle.flame_ops.specs.declared.integers.Op.{Op}
 use Rattle.flame_ops.specs.declared.integers.Op.TheVariants.{Add, Sub, Mul, Div, Rem}
 use Rattle.flame_expr.specs.declared.lexeme.Lexeme.{Lexeme}
-use Rattle.flame_expr.specs.declared.lexeme.Lexeme.TheVariants.{Word, Start, PlusPlus, MinusMinus, PlusSet, MinusSet, StarSet, SlashSet, PercentSet, Set, OpenBrace, Comma, Semicolon, Int, If, Else, While, For, Do, Return, Break, Continue}
+use Rattle.flame_expr.specs.declared.lexeme.Lexeme.TheVariants.{Word, Start, PlusPlus, MinusMinus, PlusSet}
+use Rattle.flame_expr.specs.declared.lexeme.Lexeme.TheVariants.{MinusSet, StarSet, SlashSet, PercentSet, Set}
+use Rattle.flame_expr.specs.declared.lexeme.Lexeme.TheVariants.{OpenBrace, Comma, Semicolon, Int, If, Else, While}
+use Rattle.flame_expr.specs.declared.lexeme.Lexeme.TheVariants.{For, Do, Return, Break, Continue}
 use Rattle.flame_expr.specs.Levels.{joins}
 
 -- the operator before `=`, where the lexeme is `=` or ends in it

@@ -2,16 +2,18 @@
 //! production that it reads.
 
 ghost use Rattle.std.specs.Prelude.{◌≡◌, ◌+◌, ◌<◌, ◌≤◌, ◌^◌, [], ◌∷◌, length, drop, map, option_map, IfOk, IfErr};
-ghost use Rattle.flame_spec.specs.Seen as seen;
 ghost use Rattle.flame_spec.specs.Seen.{expression, expressions, declared, assigned, statement, statements};
 ghost use Rattle.flame_spec.specs.Trees.{also, no_more};
-ghost use Rattle.flame_expr.specs.declared.lexeme.Lexeme.TheVariants.{Set, Close, Semicolon, Open};
+ghost use Rattle.flame_expr.specs.declared.lexeme.Lexeme.TheVariants.{Set, Close, Semicolon};
 ghost use Rattle.flame_expr.specs.Lexemes.{first};
 ghost use Rattle.flame_expr.specs.Levels.{joins};
-ghost use Rattle.flame_expr.specs.Steps.{form, lexeme, both, maybe, either, expr, more_args, more_items, an_item, an_assign, a_decl, a_simple, some_args};
+ghost use Rattle.flame_expr.specs.Steps.{form, lexeme, both, maybe, expr, more_args, more_items};
+ghost use Rattle.flame_expr.specs.Steps.{an_item, an_assign, a_simple, some_args};
 ghost use Rattle.flame_expr.specs.Reader.{Ended, StopsBy};
 ghost use Rattle.flame_parse.specs.Operators.{joins_item, joins_items, joins_args};
-ghost use Rattle.flame_parse.specs.Grammar.{Value, Item as ItemRead, MoreItems, Items, Assignment, AssignedTo, MoreArgs, Args, Called, Simple, First, Test, Step, Heading};
+ghost use Rattle.flame_parse.specs.Parts.{first_symbols, head_symbols};
+ghost use Rattle.flame_parse.specs.Grammar.{Value, Item as ItemRead, MoreItems, Items, Assignment, AssignedTo};
+ghost use Rattle.flame_parse.specs.Grammar.{MoreArgs, Args, Called, Simple, First, Test, Step, Heading};
 
 use crate::operators::{set_operator, step_operator};
 use flame_expr::cursor::{expect, lexeme_at, line_at, syntax, text_at};
@@ -28,7 +30,7 @@ use std::alloc::Global;
 fn value(alloc: Global, tokens: &[Token], at: usize) -> Result<(Option<Expr>, usize), Fail>
     requires size { length tokens.now < 2 ^ 32 }
     requires within { at ≤ length tokens.now }
-    ensures tree { IfOk result (λ r. Value (drop at tokens.now) (option_map seen.expression r.0) (drop r.1 tokens.now)) }
+    ensures tree { IfOk result (λ r. Value (drop at tokens.now) (option_map expression r.0) (drop r.1 tokens.now)) }
     ensures ended { IfOk result (λ r. Ended joins_item (maybe (both (lexeme Set) expr) ∷ []) tokens.now at r.1) }
     ensures stopped { IfErr result (StopsBy joins_item (maybe (both (lexeme Set) expr) ∷ []) tokens.now at) }
 {
@@ -287,10 +289,11 @@ fn assigned_to(alloc: Global, tokens: &[Token], at: usize) -> Result<(Assign, us
 pub(crate) fn head(alloc: Global, tokens: &[Token], at: usize) -> Result<(Head, usize), Fail>
     requires size { length tokens.now < 2 ^ 32 }
     requires within { at ≤ length tokens.now }
-    ensures tree { IfOk result (λ r. Heading (drop at tokens.now) (statements r.0.first) (option_map expression r.0.test) (option_map assigned r.0.step) (drop r.1 tokens.now)) }
-    ensures ended { IfOk result (λ r. Ended [] (lexeme Open ∷ maybe (either (form an_assign) (form a_decl)) ∷ lexeme Semicolon ∷ maybe expr ∷ lexeme Semicolon ∷ maybe (form an_assign) ∷ lexeme Close ∷ []) tokens.now at r.1) }
+    ensures tree { IfOk result (λ r. Heading (drop at tokens.now) (statements r.0.first)
+        (option_map expression r.0.test) (option_map assigned r.0.step) (drop r.1 tokens.now)) }
+    ensures ended { IfOk result (λ r. Ended [] head_symbols tokens.now at r.1) }
     ensures ahead { IfOk result (λ r. at < r.1) }
-    ensures stopped { IfErr result (StopsBy [] (lexeme Open ∷ maybe (either (form an_assign) (form a_decl)) ∷ lexeme Semicolon ∷ maybe expr ∷ lexeme Semicolon ∷ maybe (form an_assign) ∷ lexeme Close ∷ []) tokens.now at) }
+    ensures stopped { IfErr result (StopsBy [] head_symbols tokens.now at) }
 {
     let inside = expect(tokens, at, Lexeme::Open)?;
     let (first, mid) = first(alloc, tokens, inside)?;
@@ -305,9 +308,9 @@ fn first(alloc: Global, tokens: &[Token], at: usize) -> Result<(Vec<Stmt>, usize
     requires size { length tokens.now < 2 ^ 32 }
     requires within { at ≤ length tokens.now }
     ensures tree { IfOk result (λ r. First (drop at tokens.now) (statements r.0.items) (drop r.1 tokens.now)) }
-    ensures ended { IfOk result (λ r. Ended [] (maybe (either (form an_assign) (form a_decl)) ∷ lexeme Semicolon ∷ []) tokens.now at r.1) }
+    ensures ended { IfOk result (λ r. Ended [] first_symbols tokens.now at r.1) }
     ensures ahead { IfOk result (λ r. at < r.1) }
-    ensures stopped { IfErr result (StopsBy [] (maybe (either (form an_assign) (form a_decl)) ∷ lexeme Semicolon ∷ []) tokens.now at) }
+    ensures stopped { IfErr result (StopsBy [] first_symbols tokens.now at) }
 {
     match lexeme_at(tokens, at) {
         Lexeme::Semicolon => Ok((Vec::new(alloc), at + 1)),

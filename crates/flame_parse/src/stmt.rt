@@ -128,7 +128,8 @@ fn branch(alloc: Global, tokens: &[Token], at: usize) -> Result<(Stmt, usize), F
 fn elses(alloc: Global, tokens: &[Token], at: usize) -> Result<(Vec<Arm>, Vec<Stmt>, usize), Fail>
     requires size { length tokens.now < 2 ^ 32 }
     requires within { at ≤ length tokens.now }
-    ensures tree { IfOk result (λ r. Elses (drop at tokens.now) (arms r.0.items) (statements r.1.items) (drop r.2 tokens.now)) }
+    ensures tree { IfOk result (λ r.
+        Elses (drop at tokens.now) (arms r.0.items) (statements r.1.items) (drop r.2 tokens.now)) }
     ensures ended { IfOk result (λ r. Ended joins_stmt (else_ifs ∷ else_body ∷ []) tokens.now at r.2) }
     ensures stopped { IfErr result (StopsBy joins_stmt (else_ifs ∷ else_body ∷ []) tokens.now at) }
 {
