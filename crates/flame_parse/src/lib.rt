@@ -6,4 +6,6 @@ mod operators;
 pub mod parse;
 mod simple;
 mod stmt;
+#[cfg(test)]
+mod tests;
 mod unit;
