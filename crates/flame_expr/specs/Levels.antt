@@ -1,4 +1,4 @@
--- The levels of binary operators: 0 stands for unary, 1 for prod, 2 for sum, 3 for rel, 4 for eq, 5 for and, 6 for expr.
+-- The levels of binary operators: 0 is unary, 1 prod, 2 sum, 3 rel, 4 eq, 5 and, 6 expr.
 use Rattle.std.specs.Prelude.{ℕ, zero, suc, List, [], ◌∷◌, ◌++◌, Option, Some, None}
 use Rattle.flame_ops.specs.declared.integers.Op as op
 use Rattle.flame_ops.specs.declared.integers.Op.TheVariants.{Add, Sub, Mul, Div, Rem, Lt, Gt, Le, Ge, Eq, Ne}

@@ -6,12 +6,15 @@ use Rattle.flame_expr.specs.declared.lexeme.TheConstants.{MARKS, KEYWORDS}
 use Rattle.flame_expr.specs.declared.lexeme.Lexeme.{Lexeme}
 use Rattle.flame_expr.specs.declared.lexeme.Lexeme.TheVariants.{Nothing, Word, Number, Start, Finish}
 
+-- the mark of this number, as the table has it; Spellings says that it is the mark of this spelling
 abbrev pub mark_of : ℕ → Lexeme
 mark_of number = slice_index_or MARKS number Nothing
 
+-- the keyword of this number, likewise
 abbrev pub keyword_of : ℕ → Lexeme
 keyword_of number = slice_index_or KEYWORDS number Nothing
 
+-- what a kind of token is to the grammar
 abbrev pub lexeme_of : Kind → Lexeme
 lexeme_of (Kind.Word text) = Word
 lexeme_of (Kind.Number n) = Number

@@ -1,4 +1,5 @@
 pub mod Lexemes
+pub mod Spellings
 pub mod Steps
 pub mod Levels
 pub mod Grammar
