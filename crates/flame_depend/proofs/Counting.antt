@@ -1,12 +1,12 @@
 -- Counts of open predecessors.
-use Rattle.std.proofs.Common.{◌≡◌, ℕ, zero, suc, ◌+◌, ◌<◌, ◌≤◌, List, [], ◌∷◌, ◌++◌, length, take, get_or, refl, sym, ap, ◌∙◌, arith, true, false, Bool, not, Some, None, Option, cond, ⊎_elim, slice_index}
+use Rattle.std.proofs.Common.{◌≡◌, ℕ, zero, suc, ◌+◌, ◌<◌, ◌≤◌, List, [], ◌∷◌, ◌++◌, length, get_or, refl, sym, ap, ◌∙◌, arith, true, false, Bool, not, Some, None, Option, cond, ⊎_elim, slice_index}
 use Rattle.std.specs.Prelude.{◌==◌, ◌&&◌, ◌||◌, is_none, nat_lt}
 use Rattle.std.specs.Option.{option_or}
-use Rattle.std.specs.List.{All, list_any}
-use Rattle.std.proofs.lemmas.Bool.{eq-eqb, ne_eqb, eqb-true, cases_eq, cases_lt, lt-ltb, le-ltb, ltb-true, and_parts, true≢false, false≢true}
+use Rattle.std.specs.List.{All}
+use Rattle.std.proofs.lemmas.Bool.{eq-eqb, ne_eqb, eqb-true, cases_eq, cases_lt, lt-ltb, le-ltb, ltb-true, and_parts}
 use Rattle.std.proofs.lemmas.List.Folds.{list_any_at}
 use Rattle.flame_spec.specs.Below.{all_below, first_below, is_in, times}
-use Rattle.flame_spec.specs.ModelOrder.{open_before, is_ready}
+use Rattle.flame_spec.specs.ModelOrder.{is_ready}
 use Rattle.flame_spec.proofs.FirstBelow.{one, or_true, is_in_push, is_in-all_below, times-all_below}
 use Rattle.flame_spec.proofs.Orders.{Relation, IsOrder, taken_ready}
 use Rattle.flame_depend.specs.Graph.{open_count, AreWaiting}

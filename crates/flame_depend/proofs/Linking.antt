@@ -1,7 +1,6 @@
 -- What the tables say is what stands before.
-use Rattle.std.proofs.Common.{◌≡◌, ℕ, suc, ◌+◌, ◌<◌, ◌≤◌, List, [], ◌∷◌, ◌++◌, length, take, drop, refl, sym, ap, ◌∙◌, arith, true, false, Bool, Some, None, Option, cond}
-use Rattle.std.specs.Prelude.{◌==◌, ◌&&◌, ◌||◌, nat_lt, slice_get}
-use Rattle.std.specs.Str.{bytes_eq}
+use Rattle.std.proofs.Common.{◌≡◌, ℕ, suc, ◌+◌, ◌<◌, List, [], ◌∷◌, ◌++◌, length, take, drop, refl, sym, ap, ◌∙◌, arith, true, false, Bool, Some, None, Option, cond}
+use Rattle.std.specs.Prelude.{◌&&◌, ◌||◌, slice_get}
 use Rattle.std.specs.List.{list_any}
 use Rattle.std.proofs.lemmas.Bool.{le-ltb}
 use Rattle.std.proofs.lemmas.List.{append-nil, drop_all, take_all}
@@ -10,7 +9,7 @@ use Rattle.flame_spec.specs.Functions.{Place}
 use Rattle.flame_spec.specs.Below.{all_below, is_in}
 use Rattle.flame_spec.specs.Before.{both_stand, before_among}
 use Rattle.flame_spec.proofs.FirstBelow.{is_in-all_below}
-use Rattle.flame_depend.specs.Marks.{marked, marked_where}
+use Rattle.flame_depend.specs.Marks.{marked_where}
 use Rattle.flame_depend.specs.Tables.{Table, listed}
 use Rattle.flame_depend.specs.Links.{adds_at, enters_at, listed_at, IsAdding, AreEntering, is_linked}
 use Rattle.flame_depend.proofs.Marking.{marked_new}

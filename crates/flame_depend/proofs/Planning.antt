@@ -1,6 +1,6 @@
 -- What holds of the lists holds of the model.
-use Rattle.std.proofs.Common.{◌≡◌, ℕ, suc, ◌+◌, ◌<◌, ◌≤◌, List, [], ◌∷◌, ◌++◌, length, take, drop, get_or, map, refl, sym, ap, ◌∙◌, subst, arith, true, false, Bool, not, Some, None, Option, cond}
-use Rattle.std.specs.Prelude.{◌==◌, ◌&&◌, nat_lt}
+use Rattle.std.proofs.Common.{◌≡◌, ℕ, ◌+◌, ◌<◌, ◌≤◌, List, [], ◌∷◌, length, drop, get_or, map, refl, sym, ap, ◌∙◌, subst, arith, not, Some, cond}
+use Rattle.std.specs.Prelude.{◌&&◌}
 use Rattle.std.proofs.lemmas.Bool.{le-ltb}
 use Rattle.std.proofs.lemmas.List.{drop_more}
 use Rattle.flame_spec.specs.declared.model.Model.{Model}
@@ -8,7 +8,7 @@ use Rattle.flame_spec.specs.declared.model.AgentType.{AgentType}
 use Rattle.flame_spec.specs.Before.{before, function_count}
 use Rattle.flame_spec.specs.Below.{first_below, is_in}
 use Rattle.flame_spec.specs.States.{start_states, many_from}
-use Rattle.flame_spec.specs.ModelOrder.{order, first_left, step_back, from_there, walk_back, begun_with_least, cycle_from, cycle}
+use Rattle.flame_spec.specs.ModelOrder.{order, first_left, from_there, walk_back, begun_with_least, cycle_from, cycle}
 use Rattle.flame_spec.proofs.FirstBelow.{first_agree}
 use Rattle.flame_spec.proofs.Orders.{Relation}
 use Rattle.flame_depend.specs.Links.{AreSuccessors}

@@ -1,8 +1,7 @@
 -- Heights along the model order.
-use Rattle.std.proofs.Common.{◌≡◌, ℕ, zero, suc, ◌+◌, ◌<◌, ◌≤◌, List, [], ◌∷◌, ◌++◌, length, take, get_or, refl, sym, ap, ◌∙◌, subst, arith, true, false, Bool, None, cond, ⊎_elim, max}
+use Rattle.std.proofs.Common.{◌≡◌, ℕ, ◌+◌, ◌<◌, ◌≤◌, List, [], ◌∷◌, ◌++◌, length, take, get_or, refl, sym, ap, ◌∙◌, subst, arith, true, false, Bool, None, cond, ⊎_elim, max}
 use Rattle.std.specs.Prelude.{◌==◌, ◌||◌}
-use Rattle.std.proofs.lemmas.Bool.{eq-eqb, ne_eqb, eqb-true, false≢true, cases_eq, or_cases, cases_order}
-use Rattle.std.proofs.lemmas.List.Folds.{list_any_at}
+use Rattle.std.proofs.lemmas.Bool.{eq-eqb, eqb-true, false≢true, or_cases}
 use Rattle.flame_spec.specs.Below.{is_in}
 use Rattle.flame_spec.specs.ModelOrder.{order, first_left}
 use Rattle.flame_spec.specs.Layers.{above, layer}

@@ -1,15 +1,14 @@
 -- The next function is taken.
-use Rattle.std.proofs.Common.{◌≡◌, ℕ, zero, suc, ◌+◌, ◌-◌, ◌<◌, ◌≤◌, List, [], ◌∷◌, ◌++◌, length, refl, sym, ap, ◌∙◌, subst, arith, true, false, Bool, not, Some, None, Option, cond, ⊎_elim, slice_index}
+use Rattle.std.proofs.Common.{◌≡◌, ℕ, suc, ◌+◌, ◌-◌, ◌<◌, ◌≤◌, List, [], ◌∷◌, ◌++◌, length, refl, sym, ap, ◌∙◌, arith, true, false, Bool, not, Some, None, ⊎_elim, slice_index}
 use Rattle.std.specs.Prelude.{◌==◌, ◌&&◌, ◌||◌, nat_lt}
-use Rattle.std.proofs.lemmas.Bool.{eq-eqb, ne_eqb, eqb-true, cases_eq, cases_lt, lt-ltb, le-ltb, ltb-true, and_parts, and_from, true≢false, false≢true, cases_Bool}
+use Rattle.std.proofs.lemmas.Bool.{eq-eqb, ne_eqb, cases_lt, lt-ltb, le-ltb, ltb-true, and_parts, false≢true, cases_Bool}
 use Rattle.flame_spec.specs.Below.{all_below, is_in, times}
-use Rattle.flame_spec.specs.ModelOrder.{next, with_next, order_after, order, is_ready}
+use Rattle.flame_spec.specs.ModelOrder.{next, with_next, order_after, is_ready}
 use Rattle.flame_spec.proofs.FirstBelow.{one, none_is, first_is, is_in_push, is_in-all_below}
-use Rattle.flame_spec.proofs.Orders.{Relation, IsOrder, IsNext, next_is_next}
+use Rattle.flame_spec.proofs.Orders.{Relation, IsOrder, IsNext}
 use Rattle.flame_depend.specs.Graph.{open_count, AreWaiting}
 use Rattle.flame_depend.specs.Ready.{IsFirstOf}
 use Rattle.flame_depend.proofs.Counting.{count_ready, count_push, taken_count, times_passing, in_passing}
-use Rattle.flame_depend.proofs.Gets.{or_false}
 
 -- r lists the functions that are ready and not taken
 abbrev pub AreReady : ℕ → Relation → List ℕ → List ℕ → Type 0

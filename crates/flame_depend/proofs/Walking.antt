@@ -1,12 +1,12 @@
 -- Steps of the way back.
-use Rattle.std.proofs.Common.{◌≡◌, ℕ, zero, suc, ◌+◌, ◌-◌, ◌<◌, ◌≤◌, List, [], ◌∷◌, ◌++◌, length, take, drop, get_or, set, refl, sym, ap, ◌∙◌, subst, arith, true, false, Bool, not, Some, None, Option, cond, ⊎_elim, slice_index}
-use Rattle.std.specs.Prelude.{◌==◌, ◌&&◌, ◌||◌, nat_lt, slice_index_or}
+use Rattle.std.proofs.Common.{◌≡◌, ℕ, suc, ◌+◌, ◌-◌, ◌<◌, ◌≤◌, List, [], ◌∷◌, ◌++◌, length, take, drop, get_or, set, refl, sym, ap, ◌∙◌, arith, true, false, Bool, not, Some, None, Option, cond, ⊎_elim}
+use Rattle.std.specs.Prelude.{◌==◌, ◌&&◌, ◌||◌, slice_index_or}
 use Rattle.std.specs.List.{position_or_len}
 use Rattle.std.specs.Option.{option_or}
-use Rattle.std.proofs.lemmas.Bool.{eq-eqb, ne_eqb, cases_eq, cases_lt, cases_Bool, lt-ltb, le-ltb}
+use Rattle.std.proofs.lemmas.Bool.{eq-eqb, ne_eqb, cases_eq, cases_lt, cases_Bool, le-ltb}
 use Rattle.std.proofs.lemmas.List.{get_or-set_same, get_or-set_other, length-set, get_or_past}
-use Rattle.flame_spec.specs.Below.{all_below, first_below, is_in}
-use Rattle.flame_spec.specs.ModelOrder.{order, open_before, step_back, from_there, repeated_part, walk_back, least_of, begun_with_least}
+use Rattle.flame_spec.specs.Below.{first_below, is_in}
+use Rattle.flame_spec.specs.ModelOrder.{order, step_back, from_there, repeated_part, walk_back, least_of, begun_with_least}
 use Rattle.flame_spec.proofs.FirstBelow.{first_is_first, none_is, first_agree, is_in_push, is_in_self, is_in-all_below}
 use Rattle.flame_spec.proofs.Orders.{Relation, order_is_order, left_is_unready}
 use Rattle.flame_depend.specs.Graph.{follows, AreAscending, AreWaiting, open_count}

@@ -1,5 +1,4 @@
 -- The functions of a model as the code lists them.
-use Rattle.std.specs.Prelude.{ℕ}
 use Rattle.flame_spec.specs.Functions.{Place, at_type}
 use Rattle.flame_depend.specs.declared.place.Placed.{Placed}
 

@@ -3,7 +3,7 @@ use Rattle.std.proofs.Common.{◌≡◌, ◌+◌, ◌<◌, ◌++◌, ◌∷◌, 
 use Rattle.std.proofs.lemmas.List.{drop_more, length-map, length-append}
 use Rattle.flame_spec.specs.declared.model.AgentType.{AgentType}
 use Rattle.flame_spec.specs.declared.model.Function.{Function}
-use Rattle.flame_spec.specs.Functions.{Place, at_type, functions_from}
+use Rattle.flame_spec.specs.Functions.{at_type, functions_from}
 use Rattle.flame_depend.proofs.counted.is_counted.Goals as goal
 
 pub loop-agent-preserved : goal.loop-agent-preserved

@@ -1,6 +1,5 @@
 -- The first one that passes.
-use Rattle.std.proofs.Common.{◌≡◌, get_or, ap, sym, not, true}
-use Rattle.std.specs.Prelude.{◌==◌}
+use Rattle.std.proofs.Common.{get_or, ap, sym, not}
 use Rattle.std.proofs.lemmas.Bool.{ne_eqb}
 use Rattle.flame_spec.proofs.FirstBelow.{first_is, none_fails}
 use Rattle.flame_depend.specs.Backs.{waits}

@@ -1,10 +1,8 @@
 -- The code's way back is that of the definition.
-use Rattle.std.proofs.Common.{◌≡◌, ℕ, [], ◌+◌, ◌<◌, List, Option, Some, length, ap, sym, ◌∙◌, subst, arith}
-use Rattle.std.specs.Prelude.{◌&&◌}
-use Rattle.flame_spec.specs.Below.{first_below}
+use Rattle.std.proofs.Common.{ℕ, [], ◌+◌, Option, length, ap, sym, ◌∙◌, arith}
 use Rattle.flame_spec.specs.ModelOrder.{walk_back, begun_with_least}
 use Rattle.flame_depend.specs.Graph.{follows}
-use Rattle.flame_depend.specs.Backs.{waits, back_from}
+use Rattle.flame_depend.specs.Backs.{back_from}
 use Rattle.flame_depend.proofs.Walking.{back_within, backs_are}
 use Rattle.flame_depend.proofs.cycle.meet_cycle.Goals as goal
 

@@ -1,6 +1,6 @@
 -- One function more.
-use Rattle.std.proofs.Common.{◌≡◌, ℕ, ◌+◌, ◌<◌, List, Option, None, length, get_or, not, ap, sym, ◌∙◌, subst, arith, true, false, refl}
-use Rattle.std.specs.Prelude.{◌==◌, ◌&&◌}
+use Rattle.std.proofs.Common.{◌≡◌, ℕ, ◌+◌, ◌<◌, List, Option, length, get_or, not, ap, sym, ◌∙◌, subst, arith, true, false, refl}
+use Rattle.std.specs.Prelude.{◌&&◌}
 use Rattle.std.specs.List.{All}
 use Rattle.std.proofs.lemmas.Bool.{eq-eqb, ne_eqb}
 use Rattle.flame_spec.specs.Below.{is_in}

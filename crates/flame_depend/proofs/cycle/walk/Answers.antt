@@ -1,10 +1,10 @@
 -- One step more.
-use Rattle.std.proofs.Common.{◌≡◌, ℕ, [], ◌∷◌, ◌++◌, ◌+◌, ◌-◌, ◌<◌, List, Bool, true, false, Some, None, length, get_or, set, ap, sym, ◌∙◌, subst, arith, IfOk}
+use Rattle.std.proofs.Common.{◌≡◌, ℕ, [], ◌∷◌, ◌++◌, ◌+◌, ◌-◌, List, true, false, length, set, ap, sym, ◌∙◌, subst, arith, IfOk}
 use Rattle.std.proofs.lemmas.List.{get_or_read}
 use Rattle.flame_spec.specs.Below.{is_in}
 use Rattle.flame_spec.specs.ModelOrder.{walk_back, from_there, repeated_part}
 use Rattle.flame_depend.specs.Backs.{back_from, AreSeen}
-use Rattle.flame_depend.proofs.Walking.{walk_more, walk_repeats, walk_end, seen_more}
+use Rattle.flame_depend.proofs.Walking.{walk_more, walk_repeats, seen_more}
 use Rattle.flame_depend.proofs.cycle.walk.Goals as goal
 
 pub returns-then-index : goal.returns-then-index

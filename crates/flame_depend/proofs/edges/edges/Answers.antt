@@ -3,9 +3,8 @@ use Rattle.std.proofs.Common.{◌≡◌, ℕ, List, length, map, ap, sym, ◌∙
 use Rattle.std.proofs.lemmas.List.{length-map}
 use Rattle.flame_spec.specs.declared.model.AgentType.{AgentType}
 use Rattle.flame_spec.specs.Functions.{Place, functions}
-use Rattle.flame_spec.specs.Before.{before, function_count}
+use Rattle.flame_spec.specs.Before.{function_count}
 use Rattle.flame_depend.specs.Shown.{shown}
-use Rattle.flame_depend.specs.Links.{AreSuccessors}
 use Rattle.flame_depend.specs.Graph.{follows, AreAscending}
 use Rattle.flame_depend.specs.Edges.{edges_below}
 use Rattle.flame_depend.proofs.Following.{follows_model, ascending_model, model_successors, of_types}

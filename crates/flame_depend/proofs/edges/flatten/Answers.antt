@@ -1,6 +1,5 @@
 -- The edges of one list more.
-use Rattle.std.proofs.Common.{◌≡◌, ℕ, suc, ◌+◌, ◌++◌, length, ap, sym, ◌∙◌, arith}
-use Rattle.flame_spec.specs.Below.{all_below}
+use Rattle.std.proofs.Common.{◌≡◌, suc, ◌+◌, ◌++◌, length, ap, ◌∙◌, arith}
 use Rattle.flame_depend.specs.Graph.{follows}
 use Rattle.flame_depend.specs.Edges.{edges_to, edges_below}
 use Rattle.flame_depend.proofs.Following.{list_is}

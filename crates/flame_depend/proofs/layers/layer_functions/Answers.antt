@@ -1,9 +1,9 @@
 -- One function more, all of whose predecessors have their layers.
-use Rattle.std.proofs.Common.{◌≡◌, ℕ, [], ◌∷◌, ◌++◌, ◌+◌, ◌<◌, ◌≤◌, List, length, take, get_or, ap, sym, ◌∙◌, subst, arith, slice_index, max, Bool, true, false}
+use Rattle.std.proofs.Common.{◌≡◌, ℕ, [], ◌+◌, ◌<◌, ◌≤◌, List, length, take, get_or, ap, sym, ◌∙◌, subst, arith, slice_index, Bool, true, false}
 use Rattle.std.specs.List.{All}
 use Rattle.std.proofs.lemmas.List.{take_more, take_all, get_or_read}
 use Rattle.std.proofs.lemmas.List.FromFn.{fill_by_all}
-use Rattle.flame_spec.specs.Below.{all_below, is_in}
+use Rattle.flame_spec.specs.Below.{is_in}
 use Rattle.flame_spec.specs.ModelOrder.{order}
 use Rattle.flame_spec.specs.Layers.{layer}
 use Rattle.flame_spec.proofs.Orders.{IsOrder, order_is_order, order_length}

@@ -1,5 +1,5 @@
 -- One function more.
-use Rattle.std.proofs.Common.{◌≡◌, ap, ◌∙◌, refl, take, map}
+use Rattle.std.proofs.Common.{ap, ◌∙◌, refl, take, map}
 use Rattle.std.specs.Prelude.{◌==◌, ◌&&◌, ◌||◌, slice_get}
 use Rattle.std.specs.List.{list_any}
 use Rattle.std.specs.Str.{bytes_eq}

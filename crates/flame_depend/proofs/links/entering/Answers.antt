@@ -1,6 +1,5 @@
 -- One function more.
-use Rattle.std.proofs.Common.{◌≡◌, ℕ, ◌<◌, ◌++◌, ◌∷◌, [], List, Option, ap, ◌∙◌, subst, map, arith, cond}
-use Rattle.std.specs.Prelude.{slice_get}
+use Rattle.std.proofs.Common.{◌<◌, ◌++◌, ◌∷◌, [], Option, ap, ◌∙◌, subst, map, arith, cond}
 use Rattle.std.specs.Str.{bytes_eq}
 use Rattle.flame_spec.specs.Functions.{Place}
 use Rattle.flame_depend.specs.Shown.{shown}

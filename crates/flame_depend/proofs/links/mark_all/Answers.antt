@@ -1,5 +1,5 @@
 -- One source more.
-use Rattle.std.proofs.Common.{◌≡◌, ℕ, [], ◌<◌, length, get_or, set, take, ap, sym, ◌∙◌, subst, arith, true, refl, ⊎_elim, ◌+◌}
+use Rattle.std.proofs.Common.{◌≡◌, [], ◌<◌, length, get_or, set, take, ap, sym, ◌∙◌, arith, true, refl, ⊎_elim, ◌+◌}
 use Rattle.std.specs.Prelude.{◌==◌, ◌||◌}
 use Rattle.std.proofs.lemmas.Bool.{eq-eqb, ne_eqb, cases_eq}
 use Rattle.std.proofs.lemmas.List.{get_or-set_same, get_or-set_other, get_or_default, length-set}

@@ -1,14 +1,13 @@
 -- One function more.
-use Rattle.std.proofs.Common.{◌≡◌, ℕ, [], ◌<◌, ◌+◌, List, Option, length, get_or, take, map, ap, sym, ◌∙◌, subst, arith, true, false, Bool, Some, None, refl, ⊎_elim}
+use Rattle.std.proofs.Common.{◌≡◌, ℕ, [], ◌<◌, List, Option, length, get_or, map, ap, sym, ◌∙◌, subst, arith, true, false, Bool, None, refl, ⊎_elim}
 use Rattle.std.specs.Prelude.{slice_get}
 use Rattle.std.proofs.lemmas.Bool.{false≢true, cases_lt}
 use Rattle.std.proofs.lemmas.List.{length-map}
 use Rattle.flame_spec.specs.Functions.{Place}
-use Rattle.flame_spec.specs.Below.{is_in, all_below}
+use Rattle.flame_spec.specs.Below.{is_in}
 use Rattle.flame_spec.specs.Before.{before_among}
 use Rattle.flame_depend.specs.Shown.{shown}
 use Rattle.flame_depend.specs.Marks.{marked_where}
-use Rattle.flame_depend.specs.Tables.{listed}
 use Rattle.flame_depend.specs.Links.{IsOfTypes, adds_at, enters_at, listed_at, is_linked}
 use Rattle.flame_depend.proofs.Gets.{shown_at, read_at, slice_get_past}
 use Rattle.flame_depend.proofs.Linking.{linked_is, linked_more, whole}

@@ -1,7 +1,7 @@
 -- The counts of one list more.
-use Rattle.std.proofs.Common.{◌≡◌, ℕ, [], ◌+◌, ◌<◌, ◌≤◌, List, length, get_or, ap, sym, ◌∙◌, subst, arith, slice_index}
+use Rattle.std.proofs.Common.{◌≡◌, ℕ, [], ◌+◌, ◌<◌, List, length, ap, sym, ◌∙◌, subst, arith, slice_index}
 use Rattle.std.specs.List.{All}
-use Rattle.flame_spec.specs.Below.{all_below, times}
+use Rattle.flame_spec.specs.Below.{times}
 use Rattle.flame_depend.specs.Graph.{follows, AreWaiting}
 use Rattle.flame_depend.proofs.Counting.{below_all, count_small, waiting_more}
 use Rattle.flame_depend.proofs.Following.{list_is}

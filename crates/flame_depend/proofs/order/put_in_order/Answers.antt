@@ -1,5 +1,5 @@
 -- One turn more.
-use Rattle.std.proofs.Common.{◌≡◌, ℕ, [], ◌∷◌, ◌++◌, ◌+◌, ◌-◌, ◌<◌, ◌≤◌, List, Option, length, get_or, ap, sym, ◌∙◌, subst, arith, slice_index, None, Some}
+use Rattle.std.proofs.Common.{◌≡◌, ℕ, [], ◌∷◌, ◌++◌, ◌+◌, ◌-◌, ◌<◌, List, length, ap, sym, ◌∙◌, subst, arith, slice_index}
 use Rattle.std.specs.Prelude.{◌==◌, ◌&&◌, ◌||◌}
 use Rattle.std.specs.List.{All}
 use Rattle.flame_spec.specs.Below.{all_below, is_in, times}
@@ -9,7 +9,7 @@ use Rattle.flame_depend.specs.Graph.{follows, AreWaiting}
 use Rattle.flame_depend.proofs.Counting.{below_all}
 use Rattle.flame_depend.proofs.Following.{list_is}
 use Rattle.flame_depend.proofs.Linking.{whole}
-use Rattle.flame_depend.proofs.Turns.{AreReady, next_none, next_some, turn_enough, turn_counts, turn_ready, order_more, order_end}
+use Rattle.flame_depend.proofs.Turns.{AreReady, next_none, next_some, turn_enough, turn_counts, turn_ready, order_more}
 use Rattle.flame_depend.proofs.order.put_in_order.Goals as goal
 
 pub returns-in-None-clause-order : goal.returns-in-None-clause-order

@@ -1,13 +1,13 @@
 -- The lists are those of the model, and who waits at the end is left over.
-use Rattle.std.proofs.Common.{◌≡◌, ℕ, List, [], ◌+◌, ◌<◌, Bool, Option, Some, None, length, map, ap, sym, ◌∙◌, subst, arith}
+use Rattle.std.proofs.Common.{◌≡◌, ℕ, List, [], ◌+◌, Bool, Option, Some, None, length, map, ap, sym, ◌∙◌, subst, arith}
 use Rattle.std.specs.Prelude.{◌&&◌, is_some}
 use Rattle.std.proofs.lemmas.List.{length-map}
 use Rattle.flame_spec.specs.declared.model.Model.{Model}
 use Rattle.flame_spec.specs.declared.model.AgentType.{AgentType}
-use Rattle.flame_spec.specs.Functions.{Place, functions}
+use Rattle.flame_spec.specs.Functions.{functions}
 use Rattle.flame_spec.specs.Before.{before, before_among, function_count}
 use Rattle.flame_spec.specs.Below.{first_below}
-use Rattle.flame_spec.specs.ModelOrder.{order, first_left, cycle, walk_back, begun_with_least, model_order, left_over, model_cycle}
+use Rattle.flame_spec.specs.ModelOrder.{order, first_left, cycle, walk_back, begun_with_least}
 use Rattle.flame_spec.proofs.FirstBelow.{first_is_first}
 use Rattle.flame_depend.specs.declared.place.Placed.{Placed}
 use Rattle.flame_depend.specs.Shown.{shown}

@@ -1,5 +1,5 @@
 -- The lists are those of the model.
-use Rattle.std.proofs.Common.{◌≡◌, ℕ, List, ◌<◌, length, map, ap, sym, ◌∙◌, subst}
+use Rattle.std.proofs.Common.{◌≡◌, List, ◌<◌, length, map, ap, sym, ◌∙◌, subst}
 use Rattle.std.specs.List.{All}
 use Rattle.flame_spec.specs.declared.model.AgentType.{AgentType}
 use Rattle.flame_spec.specs.States.{start_states}

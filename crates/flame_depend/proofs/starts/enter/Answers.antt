@@ -1,7 +1,6 @@
 -- One text more.
-use Rattle.std.proofs.Common.{◌≡◌, ap, ◌∙◌, not, true, string_bytes}
+use Rattle.std.proofs.Common.{ap, ◌∙◌, not, true, string_bytes}
 use Rattle.std.specs.Prelude.{◌||◌}
-use Rattle.std.specs.List.{list_any}
 use Rattle.std.specs.Str.{bytes_eq}
 use Rattle.std.specs.HashSet.{contains_text}
 use Rattle.std.proofs.lemmas.Map.Text.{hash_set_updates_text}

@@ -1,12 +1,12 @@
 -- One function more.
-use Rattle.std.proofs.Common.{◌≡◌, ℕ, List, [], ◌∷◌, ◌++◌, ◌+◌, drop, ap, sym, ◌∙◌, subst, not, true, false, cond}
+use Rattle.std.proofs.Common.{◌≡◌, ℕ, List, [], ◌∷◌, ◌++◌, ◌+◌, drop, ap, sym, ◌∙◌, not, true, false, cond}
 use Rattle.std.specs.Prelude.{◌||◌, filter}
 use Rattle.std.specs.Str.{bytes_eq}
 use Rattle.std.specs.HashSet.{contains_text}
 use Rattle.std.proofs.lemmas.Bool.{not-false}
 use Rattle.std.proofs.lemmas.List.{append_assoc, append-nil, drop_all}
 use Rattle.flame_spec.specs.KnownNames.{is_among}
-use Rattle.flame_spec.specs.States.{distinct_after, ends, is_entered, start_states}
+use Rattle.flame_spec.specs.States.{distinct_after, ends, is_entered}
 use Rattle.flame_depend.proofs.Gets.{or_false}
 use Rattle.flame_depend.proofs.Linking.{or_assoc}
 use Rattle.flame_depend.proofs.Distinct.{unentered, starts_are, starts_more, is_among-push, there_already}

@@ -1,5 +1,5 @@
 -- The set has one function more.
-use Rattle.std.proofs.Common.{◌≡◌, ap, ◌∙◌}
+use Rattle.std.proofs.Common.{ap, ◌∙◌}
 use Rattle.std.specs.Prelude.{◌==◌, ◌||◌}
 use Rattle.flame_spec.specs.Below.{is_in}
 use Rattle.flame_depend.proofs.ReadySets.{added_is}
