@@ -1,9 +1,8 @@
 -- The first fault of lists of faults.
-use Rattle.std.proofs.Common.{◌≡◌, ℕ, List, [], ◌∷◌, ◌++◌, true, Some, Result, Ok, Err, refl, sym, ◌∙◌, subst}
+use Rattle.std.proofs.Common.{◌≡◌, ℕ, List, [], ◌∷◌, ◌++◌, true, Result, Ok, Err, refl, sym, ◌∙◌, subst}
 use Rattle.std.specs.Prelude.{IfOk, IfErr}
 use Rattle.serde_json.specs.Data.{Data}
 use Rattle.std.specs.Result.{IsErrAnd}
-use Rattle.flame_spec.specs.Lists.{first}
 use Rattle.flame_xmml.specs.declared.fault.Shape.{Shape}
 use Rattle.flame_xmml.specs.declared.fault.Fail.{Fail}
 use Rattle.flame_xmml.specs.declared.fault.Fail.TheVariants.{Fault, NoMemory}

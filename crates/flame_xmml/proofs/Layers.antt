@@ -1,11 +1,10 @@
 -- A condition opened by one layer.
-use Rattle.std.proofs.Common.{◌≡◌, ℕ, suc, max, ◌<◌, ◌≤◌, List, Bool, true, false, Option, Some, None, cond, refl}
+use Rattle.std.proofs.Common.{◌≡◌, ℕ, max, ◌<◌, ◌≤◌, List, Bool, true, false, Option, Some, None, cond, refl}
 use Rattle.std.proofs.Common.{sym, ap, ◌∙◌, codes, arith}
 use Rattle.std.specs.Prelude.{Box, unwrap_or}
 use Rattle.std.specs.declared.alloc.Global.{Global}
 use Rattle.std.specs.Ordering.{nat_cmp, match_ordering}
 use Rattle.std.specs.Cmp.Lexicographic.{slice_cmp}
-use Rattle.std.specs.declared.cmp.Ordering.{Ordering}
 use Rattle.std.specs.declared.cmp.Ordering.TheVariants.{Less, Equal, Greater}
 use Rattle.serde_json.specs.Data.{Data, null, boolean, number, string, array, object, Members, no_members, member}
 use Rattle.serde_json.specs.Data.{depth, members_depth}
@@ -14,7 +13,6 @@ use Rattle.flame_spec.specs.declared.condition.Condition.{Condition, roll-Condit
 use Rattle.flame_spec.specs.declared.condition.Condition.TheVariants.{Not, rolls-Not}
 use Rattle.flame_spec.specs.declared.condition.Condition.TheFolds.{fold-roll-Condition}
 use Rattle.flame_spec.specs.declared.condition.Condition.TheOpen.{Condition-F}
-use Rattle.flame_xmml.specs.declared.fault.Shape.{Shape}
 use Rattle.flame_xmml.specs.declared.fault.Want.TheVariants.{Condition as ConditionWant}
 use Rattle.flame_xmml.specs.Parts.{part, has, is_object, object_of, wanted, required}
 use Rattle.flame_xmml.specs.Bare.{boxed, bare_step, bare_condition}

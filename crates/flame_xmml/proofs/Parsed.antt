@@ -1,17 +1,17 @@
 -- What `parse` reads of a text that does not begin with `+`.
-use Rattle.std.proofs.Common.{◌≡◌, ◌≢◌, ℕ, zero, suc, ◌+◌, ◌<◌, ◌≤◌, ◌^◌, List, [], ◌∷◌, length, drop, get_or, Bool}
-use Rattle.std.proofs.Common.{true, false, cond, ◌&&◌, nat_eq, nat_lt, nat_le, Option, Some, None, refl, sym, ap}
+use Rattle.std.proofs.Common.{◌≡◌, ◌≢◌, ℕ, zero, suc, ◌<◌, ◌≤◌, ◌^◌, List, length, drop, get_or, Bool}
+use Rattle.std.proofs.Common.{true, false, cond, ◌&&◌, nat_eq, nat_lt, Some, None, refl}
 use Rattle.std.proofs.Common.{arith, rules, ltb-true, leb-true, lt-ltb, le-leb, ne_eqb, Result, Ok, Err}
 use Rattle.std.specs.Prelude.{ℤ, pos, neg_ℤ, option_and_then}
 use Rattle.std.specs.Result.{OkIff, result_ok}
 use Rattle.std.specs.List.{list_all}
 use Rattle.std.specs.Char.{is_ascii_digit}
 use Rattle.std.specs.Int.{w32}
-use Rattle.std.specs.Str.Parse.{ParsesSigned, digits_value, starts_with_minus}
+use Rattle.std.specs.Str.Parse.{ParsesSigned, digits_value}
 use Rattle.std.proofs.lemmas.Bool.{and_parts, and_from, eqb-true, eqb-false}
 use Rattle.std.proofs.lemmas.Str.Parse.{IsNumeralModel, numerals_by_value, parse_signed_plain, parse_signed_minus}
 use Rattle.flame_ops.specs.Integers.{is_int}
-use Rattle.flame_xmml.specs.Wants.{held, whole_named, is_whole}
+use Rattle.flame_xmml.specs.Wants.{held, whole_named}
 
 own : IsNumeralModel (λ digits. list_all is_ascii_digit digits ≡ true) (digits_value 10)
 own = numerals_by_value _ (search rules)

@@ -1,5 +1,5 @@
 -- What `strip_prefix` leaves of a text.
-use Rattle.std.proofs.Common.{◌≡◌, ℕ, List, length, drop, Option, Some, None, true, false, cond, Bor, refl, sym}
+use Rattle.std.proofs.Common.{◌≡◌, ℕ, List, Option, Some, None, true, false, Bor, refl, sym}
 use Rattle.std.proofs.Common.{subst, nat_eq}
 use Rattle.std.specs.Prelude.{option_map, MatchOption}
 use Rattle.std.specs.List.{starts_with}

@@ -1,6 +1,6 @@
 -- Models without the places of memory where their conditions lie. Two models are one and the same model where they are
 -- equal so.
-use Rattle.std.specs.Prelude.{Box, List, map, Option, option_map}
+use Rattle.std.specs.Prelude.{Box, map, option_map}
 use Rattle.std.specs.declared.alloc.Global.{Global}
 use denote.RawPtr.{null_ptr}
 use Rattle.flame_spec.specs.declared.condition.Condition.{Condition, fold-Condition, roll-Condition}

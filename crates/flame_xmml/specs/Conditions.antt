@@ -1,5 +1,5 @@
 -- Conditions of functions and filters of inputs: their faults, and what they are read as.
-use Rattle.std.specs.Prelude.{ℕ, List, [], ◌++◌, codes, ℤ, pos, Bool, true, false, not, if◌then◌else◌, Option, Some}
+use Rattle.std.specs.Prelude.{ℕ, List, [], ◌++◌, codes, ℤ, pos, Bool, not, if◌then◌else◌, Option, Some}
 use Rattle.std.specs.Prelude.{None, unwrap_or}
 use Rattle.std.specs.Ordering.{nat_cmp, match_ordering}
 use Rattle.std.specs.Cmp.Lexicographic.{slice_cmp}

@@ -2,7 +2,6 @@
 use Rattle.std.specs.Prelude.{ℕ, List, [], map, codes, ℤ, pos, Bool, false, if◌then◌else◌, Option, Some, None}
 use Rattle.std.specs.Prelude.{unwrap_or, option_map}
 use Rattle.serde_json.specs.Data.{Data}
-use Rattle.flame_spec.specs.declared.condition.Condition.{Condition}
 use Rattle.flame_spec.specs.declared.model.Model.{Model}
 use Rattle.flame_spec.specs.declared.model.TimeUnit.{TimeUnit}
 use Rattle.flame_spec.specs.declared.model.Variable.{Variable}

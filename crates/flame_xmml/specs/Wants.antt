@@ -1,11 +1,11 @@
 -- What the texts, numbers and truths of a model are read as. None is read of null, so of nothing that is missing.
-use Rattle.std.specs.Prelude.{ℕ, List, [], ◌∷◌, length, drop, nat_eq, codes, ℤ, pos, int_le}
+use Rattle.std.specs.Prelude.{ℕ, List, length, drop, nat_eq, codes, ℤ, pos, int_le}
 use Rattle.std.specs.Prelude.{Bool, true, false, ◌==◌, ◌&&◌, if◌then◌else◌, Option, Some, None, option_map}
 use Rattle.std.specs.List.{list_all, starts_with}
 use Rattle.std.specs.Char.{is_ascii_digit}
 use Rattle.std.specs.Str.{bytes_eq}
 use Rattle.std.specs.Str.Parse.{starts_with_minus, signed_digits_value}
-use Rattle.serde_json.specs.Data.{Data, null, boolean, number, string, array, object}
+use Rattle.serde_json.specs.Data.{Data, boolean, number, string}
 use Rattle.serde_json.specs.Find.{as_str, as_integer}
 use Rattle.flame_ops.specs.Integers.{is_int}
 use Rattle.flame_spec.specs.Steps.{◌>>=◌, only_where}

@@ -1,5 +1,5 @@
 -- Each branch opens one layer of the condition.
-use Rattle.std.proofs.Common.{rules, ◌≡◌, ◌<◌, sym, ap, ◌∙◌, subst, codes, arith}
+use Rattle.std.proofs.Common.{◌<◌, sym, ap, ◌∙◌, subst, codes, arith}
 use Rattle.serde_json.specs.Data.{depth}
 use Rattle.serde_json.specs.View.{view}
 use Rattle.flame_spec.specs.declared.condition.Condition.{roll-Condition}

@@ -1,5 +1,5 @@
 -- Each level is less deep; on one level a condition calls an operation, which calls both its sides.
-use Rattle.std.proofs.Common.{ℕ, ◌+◌, ◌*◌}
+use Rattle.std.proofs.Common.{◌+◌, ◌*◌}
 use Rattle.serde_json.specs.Data.{depth}
 use Rattle.serde_json.specs.View.{view}
 use Rattle.flame_xmml.specs.Shown.{data_of}

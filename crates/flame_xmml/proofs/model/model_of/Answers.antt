@@ -1,5 +1,5 @@
 -- The whole value is an object with `xmodel`.
-use Rattle.std.proofs.Common.{◌≡◌, refl, sym, subst}
+use Rattle.std.proofs.Common.{refl, sym, subst}
 use Rattle.serde_json.specs.Data.{null}
 use Rattle.serde_json.specs.View.{view}
 use Rattle.flame_xmml.specs.Bare.{bare_model}
