@@ -7,7 +7,7 @@ ghost use Rattle.flame_cond.specs.Tests.{passes, SaysFilter};
 use crate::reading::test;
 use crate::test::Test;
 use flame_rows::NoMemory;
-use flame_rows::row::Row;
+use flame_rows::Row;
 use flame_spec::condition::Condition;
 use flame_spec::model::{AgentType, MessageType};
 use std::alloc::Global;

@@ -6,7 +6,7 @@ ghost use Rattle.flame_spec.specs.TimeUnits.{unit_length};
 ghost use Rattle.flame_spec.specs.Conditions.{is_length};
 
 use crate::period::Period;
-use flame_rows::text::Text;
+use flame_rows::Text;
 use flame_spec::model::{TimeUnit, Variable};
 
 fn width_of(variable: &Variable) -> u32

@@ -10,7 +10,7 @@ use crate::links::successors;
 use crate::place::place_all;
 use crate::targets::Targets;
 use flame_rows::NoMemory;
-use flame_rows::seq::Seq;
+use flame_rows::Seq;
 use flame_spec::model::Model;
 use std::alloc::Global;
 

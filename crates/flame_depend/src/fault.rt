@@ -1,8 +1,8 @@
 //! Why a model has no plan.
 
 use flame_rows::NoMemory;
-use flame_rows::seq::Seq;
-use flame_rows::text::Text;
+use flame_rows::Seq;
+use flame_rows::Text;
 
 /// Why a model has no plan.
 #[derive(Debug, Drop)]

@@ -14,7 +14,7 @@ use crate::place::Placed;
 use crate::table::{Table, note, under};
 use crate::targets::Targets;
 use flame_rows::NoMemory;
-use flame_rows::text::Text;
+use flame_rows::Text;
 use std::alloc::Global;
 use std::collections::HashMap;
 

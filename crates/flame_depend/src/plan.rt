@@ -1,7 +1,7 @@
 //! The order of a model's functions.
 
-use flame_rows::seq::Seq;
-use flame_rows::text::Text;
+use flame_rows::Seq;
+use flame_rows::Text;
 
 /// The order of a model's functions, their layers, and where the agents of its types start. Functions are numbered
 /// from 0 in document order.

@@ -15,7 +15,7 @@ use crate::place::place_all;
 use crate::plan::Plan;
 use crate::starts::{Found, find_starts};
 use crate::targets::Targets;
-use flame_rows::seq::Seq;
+use flame_rows::Seq;
 use flame_spec::model::Model;
 use std::alloc::Global;
 

@@ -9,8 +9,8 @@ ghost use Rattle.flame_depend.specs.Plans.{AreStarts};
 
 use crate::fault::ManyStarts;
 use flame_rows::NoMemory;
-use flame_rows::seq::Seq;
-use flame_rows::text::Text;
+use flame_rows::Seq;
+use flame_rows::Text;
 use flame_spec::model::{AgentType, Function};
 use std::alloc::Global;
 use std::collections::HashSet;

@@ -9,7 +9,7 @@ use crate::fault::{Fail, ParseFault};
 use crate::lexeme::Lexeme;
 use flame_lex::token::{Kind, Token};
 use flame_rows::NoMemory;
-use flame_rows::text::Text;
+use flame_rows::Text;
 use std::alloc::Global;
 
 /// What the token at this place is to the grammar, `Nothing` behind the last.

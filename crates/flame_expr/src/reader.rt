@@ -20,7 +20,7 @@ use crate::lexeme::Lexeme;
 use flame_lex::token::Token;
 use flame_ops::integers::Op;
 use flame_rows::NoMemory;
-use flame_rows::seq::Seq;
+use flame_rows::Seq;
 use flame_spec::tree::{Expr, Link, Sign, SignKind};
 use std::alloc::Global;
 

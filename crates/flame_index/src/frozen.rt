@@ -2,7 +2,7 @@
 
 ghost use Rattle.std.specs.Prelude.{◌≡◌};
 
-use flame_rows::bag::Bag;
+use flame_rows::Bag;
 use std::marker::Model;
 
 /// A board that is complete and may be read, seen as the bag of its messages.

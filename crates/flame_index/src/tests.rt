@@ -1,8 +1,8 @@
 //! Frozen boards, on values worked by hand.
 
 use crate::frozen::Frozen;
-use flame_rows::bag::Bag;
-use flame_rows::row::Row;
+use flame_rows::Bag;
+use flame_rows::Row;
 use std::test::Fail;
 
 #[test]

@@ -11,7 +11,7 @@ use crate::place::Place;
 use crate::tables::Tables;
 use crate::token::{Kind, Token};
 use flame_rows::NoMemory;
-use flame_rows::seq::Seq;
+use flame_rows::Seq;
 use std::alloc::Global;
 
 /// The tokens of a text of at most 4,194,304 bytes, in order.

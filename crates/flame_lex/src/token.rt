@@ -1,6 +1,6 @@
 //! Tokens.
 
-use flame_rows::text::Text;
+use flame_rows::Text;
 
 /// What a lexeme is (C standard, 6.4.1, 6.4.2, 6.4.4 and 6.4.6).
 #[derive(Debug, Drop)]

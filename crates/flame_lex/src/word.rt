@@ -9,7 +9,7 @@ ghost use Rattle.flame_lex.specs.Words.{IsLoopWord, IsWordKind};
 use crate::token::Kind;
 use flame_ops::table::Table;
 use flame_rows::NoMemory;
-use flame_rows::text::Text;
+use flame_rows::Text;
 use std::alloc::Global;
 
 /// What the word is.

@@ -10,7 +10,7 @@ ghost use Rattle.flame_names.specs.Failing.{FailsBy, FailsFirst};
 use crate::path::Place;
 use crate::table::Names;
 use flame_rows::NoMemory;
-use flame_rows::text::Text;
+use flame_rows::Text;
 use flame_spec::fault::{NameFault, NameKind};
 use std::alloc::{AllocError, Global};
 

@@ -16,7 +16,7 @@ use crate::lengths::Lengths;
 use crate::messages::MessageTable;
 use crate::path::Place;
 use crate::table::{Capitals, Names, Transitions};
-use flame_rows::text::Text;
+use flame_rows::Text;
 use flame_spec::condition::Condition;
 use flame_spec::fault::NameKind;
 use flame_spec::model::{Function, Input, Sort};

@@ -13,7 +13,7 @@ use crate::fault::{Fail, prefixed_fault, refuse};
 use crate::lengths::Lengths;
 use crate::path::Place;
 use crate::table::Names;
-use flame_rows::text::Text;
+use flame_rows::Text;
 use flame_spec::condition::{Condition, Operand};
 use flame_spec::fault::NameKind;
 use std::alloc::Global;

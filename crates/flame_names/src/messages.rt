@@ -13,7 +13,7 @@ use crate::fault::{Fail, fault};
 use crate::path::Place;
 use crate::table::{Capitals, Names};
 use flame_rows::NoMemory;
-use flame_rows::text::Text;
+use flame_rows::Text;
 use flame_spec::fault::NameKind;
 use flame_spec::model::{MessageType, Variable};
 use indexmap::IndexMap;

@@ -4,7 +4,7 @@ ghost use Rattle.std.specs.Prelude.{◌≡◌, ◌++◌, IfOk, OnOk, string_byte
 ghost use Rattle.flame_names.specs.Places.{text_of};
 
 use flame_rows::NoMemory;
-use flame_rows::text::Text;
+use flame_rows::Text;
 use std::alloc::Global;
 use std::fmt::Write;
 

@@ -1,8 +1,8 @@
 use crate::fault::Fail;
 use crate::names::names;
 use flame_ops::integers::Op;
-use flame_rows::seq::Seq;
-use flame_rows::text::Text;
+use flame_rows::Seq;
+use flame_rows::Text;
 use flame_spec::condition::{Condition, Operand};
 use flame_spec::model::{AgentType, Function, Input, MessageType, Model, Sort, TimeUnit, Variable};
 use std::alloc::Global;

@@ -9,7 +9,7 @@ ghost use Rattle.flame_outside.specs.declared.depot.ReadFail.TheVariants as read
 ghost use Rattle.flame_outside.specs.declared.depot.PutFail.TheVariants as put_fail;
 
 use flame_rows::NoMemory;
-use flame_rows::blob::Blob;
+use flame_rows::Blob;
 use thiserror::Error;
 
 /// What a read found.

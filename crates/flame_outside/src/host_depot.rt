@@ -6,7 +6,7 @@ ghost use Rattle.flame_outside.specs.Host.{with_failed_read, with_failed_put};
 
 use crate::depot::{Depot, Got, PutFail, ReadFail};
 use crate::transfer::{read_front, write_whole};
-use flame_rows::blob::Blob;
+use flame_rows::Blob;
 use std::fs::File;
 use std::io::ErrorKind;
 use std::marker::Model;

@@ -7,7 +7,7 @@ ghost use Rattle.flame_outside.specs.Memory.{total_of};
 
 use crate::depot::Got;
 use flame_rows::NoMemory;
-use flame_rows::blob::Blob;
+use flame_rows::Blob;
 use std::alloc::Global;
 use std::collections::BTreeMap;
 use std::marker::Model;

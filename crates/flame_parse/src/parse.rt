@@ -9,7 +9,7 @@ use flame_expr::cursor::{lexeme_at, syntax};
 use flame_expr::fault::{Fail, ParseFault};
 use flame_expr::lexeme::Lexeme;
 use flame_lex::token::Token;
-use flame_rows::seq::Seq;
+use flame_rows::Seq;
 use flame_spec::tree::Unit;
 use std::alloc::Global;
 

@@ -22,7 +22,7 @@ use flame_expr::lexeme::Lexeme;
 use flame_expr::reader::expression;
 use flame_lex::token::Token;
 use flame_rows::NoMemory;
-use flame_rows::seq::Seq;
+use flame_rows::Seq;
 use flame_spec::tree::{Assign, Expr, Head, Item, Stmt};
 use std::alloc::Global;
 

@@ -15,7 +15,7 @@ use flame_expr::fault::Fail;
 use flame_expr::lexeme::Lexeme;
 use flame_expr::reader::bracketed;
 use flame_lex::token::Token;
-use flame_rows::seq::Seq;
+use flame_rows::Seq;
 use flame_spec::tree::{Arm, Stmt};
 use std::alloc::Global;
 

@@ -12,7 +12,7 @@ use flame_expr::cursor::{expect, lexeme_at, line_at, text_at};
 use flame_expr::fault::Fail;
 use flame_expr::lexeme::Lexeme;
 use flame_lex::token::Token;
-use flame_rows::seq::Seq;
+use flame_rows::Seq;
 use flame_spec::tree::Def;
 use std::alloc::Global;
 

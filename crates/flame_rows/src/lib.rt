@@ -1,29 +1,26 @@
-//! Lists, texts, rows of numbers and bags of rows, which contracts see as what they hold.
+//! Lists, texts, rows of numbers, bags of rows and values on the heap, which contracts see as what they hold; and why a
+//! call gives no answer.
 #![tactic(auto)]
 
-pub mod bag;
-pub mod blob;
+mod bags;
+mod blobs;
+mod copies;
+mod fails;
 pub mod laws;
-pub mod row;
-pub mod seq;
+mod parts;
+mod rows;
+mod sameness;
+mod seqs;
 #[cfg(test)]
 mod tests;
-pub mod text;
+mod texts;
 
-use std::alloc::{AllocError, AllocFailed};
-
-/// Memory was not found.
-#[derive(Clone, Copy, Debug, PartialEq, Eq)]
-pub struct NoMemory;
-
-impl From<AllocError> for NoMemory {
-    fn from(_error: AllocError) -> NoMemory {
-        NoMemory
-    }
-}
-
-impl<T: Drop> From<AllocFailed<T>> for NoMemory {
-    fn from(_error: AllocFailed<T>) -> NoMemory {
-        NoMemory
-    }
-}
+pub use bags::Bag;
+pub use blobs::Blob;
+pub use copies::Copied;
+pub use fails::{Fail, NoMemory};
+pub use parts::Part;
+pub use rows::Row;
+pub use sameness::Same;
+pub use seqs::Seq;
+pub use texts::Text;

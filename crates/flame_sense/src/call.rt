@@ -14,7 +14,7 @@ use crate::expression::value;
 use crate::scene::{Open, Setting, State, number_at};
 use crate::words::{Form, width_of};
 use flame_rows::NoMemory;
-use flame_rows::row::Row;
+use flame_rows::Row;
 use flame_spec::fault::Fault;
 use flame_spec::model::{AgentType, MessageType, Variable};
 use flame_spec::outcome::{Born, Sent};

@@ -11,7 +11,7 @@ use crate::scene::number_at;
 use crate::words::column_of;
 use flame_ops::integers::Op;
 use flame_rows::NoMemory;
-use flame_rows::row::Row;
+use flame_rows::Row;
 use flame_spec::condition::{Condition, Operand};
 use flame_spec::model::{AgentType, MessageType, Sort};
 use std::cmp::Ordering;

@@ -11,8 +11,8 @@ use crate::filter::{reads, sorted};
 use crate::scene::Reading;
 use crate::words::Form;
 use flame_rows::NoMemory;
-use flame_rows::bag::Bag;
-use flame_rows::row::Row;
+use flame_rows::Bag;
+use flame_rows::Row;
 use flame_spec::model::{AgentType, Input, MessageType, Model};
 use std::alloc::Global;
 

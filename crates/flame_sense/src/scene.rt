@@ -8,7 +8,7 @@ ghost use Rattle.flame_sense.specs.Scenes.{local_value, memory_value, constant_v
 ghost use Rattle.flame_sense.specs.Steps.{is_written, reading_of, setting_of, state_of, currents, visible, IsNewest};
 
 use crate::words::{Form, column_of, column_where};
-use flame_rows::row::Row;
+use flame_rows::Row;
 use flame_spec::model::{AgentType, MessageType, Model};
 use flame_spec::outcome::{Born, Sent};
 use std::alloc::Global;

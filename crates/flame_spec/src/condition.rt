@@ -1,7 +1,7 @@
 //! Conditions of functions and filters of inputs, as XMML has them.
 
 use flame_ops::integers::Op;
-use flame_rows::text::Text;
+use flame_rows::Text;
 
 /// A condition of a function, or a filter of an input.
 #[derive(Debug, Drop)]

@@ -1,7 +1,7 @@
 //! Faults of transition functions, of names in models, and of the bodies in function files.
 
 use flame_ops::integers::Cause;
-use flame_rows::text::Text;
+use flame_rows::Text;
 
 /// Why an agent's run of its function has no outcome.
 #[derive(Clone, Copy, Debug, PartialEq, Eq)]

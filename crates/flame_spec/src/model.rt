@@ -1,8 +1,8 @@
 //! Models, as XMML describes them.
 
 use crate::condition::Condition;
-use flame_rows::seq::Seq;
-use flame_rows::text::Text;
+use flame_rows::Seq;
+use flame_rows::Text;
 
 /// A model. Constants, messages and agent types are numbered from 0 in these orders, functions from 0 in document
 /// order: type by type, function by function.

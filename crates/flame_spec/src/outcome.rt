@@ -3,8 +3,8 @@
 use crate::fault::Fault;
 use crate::model::Model;
 use crate::tree::Unit;
-use flame_rows::row::Row;
-use flame_rows::seq::Seq;
+use flame_rows::Row;
+use flame_rows::Seq;
 
 /// A model and its function files, one tree for each file that the model names, in that order.
 #[derive(Debug, Drop)]

@@ -1,6 +1,6 @@
 //! Populations to begin with.
 
-use flame_rows::bag::Bag;
+use flame_rows::Bag;
 
 /// What a run begins with.
 #[derive(Debug, Drop)]

@@ -1,7 +1,7 @@
 //! Function files that assign sums.
 
 use flame_ops::integers::Op;
-use flame_rows::seq::Seq;
+use flame_rows::Seq;
 
 /// A part of a sum.
 #[derive(Clone, Copy, Debug, PartialEq, Eq)]

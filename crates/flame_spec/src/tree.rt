@@ -2,8 +2,8 @@
 //! lines count from 1. Brackets leave no trace.
 
 use flame_ops::integers::Op;
-use flame_rows::seq::Seq;
-use flame_rows::text::Text;
+use flame_rows::Seq;
+use flame_rows::Text;
 
 /// A function file: its function definitions in order.
 #[derive(Debug, Drop)]

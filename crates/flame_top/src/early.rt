@@ -1,6 +1,6 @@
 //! Refusals of command lines and of their inputs.
 
-use flame_rows::text::Text;
+use flame_rows::Text;
 
 /// Why an order is refused. An input that may be right, but is longer than its limit or not of the narrow form that
 /// this program runs today, is not built.

@@ -4,7 +4,7 @@ ghost use Rattle.std.specs.Prelude.{◌≡◌};
 
 use crate::early::Early;
 use flame_rows::NoMemory;
-use flame_rows::text::Text;
+use flame_rows::Text;
 
 /// How the carrying out of an order ends.
 #[derive(Debug, Drop)]

@@ -11,7 +11,7 @@ use crate::names::is_word_byte;
 use crate::words::has_digits;
 use flame_ops::integers::Op;
 use flame_rows::NoMemory;
-use flame_rows::seq::Seq;
+use flame_rows::Seq;
 use flame_spec::model::NarrowModel;
 use flame_spec::source::{Link, Operand, Sum};
 use std::alloc::Global;

@@ -5,8 +5,8 @@ ghost use Rattle.flame_spec.specs.Meaning.{operand_value, sum_value, assigned, h
 
 use flame_ops::integers::apply;
 use flame_rows::NoMemory;
-use flame_rows::bag::Bag;
-use flame_rows::row::Row;
+use flame_rows::Bag;
+use flame_rows::Row;
 use flame_spec::fault::Fault;
 use flame_spec::source::{Operand, Sum};
 use std::alloc::Global;

@@ -8,8 +8,8 @@ ghost use Rattle.flame_spec.specs.Populations.{int_of, memory_of, memories_of, i
 
 use crate::readers::{is_sized, lone, str_at};
 use flame_rows::NoMemory;
-use flame_rows::bag::Bag;
-use flame_rows::row::Row;
+use flame_rows::Bag;
+use flame_rows::Row;
 use flame_spec::model::NarrowModel;
 use flame_spec::population::Start;
 use serde_json::Value;

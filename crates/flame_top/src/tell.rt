@@ -12,7 +12,7 @@ use crate::ending::{Carried, Ending};
 use crate::top::Ended;
 use flame_outside::sink::{Sink, WriteFail};
 use flame_rows::NoMemory;
-use flame_rows::text::Text;
+use flame_rows::Text;
 use std::alloc::Global;
 
 /// What is written where memory was not found. It is a fixed text, and takes none.

@@ -6,7 +6,7 @@ ghost use Rattle.flame_spec.specs.Texts.{agent_text, agents_text, file_text, fil
 use crate::meaning::held;
 use flame_ops::integers::Cause;
 use flame_rows::NoMemory;
-use flame_rows::row::Row;
+use flame_rows::Row;
 use flame_spec::fault::Fault;
 use flame_spec::model::NarrowModel;
 use itoa::Buffer;

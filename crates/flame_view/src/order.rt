@@ -6,7 +6,7 @@ ghost use Rattle.flame_spec.specs.Views.{view_order};
 ghost use Rattle.flame_cond.specs.Keys.{key_by};
 
 use flame_cond::sort::SortBy;
-use flame_rows::row::Row;
+use flame_rows::Row;
 use std::cmp::Ordering;
 
 /// The number in the column, or 0 past the end of the row.

@@ -12,7 +12,7 @@ use flame_cond::filter::Filter;
 use flame_cond::sort::SortBy;
 use flame_index::frozen::Frozen;
 use flame_rows::NoMemory;
-use flame_rows::row::Row;
+use flame_rows::Row;
 use std::alloc::Global;
 use std::cmp::Ordering;
 use std::marker::Model;

@@ -11,7 +11,7 @@ use crate::reading::Reading;
 use crate::table::{Command, Flag};
 use crate::value::{number_value, way_of};
 use flame_rows::NoMemory;
-use flame_rows::text::Text;
+use flame_rows::Text;
 use std::alloc::Global;
 
 /// The order of words that have no fault.

@@ -1,6 +1,6 @@
 //! What a command line orders.
 
-use flame_rows::text::Text;
+use flame_rows::Text;
 
 /// The order that a command line gives.
 #[derive(Debug, Drop)]

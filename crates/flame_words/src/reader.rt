@@ -12,7 +12,7 @@ use crate::orders::Order;
 use crate::reading::Reading;
 use crate::table::Command;
 use crate::usage::{Fail, Usage};
-use flame_rows::text::Text;
+use flame_rows::Text;
 use std::alloc::Global;
 
 /// The order that the words of a command line give, the program's name not among them.

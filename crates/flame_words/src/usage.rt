@@ -1,7 +1,7 @@
 //! Why words give no order.
 
 use flame_rows::NoMemory;
-use flame_rows::text::Text;
+use flame_rows::Text;
 use std::alloc::AllocFailed;
 
 /// A fault of usage. A number is that of a word, from 1; word 1 is the command.

@@ -19,7 +19,7 @@ use crate::parts::{fault, has, part, wanted};
 use crate::place::Place;
 use crate::words::{Connective, connective_of, name_of};
 use flame_ops::integers::Op;
-use flame_rows::text::Text;
+use flame_rows::Text;
 use flame_spec::condition::{Condition, Operand};
 use serde_json::Value;
 use std::alloc::Global;

@@ -1,7 +1,7 @@
 //! Faults of the shape of a model's value.
 
 use flame_rows::NoMemory;
-use flame_rows::text::Text;
+use flame_rows::Text;
 use std::alloc::AllocFailed;
 
 /// A place of a model's value where something else was wanted.

@@ -15,7 +15,7 @@ use crate::numbers::positive_of;
 use crate::parts::{fault, members, part, wanted};
 use crate::place::Place;
 use crate::words::{filled_of, int_type_of, name_of, order_of, truth_of};
-use flame_rows::text::Text;
+use flame_rows::Text;
 use serde_json::Value;
 use std::alloc::Global;
 

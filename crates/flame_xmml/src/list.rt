@@ -12,7 +12,7 @@ ghost use Rattle.flame_xmml.specs.Reading.{Reads};
 use crate::fault::{Fail, Want};
 use crate::parts::{fault, members, part};
 use crate::place::Place;
-use flame_rows::seq::Seq;
+use flame_rows::Seq;
 use serde_json::Value;
 use std::alloc::Global;
 

@@ -21,7 +21,7 @@ use crate::list::{Member, list_at};
 use crate::parts::{object, part, wanted};
 use crate::place::Place;
 use crate::words::filled_of;
-use flame_rows::text::Text;
+use flame_rows::Text;
 use flame_spec::condition::Condition;
 use flame_spec::model::{AgentType, Function, Input, MessageType, Sort, TimeUnit, Variable};
 use serde_json::Value;

@@ -4,7 +4,7 @@ ghost use Rattle.std.specs.Prelude.{◌≡◌, ◌++◌, string_bytes, IfOk, IfE
 ghost use Rattle.flame_xmml.specs.Places.{path_of};
 
 use flame_rows::NoMemory;
-use flame_rows::text::Text;
+use flame_rows::Text;
 use std::alloc::Global;
 
 /// A place, by the way from the root: it holds what the path needs, and no path.

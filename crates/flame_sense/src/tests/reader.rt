@@ -4,8 +4,8 @@ ghost use Rattle.std.specs.Prelude.{◌<◌};
 
 use flame_ops::integers::Op;
 use flame_rows::NoMemory;
-use flame_rows::seq::Seq;
-use flame_rows::text::Text;
+use flame_rows::Seq;
+use flame_rows::Text;
 use flame_spec::tree::{Arm, Assign, Def, Expr, Head, Item, Link, Sign, SignKind, Stmt, Unit};
 use std::alloc::Global;
 

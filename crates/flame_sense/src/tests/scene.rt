@@ -4,10 +4,10 @@
 
 use flame_ops::integers::Op;
 use flame_rows::NoMemory;
-use flame_rows::bag::Bag;
-use flame_rows::row::Row;
-use flame_rows::seq::Seq;
-use flame_rows::text::Text;
+use flame_rows::Bag;
+use flame_rows::Row;
+use flame_rows::Seq;
+use flame_rows::Text;
 use flame_spec::condition::{Condition, Operand};
 use flame_spec::model::{AgentType, Function, Input, MessageType, Model, Sort, Variable};
 use std::alloc::Global;
