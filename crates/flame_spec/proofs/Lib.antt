@@ -1,7 +1,3 @@
-pub mod Options
-pub mod Many
-pub mod Numerals
-pub mod Spelling
 pub mod SeenForms
 pub mod FirstBelow
 pub mod Orders

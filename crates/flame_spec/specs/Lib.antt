@@ -52,12 +52,3 @@ pub mod AcceptedOnce
 pub mod AcceptedCases
 pub mod Steps
 pub mod Json
-pub mod Models
-pub mod Pieces
-pub mod Sums
-pub mod Reading
-pub mod Laws
-pub mod Meaning
-pub mod Populations
-pub mod Texts
-pub mod Runs

@@ -6,8 +6,8 @@ use Rattle.std.specs.FinMap.{insert}
 use Rattle.flame_outside.specs.Bytes.{GrowsByFront}
 use Rattle.flame_outside.specs.Files.{Files, OthersStay}
 use Rattle.flame_outside.specs.Rose.{Rose, Rose_within}
-use Rattle.flame_spec.specs.Pieces.{laid}
-use Rattle.flame_spec.specs.Runs.{Report, with_turn}
+use Rattle.flame_top.specs.NarrowPieces.{laid}
+use Rattle.flame_top.specs.NarrowRuns.{Report, with_turn}
 use Rattle.flame_top.specs.declared.ending.Ending.{Ending}
 use Rattle.flame_top.specs.declared.ending.Ending.TheVariants.{Done, Refused, Faulted, ReadFault, FileFault, OutputFault, NoMemory}
 use Rattle.flame_top.specs.Reports.{set_all}

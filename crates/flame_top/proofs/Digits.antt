@@ -3,7 +3,7 @@ use Rattle.std.proofs.Common.{◌≡◌, ℕ, suc, ◌+◌, ◌*◌, ◌^◌, �
 use Rattle.std.proofs.Math.Nat.{pow-succ', pow-le-pow_right}
 use Rattle.std.specs.Int.{IsInRange}
 use Rattle.std.proofs.lemmas.Str.Parse.{digit_at}
-use Rattle.flame_spec.proofs.Numerals.{Numeral, digits_model}
+use Rattle.flame_top.proofs.Numerals.{Numeral, digits_model}
 
 -- one digit more, and the number still fits
 pub one_more : (number index digit : ℕ) → number < 10 ^ index → index < 9 → digit ≤ 9

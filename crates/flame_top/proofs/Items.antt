@@ -3,13 +3,13 @@ use Rattle.std.proofs.Common.{◌≡◌, ℕ, ◌<◌, List, [], ◌∷◌, ◌+
 use Rattle.std.specs.Prelude.{option_map, option_and_then}
 use Rattle.std.specs.Str.{bytes_eq}
 use Rattle.flame_ops.specs.declared.integers.Op.{Op}
-use Rattle.flame_spec.specs.declared.source.Operand.{Operand}
-use Rattle.flame_spec.specs.declared.source.Link.{Link}
-use Rattle.flame_spec.specs.declared.source.Sum.{Sum}
-use Rattle.flame_spec.specs.Pieces.{Token}
-use Rattle.flame_spec.specs.Reading.{after_texts, operand_of, sign_of, link_of, links_of, value_of, assignment_of, assignments_of}
-use Rattle.flame_spec.proofs.Many.{many-more}
-use Rattle.flame_spec.proofs.Spelling.{link_of-shrinks, assignment_of-shrinks}
+use Rattle.flame_top.specs.declared.source.Operand.{Operand}
+use Rattle.flame_top.specs.declared.source.Link.{Link}
+use Rattle.flame_top.specs.declared.source.Sum.{Sum}
+use Rattle.flame_top.specs.NarrowPieces.{Token}
+use Rattle.flame_top.specs.NarrowReading.{after_texts, operand_of, sign_of, link_of, links_of, value_of, assignment_of, assignments_of}
+use Rattle.flame_top.proofs.Many.{many-more}
+use Rattle.flame_top.proofs.Spelling.{link_of-shrinks, assignment_of-shrinks}
 
 pub after_texts-first : (text : List ℕ) (texts : List (List ℕ)) (tokens : List Token)
     → after_texts (text ∷ texts) tokens ≡ option_and_then (after_texts texts) (after_texts (text ∷ []) tokens)

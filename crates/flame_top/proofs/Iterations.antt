@@ -4,11 +4,11 @@ use Rattle.std.specs.Prelude.{ℤ}
 use Rattle.std.specs.FinMap.{insert}
 use Rattle.std.proofs.lemmas.List.{length-drop}
 use Rattle.flame_outside.specs.Files.{Files}
-use Rattle.flame_spec.specs.declared.model.NarrowModel.{NarrowModel}
-use Rattle.flame_spec.specs.declared.source.Sum.{Sum}
-use Rattle.flame_spec.specs.Meaning.{Faulted, iteration}
-use Rattle.flame_spec.specs.Texts.{file_name, file_text, line_text}
-use Rattle.flame_spec.specs.Runs.{Report, ended, with_turn, after_turn, run}
+use Rattle.flame_top.specs.declared.model.NarrowModel.{NarrowModel}
+use Rattle.flame_top.specs.declared.source.Sum.{Sum}
+use Rattle.flame_top.specs.NarrowMeaning.{Faulted, iteration}
+use Rattle.flame_top.specs.RunTexts.{file_name, file_text, line_text}
+use Rattle.flame_top.specs.NarrowRuns.{Report, ended, with_turn, after_turn, run}
 use Rattle.flame_top.specs.declared.ending.Ending.{Ending}
 use Rattle.flame_top.specs.declared.ending.Ending.TheVariants.{Done}
 use Rattle.flame_top.specs.Standing.{Seen, with_files, Stands}

@@ -4,7 +4,7 @@ use Rattle.std.specs.Str.{IsUtf8, is_utf8}
 use Rattle.std.proofs.lemmas.Str.{IsUtf8-from_is_utf8, is_utf8-from_IsUtf8}
 use Rattle.serde_json.specs.Data.{Data}
 use Rattle.serde_json.specs.Read.{read}
-use Rattle.flame_spec.specs.Json.{json_of}
+use Rattle.flame_top.specs.JsonParts.{json_of}
 
 pub json_of_some :
     (bytes : List ℕ) (value : Data)

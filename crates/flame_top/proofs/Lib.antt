@@ -1,3 +1,7 @@
+pub mod Options
+pub mod Many
+pub mod Numerals
+pub mod Spelling
 pub mod Composition
 pub mod Iterations
 pub mod Stopping

@@ -3,7 +3,7 @@ use Rattle.std.proofs.Common.{◌≡◌, ◌≢◌, ℕ, zero, suc, ◌<◌, Lis
 use Rattle.std.specs.List.{prefix_len}
 use Rattle.std.proofs.lemmas.Bool.{and_left, ne_eqb}
 use Rattle.flame_spec.specs.Names.{is_word_byte}
-use Rattle.flame_spec.specs.Pieces.{joined, pieces_of, space, newline, tokens_from}
+use Rattle.flame_top.specs.NarrowPieces.{joined, pieces_of, space, newline, tokens_from}
 use Rattle.std.specs.Str.{bytes_eq}
 use Rattle.flame_top.specs.Blanks.{BeginsWithNoBlank}
 

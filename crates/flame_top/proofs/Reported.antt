@@ -5,11 +5,11 @@ use Rattle.std.proofs.lemmas.List.{take_all, take_min, take-append-le}
 use Rattle.flame_outside.specs.Files.{Files, told_at}
 use Rattle.flame_outside.specs.Bytes.{GrowsByFront}
 use Rattle.flame_outside.specs.Rose.{Rose}
-use Rattle.flame_spec.specs.declared.model.NarrowModel.{NarrowModel}
-use Rattle.flame_spec.specs.declared.source.Sum.{Sum}
-use Rattle.flame_spec.specs.Meaning.{Faulted, iteration}
-use Rattle.flame_spec.specs.Pieces.{laid}
-use Rattle.flame_spec.specs.Runs.{Report, ended, after_turn, run}
+use Rattle.flame_top.specs.declared.model.NarrowModel.{NarrowModel}
+use Rattle.flame_top.specs.declared.source.Sum.{Sum}
+use Rattle.flame_top.specs.NarrowMeaning.{Faulted, iteration}
+use Rattle.flame_top.specs.NarrowPieces.{laid}
+use Rattle.flame_top.specs.NarrowRuns.{Report, ended, after_turn, run}
 use Rattle.flame_top.specs.declared.early.Early.{Early}
 use Rattle.flame_top.specs.declared.early.Early.TheVariants.{Words, Missing, NotJson, NotBuilt}
 use Rattle.flame_top.specs.declared.ending.Ending.{Ending}

@@ -4,7 +4,7 @@ use Rattle.std.specs.List.{list_all}
 use Rattle.std.specs.Char.{is_ascii_digit}
 use Rattle.std.specs.Str.Parse.{ParsesUnsigned}
 use Rattle.std.proofs.lemmas.Str.Parse.{IsNumeralModel, numerals_by_fold, parse_gives, digits_value_short}
-use Rattle.flame_spec.specs.Reading.{number_after}
+use Rattle.flame_top.specs.NarrowReading.{number_after}
 
 by_fold : IsNumeralModel (λ digits. list_all is_ascii_digit digits ≡ true) (number_after 0)
 by_fold = numerals_by_fold _ (search rules) number_after (search rules)

@@ -3,7 +3,8 @@ use Rattle.std.proofs.Common.{◌≡◌, ◌≢◌, suc, List, [], ◌∷◌, le
 use Rattle.std.specs.declared.alloc.Global.{Global}
 use Rattle.serde_json.specs.declared.value.Value.{Value}
 use Rattle.serde_json.specs.View.{view, members_view, items_view}
-use Rattle.flame_spec.specs.Json.{members_len, items_list, sole}
+use Rattle.flame_spec.specs.Json.{items_list}
+use Rattle.flame_top.specs.JsonParts.{members_len, sole}
 
 pub members_len_view :
     (members : List (String Global × Value)) → members_len (members_view members) ≡ length members

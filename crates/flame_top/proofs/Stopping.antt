@@ -1,7 +1,7 @@
 -- An order that ends before its run.
 use Rattle.std.proofs.Common.{◌≡◌, ℕ, List, [], ◌++◌, length, Option, Some, None, option_map, Result, Ok, Err, refl, sym, ◌∙◌, subst, arith, inl}
 use Rattle.flame_outside.specs.Files.{Files}
-use Rattle.flame_spec.specs.Runs.{Report}
+use Rattle.flame_top.specs.NarrowRuns.{Report}
 use Rattle.flame_top.specs.declared.early.Early.{Early}
 use Rattle.flame_top.specs.declared.ending.Ending.{Ending}
 use Rattle.flame_top.specs.declared.ending.Ending.TheVariants.{Done, Refused, Faulted, ReadFault, FileFault, OutputFault, NoMemory}

@@ -1,5 +1,5 @@
 -- A model whose names stand in the value that it was read from.
-use Rattle.flame_spec.specs.declared.model.NarrowModel.{NarrowModel}
+use Rattle.flame_top.specs.declared.model.NarrowModel.{NarrowModel}
 use Rattle.flame_top.specs.declared.narrow.Names.{Names}
 
 abbrev pub names_view : Names → NarrowModel

@@ -1,8 +1,8 @@
 -- What a device that failed leaves, and what is told of it.
 use Rattle.std.specs.Prelude.{◌≡◌, ◌<◌, ℕ, List, length, Option, Some, None, ◌⊎◌}
 use Rattle.flame_outside.specs.Files.{Files}
-use Rattle.flame_spec.specs.Pieces.{laid}
-use Rattle.flame_spec.specs.Runs.{Report}
+use Rattle.flame_top.specs.NarrowPieces.{laid}
+use Rattle.flame_top.specs.NarrowRuns.{Report}
 use Rattle.flame_top.specs.Orders.{Run}
 use Rattle.flame_top.specs.Loading.{IsReached}
 use Rattle.flame_top.specs.Endings.{read_fault_text, write_fault_text, output_fault_text}

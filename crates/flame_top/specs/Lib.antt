@@ -1,3 +1,13 @@
+pub mod JsonParts
+pub mod NarrowModels
+pub mod NarrowPieces
+pub mod Sums
+pub mod NarrowReading
+pub mod NarrowLaws
+pub mod NarrowMeaning
+pub mod Populations
+pub mod RunTexts
+pub mod NarrowRuns
 pub mod Orders
 pub mod Ordered
 pub mod Borrowed

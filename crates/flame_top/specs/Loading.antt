@@ -3,14 +3,14 @@ use Rattle.std.specs.Prelude.{◌≡◌, ℕ, List, length, nat_le, if◌then◌
 use Rattle.std.specs.FinMap.{get}
 use Rattle.serde_json.specs.Data.{Data}
 use Rattle.flame_outside.specs.Files.{Files}
-use Rattle.flame_spec.specs.declared.model.NarrowModel.{NarrowModel}
-use Rattle.flame_spec.specs.declared.population.Start.{Start}
-use Rattle.flame_spec.specs.declared.source.Sum.{Sum}
-use Rattle.flame_spec.specs.Json.{json_of}
-use Rattle.flame_spec.specs.Models.{model_of}
-use Rattle.flame_spec.specs.Reading.{source_of}
-use Rattle.flame_spec.specs.Populations.{start_of}
-use Rattle.flame_spec.specs.Meaning.{and_then}
+use Rattle.flame_top.specs.declared.model.NarrowModel.{NarrowModel}
+use Rattle.flame_top.specs.declared.start.Start.{Start}
+use Rattle.flame_top.specs.declared.source.Sum.{Sum}
+use Rattle.flame_top.specs.JsonParts.{json_of}
+use Rattle.flame_top.specs.NarrowModels.{model_of}
+use Rattle.flame_top.specs.NarrowReading.{source_of}
+use Rattle.flame_top.specs.Populations.{start_of}
+use Rattle.flame_top.specs.NarrowMeaning.{and_then}
 use Rattle.flame_top.specs.declared.early.Early.{Early}
 use Rattle.flame_top.specs.declared.early.Early.TheVariants.{Missing, NotJson, NotBuilt}
 use Rattle.flame_top.specs.declared.load.Inputs.{Inputs}

@@ -4,7 +4,7 @@ use Rattle.std.specs.Prelude.{Bool, not, ◌&&◌, nat_le, nat_lt, if◌then◌e
 use Rattle.std.specs.List.{list_all, starts_with}
 use Rattle.std.specs.Str.{bytes_eq}
 use Rattle.std.specs.Char.{is_ascii_digit}
-use Rattle.flame_spec.specs.Reading.{number_after}
+use Rattle.flame_top.specs.NarrowReading.{number_after}
 
 -- run the model on the population for so many iterations, and write files whose names begin with out
 pub record Run : Type 0 where

@@ -3,7 +3,7 @@ use Rattle.std.specs.Prelude.{ℕ, List, [], ◌∷◌, ◌++◌, map, codes, Op
 use Rattle.std.specs.declared.alloc.Global.{Global}
 use Rattle.std.specs.FinMap.{insert}
 use Rattle.flame_outside.specs.Files.{Files}
-use Rattle.flame_spec.specs.Runs.{Report, ended, run}
+use Rattle.flame_top.specs.NarrowRuns.{Report, ended, run}
 use Rattle.flame_top.specs.declared.early.Early.{Early}
 use Rattle.flame_top.specs.declared.early.Early.TheVariants.{Words, Missing, NotJson, NotBuilt}
 use Rattle.flame_top.specs.declared.load.Inputs.{Inputs}

@@ -2,8 +2,8 @@
 use Rattle.std.specs.Prelude.{◌≡◌, ◌<◌, ◌≤◌, ℕ, ◌-◌, ◌⊎◌, List, [], ◌∷◌, ◌++◌, length, take, drop, Option, option_map}
 use Rattle.flame_outside.specs.Files.{Files, OthersStay}
 use Rattle.flame_outside.specs.Rose.{Rose}
-use Rattle.flame_spec.specs.Pieces.{laid}
-use Rattle.flame_spec.specs.Runs.{Report}
+use Rattle.flame_top.specs.NarrowPieces.{laid}
+use Rattle.flame_top.specs.NarrowRuns.{Report}
 use Rattle.flame_top.specs.declared.ending.Ending.{Ending}
 use Rattle.flame_top.specs.declared.ending.Ending.TheVariants.{Done, Refused, Faulted, ReadFault, FileFault, OutputFault, NoMemory}
 use Rattle.flame_top.specs.Reports.{set_all}

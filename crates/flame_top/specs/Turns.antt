@@ -2,9 +2,9 @@
 use Rattle.std.specs.Prelude.{◌≡◌, ℕ, ℤ, List, Option, Result, Ok, Err, ◌⊎◌}
 use Rattle.flame_outside.specs.Rose.{Rose}
 use Rattle.flame_outside.specs.Bytes.{GrowsByFront}
-use Rattle.flame_spec.specs.declared.model.NarrowModel.{NarrowModel}
-use Rattle.flame_spec.specs.Meaning.{Faulted as AgentFault}
-use Rattle.flame_spec.specs.Runs.{Report, ended, after_turn}
+use Rattle.flame_top.specs.declared.model.NarrowModel.{NarrowModel}
+use Rattle.flame_top.specs.NarrowMeaning.{Faulted as AgentFault}
+use Rattle.flame_top.specs.NarrowRuns.{Report, ended, after_turn}
 use Rattle.flame_top.specs.declared.ending.Ending.{Ending}
 use Rattle.flame_top.specs.declared.ending.Ending.TheVariants.{Done, Refused, Faulted, ReadFault, FileFault, OutputFault, NoMemory}
 

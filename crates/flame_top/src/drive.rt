@@ -5,9 +5,9 @@ ghost use Rattle.std.specs.FinMap as map;
 ghost use Rattle.flame_outside.specs.Rose.{Rose};
 ghost use Rattle.flame_outside.specs.Files.{OthersStay};
 ghost use Rattle.flame_outside.specs.Bytes.{GrowsByFront};
-ghost use Rattle.flame_spec.specs.Meaning.{iteration};
-ghost use Rattle.flame_spec.specs.Texts.{file_name, file_text, line_text};
-ghost use Rattle.flame_spec.specs.Runs.{Report, after_turn, run};
+ghost use Rattle.flame_top.specs.NarrowMeaning.{iteration};
+ghost use Rattle.flame_top.specs.RunTexts.{file_name, file_text, line_text};
+ghost use Rattle.flame_top.specs.NarrowRuns.{Report, after_turn, run};
 ghost use Rattle.flame_top.specs.Standing.{IsFileFault, IsOutputFault, Stands, seen};
 ghost use Rattle.flame_top.specs.Carrying.{IsDriven};
 ghost use Rattle.flame_top.specs.Turns.{StopsRun, StopsPut, StopsLine};
@@ -19,9 +19,9 @@ use flame_outside::depot::{Depot, PutFail};
 use flame_outside::sink::{Sink, WriteFail};
 use flame_rows::Bag;
 use flame_rows::Text;
-use flame_spec::model::NarrowModel;
-use flame_spec::population::Start;
-use flame_spec::source::Sum;
+use crate::model::NarrowModel;
+use crate::start::Start;
+use crate::source::Sum;
 use std::alloc::Global;
 
 /// What a run goes by: the model, the assignments of its function, and what the names of its files begin with.

@@ -4,16 +4,16 @@ ghost use Rattle.std.specs.Prelude.{◌≡◌, ◌<◌, ◌≤◌, ◌+◌, ◌^
 ghost use Rattle.std.specs.List.{prefix_len};
 ghost use Rattle.flame_top.specs.Blanks.{BeginsWithNoBlank};
 ghost use Rattle.flame_spec.specs.Names.{is_word_byte};
-ghost use Rattle.flame_spec.specs.Pieces.{pieces_of, tokens_from, tokens_of};
-ghost use Rattle.flame_spec.specs.Reading.{after_texts, has_leading_zero, is_numeral, number_after, number_of, operand_of, op_of, sign_of, links_of, sum_of, value_of, assignments_of, body_of, source_of};
+ghost use Rattle.flame_top.specs.NarrowPieces.{pieces_of, tokens_from, tokens_of};
+ghost use Rattle.flame_top.specs.NarrowReading.{after_texts, has_leading_zero, is_numeral, number_after, number_of, operand_of, op_of, sign_of, links_of, sum_of, value_of, assignments_of, body_of, source_of};
 
 use crate::names::is_word_byte;
 use crate::words::has_digits;
 use flame_ops::integers::Op;
 use flame_rows::NoMemory;
 use flame_rows::Seq;
-use flame_spec::model::NarrowModel;
-use flame_spec::source::{Link, Operand, Sum};
+use crate::model::NarrowModel;
+use crate::source::{Link, Operand, Sum};
 use std::alloc::Global;
 use std::marker::Model;
 
@@ -25,7 +25,7 @@ struct Piece<'a> {
 }
 
 impl<'a> Model for Piece<'a> {
-    ghost use Rattle.flame_spec.specs.Pieces.{Token};
+    ghost use Rattle.flame_top.specs.NarrowPieces.{Token};
 
     ghost Value = { Token };
 
@@ -41,7 +41,7 @@ struct Rest<'a> {
 
 impl<'a> Model for Rest<'a> {
     ghost use Rattle.std.specs.Prelude.{List, length, ◌+◌, ◌<◌, ◌^◌};
-    ghost use Rattle.flame_spec.specs.Pieces.{Token, pieces_of, tokens_from};
+    ghost use Rattle.flame_top.specs.NarrowPieces.{Token, pieces_of, tokens_from};
 
     ghost Value = { List Token };
 

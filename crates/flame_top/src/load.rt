@@ -4,7 +4,7 @@ ghost use Rattle.std.specs.Prelude.{◌≡◌, ◌≤◌, ◌+◌, ◌<◌, ◌^
 ghost use Rattle.serde_json.specs.View.{view};
 ghost use Rattle.flame_outside.specs.Files.{Files};
 ghost use Rattle.flame_outside.specs.Rose.{Rose};
-ghost use Rattle.flame_spec.specs.Json.{json_of};
+ghost use Rattle.flame_top.specs.JsonParts.{json_of};
 ghost use Rattle.flame_top.specs.declared.early.Early.TheVariants.{NotJson, NotBuilt};
 ghost use Rattle.flame_top.specs.Ordered.{order_view};
 ghost use Rattle.flame_top.specs.Loading.{source_limit, or_refused, file_in, value_in, model_in, source_in, start_in, inputs_of, IsReached};
@@ -20,9 +20,9 @@ use flame_outside::depot::{Depot, Got, ReadFail};
 use flame_rows::Blob;
 use flame_rows::Seq;
 use flame_rows::Text;
-use flame_spec::model::NarrowModel;
-use flame_spec::population::Start;
-use flame_spec::source::Sum;
+use crate::model::NarrowModel;
+use crate::start::Start;
+use crate::source::Sum;
 use serde_json::Value;
 use std::alloc::Global;
 

@@ -1,14 +1,14 @@
 //! What one iteration does to the agents: each runs the function in content order, up to the first that faults.
 
 ghost use Rattle.std.specs.Prelude.{◌≡◌, [], ◌∷◌, IfOk};
-ghost use Rattle.flame_spec.specs.Meaning.{operand_value, sum_value, assigned, held, iteration};
+ghost use Rattle.flame_top.specs.NarrowMeaning.{operand_value, sum_value, assigned, held, iteration};
 
 use flame_ops::integers::apply;
 use flame_rows::NoMemory;
 use flame_rows::Bag;
 use flame_rows::Row;
 use flame_spec::fault::Fault;
-use flame_spec::source::{Operand, Sum};
+use crate::source::{Operand, Sum};
 use std::alloc::Global;
 use std::marker::Model;
 
@@ -20,7 +20,7 @@ pub(crate) struct Stopped<'a> {
 }
 
 impl<'a> Model for Stopped<'a> {
-    ghost use Rattle.flame_spec.specs.Meaning.{Faulted};
+    ghost use Rattle.flame_top.specs.NarrowMeaning.{Faulted};
 
     ghost Value = { Faulted };
 

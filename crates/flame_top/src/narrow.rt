@@ -3,16 +3,16 @@
 ghost use Rattle.std.specs.Prelude.{◌≡◌, option_map, IfOk};
 ghost use Rattle.std.specs.Str.{bytes_eq};
 ghost use Rattle.serde_json.specs.View.{view};
-ghost use Rattle.flame_spec.specs.Json.{text_at};
+ghost use Rattle.flame_top.specs.JsonParts.{text_at};
 ghost use Rattle.flame_spec.specs.Names.{is_filled, is_name, is_function_name};
-ghost use Rattle.flame_spec.specs.Models.{variable_of, function_of, agent_of, file_of, parts_of, model_of};
+ghost use Rattle.flame_top.specs.NarrowModels.{variable_of, function_of, agent_of, file_of, parts_of, model_of};
 ghost use Rattle.flame_top.specs.Borrowed.{names_view};
 
 use crate::names::{is_filled, is_function_name, is_name};
 use crate::readers::{is_sized, lone, sole_at, str_at};
 use flame_rows::NoMemory;
 use flame_rows::Text;
-use flame_spec::model::NarrowModel;
+use crate::model::NarrowModel;
 use serde_json::Value;
 use std::alloc::Global;
 

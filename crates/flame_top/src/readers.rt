@@ -3,7 +3,7 @@
 ghost use Rattle.std.specs.Prelude.{◌≡◌, option_map, option_and_then};
 ghost use Rattle.serde_json.specs.View.{view};
 ghost use Rattle.serde_json.specs.Find.{get, as_str};
-ghost use Rattle.flame_spec.specs.Json.{is_sized, lone, sole_at};
+ghost use Rattle.flame_top.specs.JsonParts.{is_sized, lone, sole_at};
 
 use serde_json::Value;
 

@@ -1,14 +1,14 @@
 //! The texts of files, lines and faults.
 
 ghost use Rattle.std.specs.Prelude.{◌≡◌, ◌++◌, IfOk, OnOk, string_bytes};
-ghost use Rattle.flame_spec.specs.Texts.{agent_text, agents_text, file_text, file_name, line_text, cause_text, reason_text, fault_text};
+ghost use Rattle.flame_top.specs.RunTexts.{agent_text, agents_text, file_text, file_name, line_text, cause_text, reason_text, fault_text};
 
 use crate::meaning::held;
 use flame_ops::integers::Cause;
 use flame_rows::NoMemory;
 use flame_rows::Row;
 use flame_spec::fault::Fault;
-use flame_spec::model::NarrowModel;
+use crate::model::NarrowModel;
 use itoa::Buffer;
 use std::alloc::Global;
 use std::fmt::Write;

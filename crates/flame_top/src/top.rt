@@ -4,7 +4,7 @@ ghost use Rattle.std.specs.Prelude.{◌≡◌, ◌≢◌, ◌<◌, ◌≤◌, �
 ghost use Rattle.flame_outside.specs.Rose.{Rose};
 ghost use Rattle.flame_outside.specs.Files.{Files};
 ghost use Rattle.flame_outside.specs.Bytes.{GrowsByFront};
-ghost use Rattle.flame_spec.specs.Pieces.{laid};
+ghost use Rattle.flame_top.specs.NarrowPieces.{laid};
 ghost use Rattle.flame_top.specs.Orders.{order_of};
 ghost use Rattle.flame_top.specs.Reports.{report, set_all};
 ghost use Rattle.flame_top.specs.Standing.{IsToldBut, PrintsLines};

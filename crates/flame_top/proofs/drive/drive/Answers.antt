@@ -1,5 +1,5 @@
 use Rattle.std.proofs.Common.{◌≡◌, ◌+◌, ◌∙◌, arith}
-use Rattle.flame_spec.specs.Runs.{run}
+use Rattle.flame_top.specs.NarrowRuns.{run}
 use Rattle.flame_top.specs.Standing.{seen}
 use Rattle.flame_top.proofs.Iterations.{next_behind, next_reached, stops_at, ends_at}
 use Rattle.flame_top.proofs.drive.drive.Goals as goal

@@ -1,5 +1,5 @@
 use Rattle.std.proofs.Common.{◌≡◌, ◌-◌, ◌+◌}
-use Rattle.flame_spec.specs.Runs.{run}
+use Rattle.flame_top.specs.NarrowRuns.{run}
 use Rattle.flame_top.specs.Standing.{seen}
 use Rattle.flame_top.proofs.Composition.{IsBehind, Reaches}
 use Rattle.flame_top.proofs.Iterations.{left_of}

@@ -1,5 +1,5 @@
 use Rattle.std.proofs.Common.{◌≡◌, ℕ, List, ◌++◌, option_map, ap, ◌∙◌}
-use Rattle.flame_spec.specs.Texts.{line_text}
+use Rattle.flame_top.specs.RunTexts.{line_text}
 use Rattle.flame_top.proofs.drive.print_line.Goals as goal
 
 pub returns-in-Ok-clause-ok : goal.returns-in-Ok-clause-ok

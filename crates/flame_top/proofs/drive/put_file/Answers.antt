@@ -1,7 +1,7 @@
 use Rattle.std.proofs.Common.{◌≡◌, ℕ, List, option_map, ap, ◌∙◌}
 use Rattle.std.specs.FinMap as map
 use Rattle.flame_outside.specs.Files.{Files}
-use Rattle.flame_spec.specs.Texts.{file_text}
+use Rattle.flame_top.specs.RunTexts.{file_text}
 use Rattle.flame_top.proofs.drive.put_file.Goals as goal
 
 pub returns-in-Ok-clause-ok : goal.returns-in-Ok-clause-ok

@@ -1,8 +1,8 @@
 use Rattle.std.proofs.Common.{◌≡◌, List, Result, sym, subst, arith}
 use Rattle.std.specs.Prelude.{ℤ}
-use Rattle.flame_spec.specs.Meaning.{Faulted}
-use Rattle.flame_spec.specs.Texts.{file_name, file_text, line_text}
-use Rattle.flame_spec.specs.Runs.{after_turn}
+use Rattle.flame_top.specs.NarrowMeaning.{Faulted}
+use Rattle.flame_top.specs.RunTexts.{file_name, file_text, line_text}
+use Rattle.flame_top.specs.NarrowRuns.{after_turn}
 use Rattle.flame_top.specs.Standing.{Stands, seen}
 use Rattle.flame_top.proofs.Composition.{line_stops}
 use Rattle.flame_top.proofs.drive.turn.Goals as goal

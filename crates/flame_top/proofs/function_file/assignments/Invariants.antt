@@ -1,6 +1,6 @@
 -- The assignments so far and those that are left are all.
 use Rattle.std.proofs.Common.{◌≡◌, length}
-use Rattle.flame_spec.specs.Reading.{assignments_of}
+use Rattle.flame_top.specs.NarrowReading.{assignments_of}
 use Rattle.flame_top.proofs.Items.{read_on}
 use Rattle.flame_top.proofs.function_file.assignments.Given as goal
 

@@ -1,6 +1,6 @@
 -- What is after the texts that are left is after all of them.
 use Rattle.std.proofs.Common.{◌≡◌, drop, map}
-use Rattle.flame_spec.specs.Reading.{after_texts}
+use Rattle.flame_top.specs.NarrowReading.{after_texts}
 use Rattle.flame_top.proofs.function_file.behind_all.Given as goal
 
 abbrev pub invariant-loop-text : goal.invariant-loop-text

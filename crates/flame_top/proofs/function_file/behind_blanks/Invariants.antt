@@ -1,6 +1,6 @@
 -- The tokens stay the same after blanks.
 use Rattle.std.proofs.Common.{◌≡◌, ◌+◌, ◌<◌, ◌^◌, length}
-use Rattle.flame_spec.specs.Pieces.{pieces_of, tokens_from}
+use Rattle.flame_top.specs.NarrowPieces.{pieces_of, tokens_from}
 use Rattle.flame_top.proofs.function_file.behind_blanks.Given as goal
 
 abbrev pub invariant-loop-rest : goal.invariant-loop-rest

@@ -1,6 +1,6 @@
 -- The links so far and those that are left are all.
 use Rattle.std.proofs.Common.{◌≡◌, length}
-use Rattle.flame_spec.specs.Reading.{links_of}
+use Rattle.flame_top.specs.NarrowReading.{links_of}
 use Rattle.flame_top.proofs.Items.{read_on}
 use Rattle.flame_top.proofs.function_file.links.Given as goal
 

@@ -2,8 +2,8 @@
 use Rattle.std.proofs.Common.{◌≡◌, ◌<◌, true, sym, ◌∙◌, ap, arith, Some, pos, w32}
 use Rattle.std.proofs.lemmas.List.{at_drop_all}
 use Rattle.std.proofs.lemmas.Int.{to_z_pos}
-use Rattle.flame_spec.specs.Reading.{is_numeral, number_after}
-use Rattle.flame_spec.proofs.Numerals.{Numeral, numeral_parts, number_of-numeral, value_small}
+use Rattle.flame_top.specs.NarrowReading.{is_numeral, number_after}
+use Rattle.flame_top.proofs.Numerals.{Numeral, numeral_parts, number_of-numeral, value_small}
 use Rattle.flame_top.proofs.Digits.{one_more, digit_of}
 use Rattle.flame_top.proofs.function_file.number.Goals as goal
 

@@ -1,6 +1,6 @@
 -- The number so far and the digits that are left make up the whole number.
 use Rattle.std.proofs.Common.{◌≡◌, ◌<◌, ◌^◌, drop}
-use Rattle.flame_spec.specs.Reading.{number_after}
+use Rattle.flame_top.specs.NarrowReading.{number_after}
 use Rattle.flame_top.proofs.function_file.number.Given as goal
 
 abbrev pub invariant-loop-digit : goal.invariant-loop-digit

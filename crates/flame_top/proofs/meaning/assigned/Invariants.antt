@@ -1,6 +1,6 @@
 -- What is left to assign gives what all assignments give.
 use Rattle.std.proofs.Common.{◌≡◌, drop}
-use Rattle.flame_spec.specs.Meaning.{assigned}
+use Rattle.flame_top.specs.NarrowMeaning.{assigned}
 use Rattle.flame_top.proofs.meaning.assigned.Given as goal
 
 abbrev pub invariant-loop-sum : goal.invariant-loop-sum

@@ -1,6 +1,6 @@
 -- The rows so far with what is left to run make up the outcomes of all.
 use Rattle.std.proofs.Common.{◌≡◌, ◌++◌, drop, Ok}
-use Rattle.flame_spec.specs.Meaning.{and_then, outcomes}
+use Rattle.flame_top.specs.NarrowMeaning.{and_then, outcomes}
 use Rattle.flame_top.proofs.meaning.iteration.Given as goal
 
 abbrev pub invariant-loop-memory : goal.invariant-loop-memory

@@ -1,6 +1,6 @@
 -- What is left to add gives the value of the whole sum.
 use Rattle.std.proofs.Common.{◌≡◌, drop}
-use Rattle.flame_spec.specs.Meaning.{value_from, sum_value}
+use Rattle.flame_top.specs.NarrowMeaning.{value_from, sum_value}
 use Rattle.flame_top.proofs.meaning.sum_value.Given as goal
 
 abbrev pub invariant-loop-link : goal.invariant-loop-link

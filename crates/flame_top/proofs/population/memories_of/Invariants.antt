@@ -1,7 +1,7 @@
 -- The memories so far and those of the agents that are left are all memories.
 use Rattle.std.proofs.Common.{◌≡◌, ◌++◌, drop, map, option_map}
 use Rattle.serde_json.specs.View.{view}
-use Rattle.flame_spec.specs.Populations.{memories_of}
+use Rattle.flame_top.specs.Populations.{memories_of}
 use Rattle.flame_top.proofs.population.memories_of.Given as goal
 
 abbrev pub invariant-loop-value : goal.invariant-loop-value

@@ -1,5 +1,5 @@
 use Rattle.std.proofs.Common.{◌≡◌, ◌++◌, drop, string_bytes}
-use Rattle.flame_spec.specs.Texts.{agents_text, more_agents}
+use Rattle.flame_top.specs.RunTexts.{agents_text, more_agents}
 use Rattle.flame_top.proofs.texts.agents.Given as goal
 
 abbrev pub invariant-loop-memory : goal.invariant-loop-memory

@@ -5,10 +5,11 @@ use Rattle.serde_json.specs.Data.{Data}
 use Rattle.serde_json.specs.Find.{get, as_array, as_number, as_u64, as_i64}
 use Rattle.flame_ops.specs.Integers.{is_int}
 use Rattle.flame_rows.specs.Bags.{ascending}
-use Rattle.flame_spec.specs.declared.model.NarrowModel.{NarrowModel}
-use Rattle.flame_spec.specs.declared.population.Start.{Start}
+use Rattle.flame_top.specs.declared.model.NarrowModel.{NarrowModel}
+use Rattle.flame_top.specs.declared.start.Start.{Start}
 use Rattle.flame_spec.specs.Steps.{◌>>=◌, only_where}
-use Rattle.flame_spec.specs.Json.{is_sized, lone, items_list, text_at}
+use Rattle.flame_spec.specs.Json.{items_list}
+use Rattle.flame_top.specs.JsonParts.{is_sized, lone, text_at}
 
 -- the last number that an iteration may have [own]
 abbrev pub last_iteration : ℕ

@@ -7,12 +7,12 @@ use Rattle.std.specs.Char.{is_ascii_digit}
 use Rattle.std.specs.Str.{bytes_eq}
 use Rattle.flame_ops.specs.declared.integers.Op.{Op}
 use Rattle.flame_ops.specs.declared.integers.Op.TheVariants.{Add, Sub}
-use Rattle.flame_spec.specs.declared.source.Operand.{Operand}
-use Rattle.flame_spec.specs.declared.source.Operand.TheVariants.{Get, Number}
-use Rattle.flame_spec.specs.declared.source.Link.{Link}
-use Rattle.flame_spec.specs.declared.source.Sum.{Sum}
-use Rattle.flame_spec.specs.declared.model.NarrowModel.{NarrowModel}
-use Rattle.flame_spec.specs.Pieces.{Token, tokens_of}
+use Rattle.flame_top.specs.declared.source.Operand.{Operand}
+use Rattle.flame_top.specs.declared.source.Operand.TheVariants.{Get, Number}
+use Rattle.flame_top.specs.declared.source.Link.{Link}
+use Rattle.flame_top.specs.declared.source.Sum.{Sum}
+use Rattle.flame_top.specs.declared.model.NarrowModel.{NarrowModel}
+use Rattle.flame_top.specs.NarrowPieces.{Token, tokens_of}
 
 -- what is left after tokens with exactly these texts, where they stand at the front [own]
 abbrev pub after_texts : List (List ℕ) → List Token → Option (List Token)

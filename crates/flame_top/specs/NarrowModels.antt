@@ -3,9 +3,10 @@ use Rattle.std.specs.Prelude.{ℕ, List, codes, not, Option, Some}
 use Rattle.std.specs.Str.{bytes_eq}
 use Rattle.serde_json.specs.Data.{Data}
 use Rattle.serde_json.specs.Find.{get, as_str}
-use Rattle.flame_spec.specs.declared.model.NarrowModel.{NarrowModel}
+use Rattle.flame_top.specs.declared.model.NarrowModel.{NarrowModel}
 use Rattle.flame_spec.specs.Steps.{◌>>=◌, only_where}
-use Rattle.flame_spec.specs.Json.{is_sized, lone, sole_at, kept, text_at}
+use Rattle.flame_spec.specs.Json.{kept}
+use Rattle.flame_top.specs.JsonParts.{is_sized, lone, sole_at, text_at}
 use Rattle.flame_spec.specs.Names.{is_filled, is_name, is_function_name}
 
 -- the name of a variable of type int [own]

@@ -5,17 +5,17 @@ use Rattle.std.specs.Str.{bytes_eq}
 use Rattle.std.proofs.lemmas.Slice.Eq.{bytes_eq-Decides}
 use Rattle.flame_ops.specs.declared.integers.Op.{Op}
 use Rattle.flame_ops.specs.declared.integers.Op.TheVariants.{Add, Sub, Mul, Div, Rem, Lt, Gt, Le, Ge, Eq, Ne}
-use Rattle.flame_spec.specs.declared.source.Operand.{Operand}
-use Rattle.flame_spec.specs.declared.source.Operand.TheVariants.{Get, Number}
-use Rattle.flame_spec.specs.declared.source.Link.{Link}
-use Rattle.flame_spec.specs.declared.source.Sum.{Sum}
-use Rattle.flame_spec.specs.declared.model.NarrowModel.{NarrowModel}
-use Rattle.flame_spec.specs.Pieces.{Token, tokens_of}
-use Rattle.flame_spec.specs.Sums.{Spelled, plain, sign_text, operand_spelled, each_spelled, link_spelled, sum_spelled, assignment_spelled, assignments_spelled, Spell, StandsFor}
-use Rattle.flame_spec.specs.Reading.{after_texts, number_of, operand_of, op_of, with_others, many, link_of, links_of, sum_of, value_of, assignment_of, assignments_of, whole, body_of, source_of}
-use Rattle.flame_spec.proofs.Options.{option_map-Some, option_and_then-Some}
-use Rattle.flame_spec.proofs.Many.{Shrinks, many-none, many-more}
-use Rattle.flame_spec.proofs.Numerals.{number_of-spelled, numeral-read, numeral-no_letter}
+use Rattle.flame_top.specs.declared.source.Operand.{Operand}
+use Rattle.flame_top.specs.declared.source.Operand.TheVariants.{Get, Number}
+use Rattle.flame_top.specs.declared.source.Link.{Link}
+use Rattle.flame_top.specs.declared.source.Sum.{Sum}
+use Rattle.flame_top.specs.declared.model.NarrowModel.{NarrowModel}
+use Rattle.flame_top.specs.NarrowPieces.{Token, tokens_of}
+use Rattle.flame_top.specs.Sums.{Spelled, plain, sign_text, operand_spelled, each_spelled, link_spelled, sum_spelled, assignment_spelled, assignments_spelled, Spell, StandsFor}
+use Rattle.flame_top.specs.NarrowReading.{after_texts, number_of, operand_of, op_of, with_others, many, link_of, links_of, sum_of, value_of, assignment_of, assignments_of, whole, body_of, source_of}
+use Rattle.flame_top.proofs.Options.{option_map-Some, option_and_then-Some}
+use Rattle.flame_top.proofs.Many.{Shrinks, many-none, many-more}
+use Rattle.flame_top.proofs.Numerals.{number_of-spelled, numeral-read, numeral-no_letter}
 
 same_text : (a b : List ℕ) → bytes_eq a b ≡ true → a ≡ b
 same_text a b e = (bytes_eq-Decides a b).0 e

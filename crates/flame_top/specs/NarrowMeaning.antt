@@ -4,10 +4,10 @@ use Rattle.flame_ops.specs.declared.integers.Cause.{Cause}
 use Rattle.flame_ops.specs.Integers.{applied}
 use Rattle.flame_rows.specs.Bags.{ascending}
 use Rattle.flame_spec.specs.declared.fault.Fault.{Fault}
-use Rattle.flame_spec.specs.declared.source.Operand.{Operand}
-use Rattle.flame_spec.specs.declared.source.Operand.TheVariants.{Get, Number}
-use Rattle.flame_spec.specs.declared.source.Link.{Link}
-use Rattle.flame_spec.specs.declared.source.Sum.{Sum}
+use Rattle.flame_top.specs.declared.source.Operand.{Operand}
+use Rattle.flame_top.specs.declared.source.Operand.TheVariants.{Get, Number}
+use Rattle.flame_top.specs.declared.source.Link.{Link}
+use Rattle.flame_top.specs.declared.source.Sum.{Sum}
 
 -- go on with the value, or stay with the fault [own]
 abbrev pub and_then : {X Y E : Type 0} → Result X E → (X → Result Y E) → Result Y E

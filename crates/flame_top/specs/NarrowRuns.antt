@@ -1,9 +1,9 @@
 -- What a run writes, prints and answers, iteration by iteration.
 use Rattle.std.specs.Prelude.{ℕ, zero, suc, ◌+◌, ℤ, List, [], ◌∷◌, Result, Ok, Err}
-use Rattle.flame_spec.specs.declared.model.NarrowModel.{NarrowModel}
-use Rattle.flame_spec.specs.declared.source.Sum.{Sum}
-use Rattle.flame_spec.specs.Meaning.{Faulted, iteration}
-use Rattle.flame_spec.specs.Texts.{file_name, file_text, line_text, fault_text}
+use Rattle.flame_top.specs.declared.model.NarrowModel.{NarrowModel}
+use Rattle.flame_top.specs.declared.source.Sum.{Sum}
+use Rattle.flame_top.specs.NarrowMeaning.{Faulted, iteration}
+use Rattle.flame_top.specs.RunTexts.{file_name, file_text, line_text, fault_text}
 
 -- the files to write with their names and the lines to print, each in order, the line for err, and the status [own]
 pub record Report : Type 0 where

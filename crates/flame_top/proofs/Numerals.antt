@@ -7,8 +7,8 @@ use Rattle.std.proofs.lemmas.Bool.{not-true, eq-eqb, false≢true, and_parts, an
 use Rattle.std.proofs.lemmas.Str.Parse.{IsDigitsTest, IsNumeralModel, numerals_by_fold, digits_value_short}
 use Rattle.std.proofs.lemmas.Fmt.{decimal_digit, decimal-digits_value, digits_value-decimal, digits_decimal, decimal_nonempty, length-decimal-le, first_decimal}
 use Rattle.std.specs.Char.{is_ascii_digit}
-use Rattle.flame_spec.specs.Reading.{has_leading_zero, is_numeral, number_after, number_of}
-use Rattle.flame_spec.specs.Sums.{numeral}
+use Rattle.flame_top.specs.NarrowReading.{has_leading_zero, is_numeral, number_after, number_of}
+use Rattle.flame_top.specs.Sums.{numeral}
 
 tells : IsDigitsTest (λ ds. list_all is_ascii_digit ds ≡ true)
 tells = record {

@@ -3,9 +3,9 @@ use Rattle.std.specs.Prelude.{ℕ, ℤ, List, [], ◌∷◌, ◌++◌, length, c
 use Rattle.std.specs.Fmt.{signed_decimal}
 use Rattle.flame_ops.specs.declared.integers.Cause.{Cause}
 use Rattle.flame_ops.specs.declared.integers.Cause.TheVariants.{Overflow, DivideByZero, Fuel}
-use Rattle.flame_spec.specs.declared.model.NarrowModel.{NarrowModel}
-use Rattle.flame_spec.specs.Pieces.{laid}
-use Rattle.flame_spec.specs.Meaning.{Faulted, held}
+use Rattle.flame_top.specs.declared.model.NarrowModel.{NarrowModel}
+use Rattle.flame_top.specs.NarrowPieces.{laid}
+use Rattle.flame_top.specs.NarrowMeaning.{Faulted, held}
 
 -- an agent's memory in an iteration file [own]
 abbrev pub agent_text : NarrowModel → List ℤ → List ℕ

@@ -2,12 +2,12 @@
 use Rattle.std.specs.Prelude.{◌≡◌, ℕ, ℤ, pos, negsuc, List, [], ◌∷◌, ◌++◌, codes, nat_lt, if◌then◌else◌, Option, Some, None, decimal}
 use Rattle.flame_ops.specs.declared.integers.Op.{Op}
 use Rattle.flame_ops.specs.declared.integers.Op.TheVariants.{Add, Sub}
-use Rattle.flame_spec.specs.declared.source.Operand.{Operand}
-use Rattle.flame_spec.specs.declared.source.Operand.TheVariants.{Get, Number}
-use Rattle.flame_spec.specs.declared.source.Link.{Link}
-use Rattle.flame_spec.specs.declared.source.Sum.{Sum}
-use Rattle.flame_spec.specs.declared.model.NarrowModel.{NarrowModel}
-use Rattle.flame_spec.specs.Pieces.{Token, tokens_of}
+use Rattle.flame_top.specs.declared.source.Operand.{Operand}
+use Rattle.flame_top.specs.declared.source.Operand.TheVariants.{Get, Number}
+use Rattle.flame_top.specs.declared.source.Link.{Link}
+use Rattle.flame_top.specs.declared.source.Sum.{Sum}
+use Rattle.flame_top.specs.declared.model.NarrowModel.{NarrowModel}
+use Rattle.flame_top.specs.NarrowPieces.{Token, tokens_of}
 
 -- the text of a token, where one spells this part, and the line that it stands on where that is part of what it means
 -- [own]

@@ -1,10 +1,10 @@
 -- What holds of function files. [own]
 use Rattle.std.specs.Prelude.{◌≡◌, ◌↔◌, ℕ, List, Some}
-use Rattle.flame_spec.specs.declared.model.NarrowModel.{NarrowModel}
-use Rattle.flame_spec.specs.declared.source.Sum.{Sum}
-use Rattle.flame_spec.specs.Pieces.{pieces_of, laid}
-use Rattle.flame_spec.specs.Sums.{StandsFor}
-use Rattle.flame_spec.specs.Reading.{source_of}
+use Rattle.flame_top.specs.declared.model.NarrowModel.{NarrowModel}
+use Rattle.flame_top.specs.declared.source.Sum.{Sum}
+use Rattle.flame_top.specs.NarrowPieces.{pieces_of, laid}
+use Rattle.flame_top.specs.Sums.{StandsFor}
+use Rattle.flame_top.specs.NarrowReading.{source_of}
 
 -- the pieces are laid end to end over all bytes
 abbrev pub PiecesCoverBytes : Type 0

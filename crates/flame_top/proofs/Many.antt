@@ -1,8 +1,8 @@
 -- Items that stand one after another, read whole: how many are allowed for does not matter.
 use Rattle.std.proofs.Common.{◌≡◌, ℕ, zero, suc, ◌<◌, ◌≤◌, List, [], ◌∷◌, length, Option, Some, None, refl, ap, arith}
 use Rattle.std.specs.Prelude.{option_map}
-use Rattle.flame_spec.specs.Pieces.{Token}
-use Rattle.flame_spec.specs.Reading.{with_others, many}
+use Rattle.flame_top.specs.NarrowPieces.{Token}
+use Rattle.flame_top.specs.NarrowReading.{with_others, many}
 
 -- an item takes a token at least
 pub record Shrinks {X : Type 0} (item : List Token → Option (Option (X × List Token))) : Type 0 where
