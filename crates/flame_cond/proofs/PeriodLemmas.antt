@@ -5,7 +5,7 @@ use Rattle.std.specs.Str.{bytes_eq}
 use Rattle.std.proofs.Math.Nat.{le-mul_of_pos_right, mul_assoc}
 use Rattle.std.proofs.lemmas.Int.{ints}
 use Rattle.std.proofs.lemmas.List.{take_more, reverse-append}
-use Rattle.flame_spec.specs.declared.model.TimeUnit.{TimeUnit}
+use Rattle.flame_spec.specs.declared.models.TimeUnit.{TimeUnit}
 use Rattle.flame_spec.specs.TimeUnits.{length_back}
 use Rattle.flame_spec.specs.Conditions.{is_length}
 

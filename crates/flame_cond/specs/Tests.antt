@@ -1,11 +1,11 @@
 -- What tests of rows by columns say.
 use Rattle.std.specs.Prelude.{◌≡◌, ℤ, pos, List, [], Bool, not, ◌&&◌, ◌||◌}
-use Rattle.flame_spec.specs.declared.condition.Condition.{Condition}
-use Rattle.flame_spec.specs.declared.model.TimeUnit.{TimeUnit}
-use Rattle.flame_spec.specs.declared.model.AgentType.{AgentType}
-use Rattle.flame_spec.specs.declared.model.MessageType.{MessageType}
-use Rattle.flame_spec.specs.declared.model.Variable.{Variable}
-use Rattle.flame_spec.specs.declared.condition.Operand.{Operand}
+use Rattle.flame_spec.specs.declared.conditions.Condition.{Condition}
+use Rattle.flame_spec.specs.declared.models.TimeUnit.{TimeUnit}
+use Rattle.flame_spec.specs.declared.models.AgentType.{AgentType}
+use Rattle.flame_spec.specs.declared.models.MessageType.{MessageType}
+use Rattle.flame_spec.specs.declared.models.Variable.{Variable}
+use Rattle.flame_spec.specs.declared.conditions.Operand.{Operand}
 use Rattle.flame_spec.specs.Conditions.{Scope, Moment, number_at, operand_value, compares, in_time, truth}
 use Rattle.flame_spec.specs.Conditions.{condition_holds, filter_passes}
 use Rattle.flame_cond.specs.declared.test.Term.{Term}

@@ -9,8 +9,8 @@ use crate::test::Test;
 use flame_rows::NoMemory;
 use flame_rows::Row;
 use flame_rows::Seq;
-use flame_spec::condition::Condition;
-use flame_spec::model::{AgentType, TimeUnit};
+use flame_spec::Condition;
+use flame_spec::{AgentType, TimeUnit};
 use std::alloc::Global;
 use std::marker::Model;
 

@@ -8,8 +8,8 @@ use crate::reading::test;
 use crate::test::Test;
 use flame_rows::NoMemory;
 use flame_rows::Row;
-use flame_spec::condition::Condition;
-use flame_spec::model::{AgentType, MessageType};
+use flame_spec::Condition;
+use flame_spec::{AgentType, MessageType};
 use std::alloc::Global;
 use std::marker::Model;
 

@@ -7,7 +7,7 @@ ghost use Rattle.flame_spec.specs.Conditions.{is_length};
 
 use crate::period::Period;
 use flame_rows::Text;
-use flame_spec::model::{TimeUnit, Variable};
+use flame_spec::{TimeUnit, Variable};
 
 fn width_of(variable: &Variable) -> u32
     ensures { result ≡ width_of variable.now }

@@ -8,8 +8,8 @@ ghost use Rattle.flame_cond.specs.Tests.{names, SaysOperand, SaysTruth};
 use crate::names::{column, period};
 use crate::test::{Term, Test};
 use flame_rows::NoMemory;
-use flame_spec::condition::{Condition, Operand};
-use flame_spec::model::{TimeUnit, Variable};
+use flame_spec::{Condition, Operand};
+use flame_spec::{TimeUnit, Variable};
 use std::alloc::Global;
 
 /// What is compared, by its column.

@@ -6,7 +6,7 @@ ghost use Rattle.flame_spec.specs.Views.{key_of};
 ghost use Rattle.flame_cond.specs.Keys.{key_by};
 
 use crate::names::column;
-use flame_spec::model::{MessageType, Sort};
+use flame_spec::{MessageType, Sort};
 
 /// What the rows of an input are sorted by.
 #[derive(Clone, Copy, Debug, PartialEq, Eq)]

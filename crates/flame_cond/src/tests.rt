@@ -1,7 +1,7 @@
 //! Conditions, filters and keys, on values worked by hand.
 
 ghost use Rattle.std.specs.Prelude.{◌≡◌, ◌+◌, ◌<◌, ◌^◌, pos, codes, List, [], IsTrue, All, IfOk, Some, int_le};
-ghost use Rattle.flame_spec.specs.declared.model.TimeUnit.{TimeUnit};
+ghost use Rattle.flame_spec.specs.declared.models.TimeUnit.{TimeUnit};
 ghost use Rattle.flame_spec.specs.Columns.{width, width_by, width_of};
 ghost use Rattle.flame_spec.specs.TimeUnits.{unit_length};
 ghost use Rattle.flame_spec.specs.Conditions.{has_lengths};
@@ -14,8 +14,8 @@ use flame_rows::NoMemory;
 use flame_rows::Row;
 use flame_rows::Seq;
 use flame_rows::Text;
-use flame_spec::condition::{Condition, Operand};
-use flame_spec::model::{AgentType, MessageType, Sort, TimeUnit, Variable};
+use flame_spec::{Condition, Operand};
+use flame_spec::{AgentType, MessageType, Sort, TimeUnit, Variable};
 use std::alloc::Global;
 use std::process::Abort;
 use std::test::Fail;

@@ -4,7 +4,7 @@ use Rattle.std.specs.Prelude.{◌&&◌, ◌||◌, slice_get}
 use Rattle.std.specs.List.{list_any}
 use Rattle.std.proofs.lemmas.Bool.{le-ltb}
 use Rattle.std.proofs.lemmas.List.{append-nil, drop_all, take_all}
-use Rattle.flame_spec.specs.declared.model.Input.{Input}
+use Rattle.flame_spec.specs.declared.models.Input.{Input}
 use Rattle.flame_spec.specs.Functions.{Place}
 use Rattle.flame_spec.specs.Below.{all_below, is_in}
 use Rattle.flame_spec.specs.Before.{both_stand, before_among}

@@ -1,6 +1,6 @@
 -- The edges of a model: which function stands before which.
 use Rattle.std.specs.Prelude.{ℕ, zero, suc, Bool, List, [], ◌++◌, map}
-use Rattle.flame_spec.specs.declared.model.Model.{Model}
+use Rattle.flame_spec.specs.declared.models.Model.{Model}
 use Rattle.flame_spec.specs.Before.{before, function_count}
 use Rattle.flame_spec.specs.Below.{all_below}
 use Rattle.flame_depend.specs.declared.edge.Edge.{Edge}

@@ -1,7 +1,7 @@
 -- What `plan` answers.
 use Rattle.std.specs.Prelude.{◌≡◌, ℕ, List, [], ◌∷◌, map, None, Some, IsSome}
-use Rattle.flame_spec.specs.declared.model.Model.{Model}
-use Rattle.flame_spec.specs.declared.model.AgentType.{AgentType}
+use Rattle.flame_spec.specs.declared.models.Model.{Model}
+use Rattle.flame_spec.specs.declared.models.AgentType.{AgentType}
 use Rattle.flame_spec.specs.States.{start_states, many_starts, many_from}
 use Rattle.flame_spec.specs.ModelOrder.{model_order, left_over, model_cycle}
 use Rattle.flame_spec.specs.Layers.{model_layers}

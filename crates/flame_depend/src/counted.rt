@@ -3,7 +3,7 @@
 ghost use Rattle.std.specs.Prelude.{◌^◌, ◌<◌, ◌↔◌, IsTrue, length};
 ghost use Rattle.flame_spec.specs.Before.{function_count};
 
-use flame_spec::model::Model;
+use flame_spec::Model;
 
 /// Whether the model has fewer than 2^32 functions, of all types together, and fewer than 2^32 agent types, as `edges`
 /// and `plan` want.

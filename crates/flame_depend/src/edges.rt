@@ -11,7 +11,7 @@ use crate::place::place_all;
 use crate::targets::Targets;
 use flame_rows::NoMemory;
 use flame_rows::Seq;
-use flame_spec::model::Model;
+use flame_spec::Model;
 use std::alloc::Global;
 
 /// Adds the edges from a function to each of the targets.

@@ -5,7 +5,7 @@ ghost use Rattle.flame_spec.specs.Functions.{at_type, functions};
 ghost use Rattle.flame_depend.specs.Shown.{shown};
 
 use flame_rows::NoMemory;
-use flame_spec::model::{AgentType, Function, Model};
+use flame_spec::{AgentType, Function, Model};
 use std::alloc::Global;
 
 /// A function with its type and the number of its type.

@@ -16,7 +16,7 @@ use crate::plan::Plan;
 use crate::starts::{Found, find_starts};
 use crate::targets::Targets;
 use flame_rows::Seq;
-use flame_spec::model::Model;
+use flame_spec::Model;
 use std::alloc::Global;
 
 /// The plan of a model without a cycle, whose functions run in this order.

@@ -11,7 +11,7 @@ use crate::fault::ManyStarts;
 use flame_rows::NoMemory;
 use flame_rows::Seq;
 use flame_rows::Text;
-use flame_spec::model::{AgentType, Function};
+use flame_spec::{AgentType, Function};
 use std::alloc::Global;
 use std::collections::HashSet;
 

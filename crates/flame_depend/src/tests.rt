@@ -7,7 +7,7 @@ use crate::plan::Plan;
 use crate::planner::plan;
 use flame_rows::Seq;
 use flame_rows::Text;
-use flame_spec::model::{AgentType, Function, Input, Model};
+use flame_spec::{AgentType, Function, Input, Model};
 use std::alloc::{AllocError, Global};
 use std::process::Abort;
 use std::test::Fail as Failed;

@@ -1,7 +1,7 @@
 -- What the grammar reads is reached by steps.
 use Rattle.std.proofs.Common.{◌≡◌, inl, inr, ℕ, zero, suc, ◌<◌, ◌≤◌, List, [], ◌∷◌, refl, sym, ap, ◌∙◌, subst, arith, Bool, true, false, Option, Some, None}
 use Rattle.flame_ops.specs.declared.integers.Op.{Op}
-use Rattle.flame_spec.specs.declared.tree.Sign.{Sign}
+use Rattle.flame_spec.specs.declared.trees.Sign.{Sign}
 use Rattle.flame_spec.specs.Trees.{Expression, Expressions, Links}
 use Rattle.flame_lex.specs.declared.token.Token.{Token}
 use Rattle.flame_expr.specs.declared.lexeme.Lexeme.{Lexeme}

@@ -2,7 +2,7 @@
 use Rattle.std.proofs.Common.{◌≡◌, ◌⊎◌, inl, inr, ℕ, zero, suc, ◌+◌, ◌<◌, ◌≤◌, List, [], ◌∷◌, refl, sym, ap, ◌∙◌, arith, Bool, true, false, Option, Some, None}
 use Rattle.std.proofs.lemmas.Bool.{false≢true}
 use Rattle.flame_ops.specs.declared.integers.Op.{Op}
-use Rattle.flame_spec.specs.declared.tree.SignKind.{SignKind}
+use Rattle.flame_spec.specs.declared.trees.SignKind.{SignKind}
 use Rattle.flame_expr.specs.declared.lexeme.Lexeme.{Lexeme}
 use Rattle.flame_expr.specs.declared.lexeme.Lexeme.TheVariants.{Nothing, Star, Slash, Percent, Plus, Minus, Below, Above, AtMost, AtLeast, Same, Differs, Bang, AndAnd, OrOr}
 use Rattle.flame_expr.specs.Lexemes.{is_real}

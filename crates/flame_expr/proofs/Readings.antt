@@ -1,10 +1,10 @@
 -- What readers have read, token by token.
 use Rattle.std.proofs.Common.{◌≡◌, ℕ, zero, suc, ◌+◌, ◌-◌, ◌<◌, ◌≤◌, List, [], ◌∷◌, ◌++◌, length, drop, refl, sym, ap, ◌∙◌, subst, arith, Bool, true, false, Option, Some, None, map}
 use Rattle.flame_ops.specs.declared.integers.Op.{Op}
-use Rattle.flame_spec.specs.declared.tree.Sign.{Sign}
-use Rattle.flame_spec.specs.declared.tree.SignKind.{SignKind}
-use Rattle.flame_spec.specs.declared.tree.Link.{Link}
-use Rattle.flame_spec.specs.declared.tree.Expr.{Expr}
+use Rattle.flame_spec.specs.declared.trees.Sign.{Sign}
+use Rattle.flame_spec.specs.declared.trees.SignKind.{SignKind}
+use Rattle.flame_spec.specs.declared.trees.Link.{Link}
+use Rattle.flame_spec.specs.declared.trees.Expr.{Expr}
 use Rattle.flame_spec.specs.Trees.{Expression, number, name, field, get, signed, chain, all_of, any_of, Expressions, no_parts, part, Links, no_links, link}
 use Rattle.flame_spec.specs.Seen.{links, expression, expressions}
 use Rattle.flame_lex.specs.declared.token.Token.{Token}

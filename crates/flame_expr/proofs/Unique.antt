@@ -2,8 +2,8 @@
 use Rattle.std.proofs.Common.{◌≡◌, ◌⊎◌, inl, inr, ℕ, zero, suc, ◌+◌, ◌<◌, ◌≤◌, List, [], ◌∷◌, ◌++◌, refl, sym, ap, ◌∙◌, subst, arith, Bool, true, false, Option, Some, None, unwrap_or}
 use Rattle.std.proofs.lemmas.Bool.{false≢true}
 use Rattle.flame_ops.specs.declared.integers.Op.{Op}
-use Rattle.flame_spec.specs.declared.tree.Sign.{Sign}
-use Rattle.flame_spec.specs.declared.tree.SignKind.{SignKind}
+use Rattle.flame_spec.specs.declared.trees.Sign.{Sign}
+use Rattle.flame_spec.specs.declared.trees.SignKind.{SignKind}
 use Rattle.flame_spec.specs.Trees.{Expression, Expressions, part, Links, link}
 use Rattle.flame_lex.specs.declared.token.Token.{Token}
 use Rattle.flame_expr.specs.declared.lexeme.Lexeme.{Lexeme}

@@ -1,8 +1,8 @@
 -- The grammar of expressions: a relation between tokens, a tree and the tokens behind it, one case for each production.
 use Rattle.std.specs.Prelude.{◌≡◌, ℕ, zero, suc, ◌<◌, List, [], ◌∷◌, Some}
 use Rattle.flame_ops.specs.declared.integers.Op.{Op}
-use Rattle.flame_spec.specs.declared.tree.Sign.{Sign}
-use Rattle.flame_spec.specs.declared.tree.SignKind.{SignKind}
+use Rattle.flame_spec.specs.declared.trees.Sign.{Sign}
+use Rattle.flame_spec.specs.declared.trees.SignKind.{SignKind}
 use Rattle.flame_spec.specs.Trees.{Expression, number, name, field, get, signed, chain, all_of, any_of, Expressions}
 use Rattle.flame_spec.specs.Trees.{no_parts, part, Links, no_links, link}
 use Rattle.flame_lex.specs.declared.token.Token.{Token}

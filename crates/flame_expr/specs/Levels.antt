@@ -2,7 +2,7 @@
 use Rattle.std.specs.Prelude.{ℕ, zero, suc, List, [], ◌∷◌, ◌++◌, Option, Some, None}
 use Rattle.flame_ops.specs.declared.integers.Op as op
 use Rattle.flame_ops.specs.declared.integers.Op.TheVariants.{Add, Sub, Mul, Div, Rem, Lt, Gt, Le, Ge, Eq, Ne}
-use Rattle.flame_spec.specs.declared.tree.SignKind as sign
+use Rattle.flame_spec.specs.declared.trees.SignKind as sign
 use Rattle.flame_expr.specs.declared.lexeme.Lexeme.{Lexeme}
 use Rattle.flame_expr.specs.declared.lexeme.Lexeme.TheVariants.{Plus, Minus, Star, Slash, Percent, Same, Differs}
 use Rattle.flame_expr.specs.declared.lexeme.Lexeme.TheVariants.{Bang, Below, Above, AtMost, AtLeast, AndAnd, OrOr}

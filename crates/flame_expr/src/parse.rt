@@ -9,7 +9,7 @@ ghost use Rattle.flame_expr.specs.Nesting.{NestsWithin};
 use crate::fault::Fail;
 use crate::reader::expression;
 use flame_lex::token::Token;
-use flame_spec::tree::Expr;
+use flame_spec::Expr;
 use std::alloc::Global;
 
 /// The expression at this place of tokens that nest at most 64 deep: its tree and the place behind it.

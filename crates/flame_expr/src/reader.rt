@@ -21,7 +21,7 @@ use flame_lex::token::Token;
 use flame_ops::integers::Op;
 use flame_rows::NoMemory;
 use flame_rows::Seq;
-use flame_spec::tree::{Expr, Link, Sign, SignKind};
+use flame_spec::{Expr, Link, Sign, SignKind};
 use std::alloc::Global;
 
 /// The operator that a lexeme is between the parts of this level of a chain.

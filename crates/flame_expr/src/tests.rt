@@ -8,7 +8,7 @@ use crate::parse::parse_expr;
 use crate::reader::bracketed;
 use flame_lex::lexer::lex;
 use flame_lex::token::{Kind, Token};
-use flame_spec::tree::{Expr, Link, Sign};
+use flame_spec::{Expr, Link, Sign};
 use std::alloc::Global;
 use std::process::Abort;
 use std::test::Fail as Failed;

@@ -1,9 +1,9 @@
 -- First faults.
 use Rattle.std.proofs.Common.{◌≡◌, ℕ, List, [], ◌∷◌, ◌++◌, map, sym, ap, ◌∙◌, Bool, true, false, Some}
 use Rattle.std.specs.Prelude.{◌||◌}
-use Rattle.flame_spec.specs.declared.fault.NameFault.{NameFault}
-use Rattle.flame_spec.specs.declared.fault.NameKind.{NameKind}
-use Rattle.flame_spec.specs.declared.fault.NameKind.TheVariants.{Duplicate, Clash}
+use Rattle.flame_spec.specs.declared.faults.NameFault.{NameFault}
+use Rattle.flame_spec.specs.declared.faults.NameKind.{NameKind}
+use Rattle.flame_spec.specs.declared.faults.NameKind.TheVariants.{Duplicate, Clash}
 use Rattle.flame_spec.specs.Lists.{first}
 use Rattle.flame_spec.specs.Capitals.{capitals, clashes}
 use Rattle.flame_spec.specs.KnownNames.{is_among}

@@ -1,7 +1,7 @@
 -- The faults of an input of a message that is known, or not.
 use Rattle.std.proofs.Common.{◌≡◌, ℕ, List, [], ◌++◌, codes, sym, ap, ◌∙◌, true, false, not, Some}
-use Rattle.flame_spec.specs.declared.fault.NameKind.TheVariants.{Duplicate, UnknownMessage}
-use Rattle.flame_spec.specs.declared.model.Input.{Input}
+use Rattle.flame_spec.specs.declared.faults.NameKind.TheVariants.{Duplicate, UnknownMessage}
+use Rattle.flame_spec.specs.declared.models.Input.{Input}
 use Rattle.flame_spec.specs.Lists.{first}
 use Rattle.flame_spec.specs.KnownNames.{is_among, DeclaredNames}
 use Rattle.flame_spec.specs.Paths.{at_key}

@@ -1,7 +1,7 @@
 -- Faults in a list that is walked.
 use Rattle.std.proofs.Common.{◌≡◌, ℕ, ◌+◌, ◌<◌, List, [], ◌∷◌, ◌++◌, length, drop, get_or, sym, ap, subst, ◌∙◌, Some}
 use Rattle.std.proofs.lemmas.List.{at_drop_more}
-use Rattle.flame_spec.specs.declared.fault.NameFault.{NameFault}
+use Rattle.flame_spec.specs.declared.faults.NameFault.{NameFault}
 use Rattle.flame_spec.specs.Lists.{each_from, first}
 use Rattle.flame_names.specs.declared.fault.Fail.{Fail}
 use Rattle.flame_names.specs.declared.fault.Fail.TheVariants.{Fault, NoMemory}

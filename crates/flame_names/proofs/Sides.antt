@@ -1,11 +1,11 @@
 -- The faults of a condition of two parts.
 use Rattle.std.proofs.Common.{◌≡◌, ℕ, List, ◌++◌, codes, Box, sym, ap, ◌∙◌}
 use Rattle.std.specs.declared.alloc.Global.{Global}
-use Rattle.flame_spec.specs.declared.fault.NameFault.{NameFault}
-use Rattle.flame_spec.specs.declared.condition.Condition.{Condition}
-use Rattle.flame_spec.specs.declared.condition.Condition.TheVariants as Form
-use Rattle.flame_spec.specs.declared.condition.Condition.TheOpen.{Condition-F}
-use Rattle.flame_spec.specs.declared.condition.Condition.TheFolds.{fold-roll-Condition}
+use Rattle.flame_spec.specs.declared.faults.NameFault.{NameFault}
+use Rattle.flame_spec.specs.declared.conditions.Condition.{Condition}
+use Rattle.flame_spec.specs.declared.conditions.Condition.TheVariants as Form
+use Rattle.flame_spec.specs.declared.conditions.Condition.TheOpen.{Condition-F}
+use Rattle.flame_spec.specs.declared.conditions.Condition.TheFolds.{fold-roll-Condition}
 use Rattle.flame_spec.specs.Paths.{at_key}
 use Rattle.flame_spec.specs.Leaves.{LeafNames, leaf_step, leaf_faults}
 

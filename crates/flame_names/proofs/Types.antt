@@ -1,9 +1,9 @@
 -- The faults of an agent type, part by part.
 use Rattle.std.proofs.Common.{◌≡◌, ℕ, List, [], ◌++◌, codes, sym, ap, ◌∙◌, Bool}
-use Rattle.flame_spec.specs.declared.fault.NameKind.TheVariants.{Duplicate}
-use Rattle.flame_spec.specs.declared.model.AgentType.{AgentType}
-use Rattle.flame_spec.specs.declared.model.Function.{Function}
-use Rattle.flame_spec.specs.declared.model.Variable.{Variable}
+use Rattle.flame_spec.specs.declared.faults.NameKind.TheVariants.{Duplicate}
+use Rattle.flame_spec.specs.declared.models.AgentType.{AgentType}
+use Rattle.flame_spec.specs.declared.models.Function.{Function}
+use Rattle.flame_spec.specs.declared.models.Variable.{Variable}
 use Rattle.flame_spec.specs.KnownNames.{is_among, variable_names, DeclaredNames}
 use Rattle.flame_spec.specs.Paths.{at_key}
 use Rattle.flame_spec.specs.Refusals.{fault_where}

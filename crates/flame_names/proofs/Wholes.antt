@@ -1,9 +1,9 @@
 -- The faults of a model, part by part.
 use Rattle.std.proofs.Common.{◌≡◌, ℕ, ℤ, List, [], ◌∷◌, ◌++◌, map, codes, cond, refl, sym, ap, ◌∙◌, Bool, true, false, Option, Some, unwrap_or}
 use Rattle.std.specs.Str.{bytes_eq}
-use Rattle.flame_spec.specs.declared.model.Model.{Model}
-use Rattle.flame_spec.specs.declared.model.AgentType.{AgentType}
-use Rattle.flame_spec.specs.declared.model.MessageType.{MessageType}
+use Rattle.flame_spec.specs.declared.models.Model.{Model}
+use Rattle.flame_spec.specs.declared.models.AgentType.{AgentType}
+use Rattle.flame_spec.specs.declared.models.MessageType.{MessageType}
 use Rattle.flame_spec.specs.Capitals.{capitals}
 use Rattle.flame_spec.specs.KnownNames.{unit_names, variable_names, names_in, DeclaredNames, declared_by}
 use Rattle.flame_spec.specs.Paths.{at_key}

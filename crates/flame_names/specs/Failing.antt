@@ -1,6 +1,6 @@
 -- Why a model's names are refused.
 use Rattle.std.specs.Prelude.{◌≡◌, List, Some}
-use Rattle.flame_spec.specs.declared.fault.NameFault.{NameFault}
+use Rattle.flame_spec.specs.declared.faults.NameFault.{NameFault}
 use Rattle.flame_spec.specs.Lists.{first}
 use Rattle.flame_names.specs.declared.fault.Fail.{Fail}
 use Rattle.flame_names.specs.declared.fault.Fail.TheVariants.{Fault, NoMemory}

@@ -1,8 +1,8 @@
 -- What is looked up in tables.
 use Rattle.std.specs.Prelude.{ℕ, ◌∷◌, [], ◌&&◌, Bool, List, Option, Some, None, if◌then◌else◌, map}
 use Rattle.std.specs.Str.{bytes_eq}
-use Rattle.flame_spec.specs.declared.model.Function.{Function}
-use Rattle.flame_spec.specs.declared.model.MessageType.{MessageType}
+use Rattle.flame_spec.specs.declared.models.Function.{Function}
+use Rattle.flame_spec.specs.declared.models.MessageType.{MessageType}
 use Rattle.flame_spec.specs.KnownNames.{variable_names}
 
 -- what stands behind the first entry of this name

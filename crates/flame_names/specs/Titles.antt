@@ -2,9 +2,9 @@
 use Rattle.std.specs.Prelude.{ℕ, List, ◌++◌, codes, Bool, not, ◌&&◌}
 use Rattle.std.specs.List.{list_any}
 use Rattle.std.specs.Str.{bytes_eq}
-use Rattle.flame_spec.specs.declared.fault.NameFault.{NameFault}
-use Rattle.flame_spec.specs.declared.fault.NameKind.TheVariants.{Duplicate, FunctionShared}
-use Rattle.flame_spec.specs.declared.model.Function.{Function}
+use Rattle.flame_spec.specs.declared.faults.NameFault.{NameFault}
+use Rattle.flame_spec.specs.declared.faults.NameKind.TheVariants.{Duplicate, FunctionShared}
+use Rattle.flame_spec.specs.declared.models.Function.{Function}
 use Rattle.flame_spec.specs.KnownNames.{DeclaredNames}
 use Rattle.flame_spec.specs.Paths.{at_key}
 use Rattle.flame_spec.specs.Refusals.{fault_where}

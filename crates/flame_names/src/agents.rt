@@ -14,8 +14,8 @@ use crate::messages::capitals_of;
 use crate::path::Place;
 use crate::table::{Capitals, Names};
 use flame_rows::NoMemory;
-use flame_spec::fault::NameKind;
-use flame_spec::model::{AgentType, Function, Variable};
+use flame_spec::NameKind;
+use flame_spec::{AgentType, Function, Variable};
 use std::alloc::Global;
 
 /// The name of a memory variable that stands at this place, behind the earlier ones of its type.

@@ -1,7 +1,7 @@
 //! Why a model's names are refused.
 
 ghost use Rattle.std.specs.Prelude.{◌≡◌, ◌++◌, [], ◌∷◌, IfErr, IfOk, OnOk, false};
-ghost use Rattle.flame_spec.specs.declared.fault.NameKind.TheVariants.{Duplicate};
+ghost use Rattle.flame_spec.specs.declared.faults.NameKind.TheVariants.{Duplicate};
 ghost use Rattle.flame_spec.specs.KnownNames.{is_among};
 ghost use Rattle.flame_spec.specs.Refusals.{name_fault, fault_where};
 ghost use Rattle.flame_names.specs.Places.{text_of};
@@ -11,7 +11,7 @@ use crate::path::Place;
 use crate::table::Names;
 use flame_rows::NoMemory;
 use flame_rows::Text;
-use flame_spec::fault::{NameFault, NameKind};
+use flame_spec::{NameFault, NameKind};
 use std::alloc::{AllocError, Global};
 
 /// Why `names` refuses a model.

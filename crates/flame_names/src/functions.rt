@@ -17,9 +17,9 @@ use crate::messages::MessageTable;
 use crate::path::Place;
 use crate::table::{Capitals, Names, Transitions};
 use flame_rows::Text;
-use flame_spec::condition::Condition;
-use flame_spec::fault::NameKind;
-use flame_spec::model::{Function, Input, Sort};
+use flame_spec::Condition;
+use flame_spec::NameKind;
+use flame_spec::{Function, Input, Sort};
 use std::alloc::Global;
 
 /// What a model declares for its agent types.

@@ -2,7 +2,7 @@
 
 ghost use Rattle.std.specs.Prelude.{◌≡◌, ◌++◌, [], IfErr, OnOk, not, codes};
 ghost use Rattle.flame_spec.specs.Paths.{at_key};
-ghost use Rattle.flame_spec.specs.declared.fault.NameKind.TheVariants.{UnknownVariable};
+ghost use Rattle.flame_spec.specs.declared.faults.NameKind.TheVariants.{UnknownVariable};
 ghost use Rattle.flame_spec.specs.Refusals.{fault_where};
 ghost use Rattle.flame_spec.specs.Leaves.{operand_faults, time_faults, leaf_faults, condition_faults};
 ghost use Rattle.flame_names.specs.Places.{text_of};
@@ -14,8 +14,8 @@ use crate::lengths::Lengths;
 use crate::path::Place;
 use crate::table::Names;
 use flame_rows::Text;
-use flame_spec::condition::{Condition, Operand};
-use flame_spec::fault::NameKind;
+use flame_spec::{Condition, Operand};
+use flame_spec::NameKind;
 use std::alloc::Global;
 
 /// The names that a condition can read.

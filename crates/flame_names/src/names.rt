@@ -15,7 +15,7 @@ use crate::lengths::{Lengths, units};
 use crate::messages::{constants, messages};
 use crate::path::Place;
 use crate::table::Capitals;
-use flame_spec::model::Model;
+use flame_spec::Model;
 use std::alloc::Global;
 
 /// Whether all names of a model stand for something, and no two for the same where they must not.

@@ -6,7 +6,7 @@ ghost use Rattle.flame_spec.specs.KnownNames.{is_among};
 ghost use Rattle.flame_names.specs.Tables.{transition_of, is_same_transition};
 
 use flame_rows::NoMemory;
-use flame_spec::model::Function;
+use flame_spec::Function;
 use indexmap::IndexSet;
 use std::alloc::Global;
 use std::marker::Model;

@@ -1,6 +1,6 @@
 -- Blocks, and the arms of an `if`.
 use Rattle.std.proofs.Common.{◌≡◌, ℕ, ◌+◌, ◌<◌, ◌≤◌, List, [], ◌∷◌, ◌++◌, length, drop, map, refl, sym, ap, ◌∙◌, subst, arith, true}
-use Rattle.flame_spec.specs.declared.tree.Arm.{Arm}
+use Rattle.flame_spec.specs.declared.trees.Arm.{Arm}
 use Rattle.flame_spec.specs.Trees.{Statements, no_more}
 use Rattle.flame_spec.specs.Seen.{Tested, tested, arms, arms_of}
 use Rattle.flame_lex.specs.declared.token.Token.{Token}

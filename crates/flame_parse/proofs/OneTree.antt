@@ -2,8 +2,8 @@
 use Rattle.std.proofs.Common.{◌≡◌, ℕ, pos, List, [], ◌∷◌, refl, sym, ap, ◌∙◌, subst, Bool, true, false, nat_eq, eq-eqb, Option, Some, None, unwrap_or}
 use Rattle.std.proofs.lemmas.Bool.{false≢true}
 use Rattle.flame_ops.specs.declared.integers.Op.{Op}
-use Rattle.flame_spec.specs.declared.tree.Sign.{Sign}
-use Rattle.flame_spec.specs.declared.tree.SignKind.{SignKind}
+use Rattle.flame_spec.specs.declared.trees.Sign.{Sign}
+use Rattle.flame_spec.specs.declared.trees.SignKind.{SignKind}
 use Rattle.flame_spec.specs.Trees.{Expression, number, Expressions, part, Declared, Assigned, Statement, declare, assign, call, block, branch, while, for, do_while, loop_over, return, Statements, no_more, also, Arms, arm}
 use Rattle.flame_lex.specs.declared.token.Token.{Token}
 use Rattle.flame_expr.specs.declared.lexeme.Lexeme.{Lexeme}

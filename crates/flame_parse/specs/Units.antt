@@ -1,6 +1,6 @@
 -- What the reader of function files answers.
 use Rattle.std.specs.Prelude.{◌≡◌, ℕ, ◌≤◌, List, [], ◌∷◌, map}
-use Rattle.flame_spec.specs.declared.tree.Def.{Def}
+use Rattle.flame_spec.specs.declared.trees.Def.{Def}
 use Rattle.flame_spec.specs.Seen.{statements}
 use Rattle.flame_lex.specs.declared.token.Token.{Token}
 use Rattle.flame_expr.specs.declared.fault.ParseFault.TheVariants.{TooDeep, Syntax}

@@ -10,7 +10,7 @@ use flame_expr::fault::{Fail, ParseFault};
 use flame_expr::lexeme::Lexeme;
 use flame_lex::token::Token;
 use flame_rows::Seq;
-use flame_spec::tree::Unit;
+use flame_spec::Unit;
 use std::alloc::Global;
 
 /// The function definitions of a file's tokens, of which there are fewer than 2^32.

@@ -23,7 +23,7 @@ use flame_expr::reader::expression;
 use flame_lex::token::Token;
 use flame_rows::NoMemory;
 use flame_rows::Seq;
-use flame_spec::tree::{Assign, Expr, Head, Item, Stmt};
+use flame_spec::{Assign, Expr, Head, Item, Stmt};
 use std::alloc::Global;
 
 // ["=" expr]

@@ -16,7 +16,7 @@ use flame_expr::lexeme::Lexeme;
 use flame_expr::reader::bracketed;
 use flame_lex::token::Token;
 use flame_rows::Seq;
-use flame_spec::tree::{Arm, Stmt};
+use flame_spec::{Arm, Stmt};
 use std::alloc::Global;
 
 // block = "{" stmt* "}"

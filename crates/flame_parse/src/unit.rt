@@ -13,7 +13,7 @@ use flame_expr::fault::Fail;
 use flame_expr::lexeme::Lexeme;
 use flame_lex::token::Token;
 use flame_rows::Seq;
-use flame_spec::tree::Def;
+use flame_spec::Def;
 use std::alloc::Global;
 
 // unit = def*

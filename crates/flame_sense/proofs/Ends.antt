@@ -1,11 +1,11 @@
 -- What an outcome tells of the state that was left.
 use Rattle.std.proofs.Common.{◌≡◌, ◌⊎◌, inl, inr, ℕ, ◌≤◌, List, [], refl, sym, ap, ◌∙◌, subst, Bool, true, false, cond, Option, Some, None, arith}
 use Rattle.std.specs.Prelude.{ℤ, pos, Ok, Err, Result, All, length, slice_get}
-use Rattle.flame_spec.specs.declared.model.Model.{Model}
-use Rattle.flame_spec.specs.declared.outcome.Source.{Source}
-use Rattle.flame_spec.specs.declared.outcome.Effect.{Effect}
-use Rattle.flame_spec.specs.declared.outcome.Outcome.TheVariants.{Ended}
-use Rattle.flame_spec.specs.declared.fault.Fault.{Fault}
+use Rattle.flame_spec.specs.declared.models.Model.{Model}
+use Rattle.flame_spec.specs.declared.outcomes.Source.{Source}
+use Rattle.flame_spec.specs.declared.outcomes.Effect.{Effect}
+use Rattle.flame_spec.specs.declared.outcomes.Outcome.TheVariants.{Ended}
+use Rattle.flame_spec.specs.declared.faults.Fault.{Fault}
 use Rattle.flame_spec.specs.Functions.{functions, Place}
 use Rattle.flame_spec.specs.Trees.{Expressions, no_parts, part}
 use Rattle.flame_sense.specs.Scenes.{Setting, State}

@@ -7,10 +7,10 @@ use Rattle.std.specs.Prelude.{ℤ, find, slice_get}
 use Rattle.std.specs.List.{filter_map, cons_option}
 use Rattle.std.specs.Ordering.{int_cmp}
 use Rattle.std.proofs.lemmas.List.{at_drop_more, map-append}
-use Rattle.flame_spec.specs.declared.model.AgentType.{AgentType}
-use Rattle.flame_spec.specs.declared.model.Function.{Function}
-use Rattle.flame_spec.specs.declared.tree.Def.{Def}
-use Rattle.flame_spec.specs.declared.tree.Unit.{Unit}
+use Rattle.flame_spec.specs.declared.models.AgentType.{AgentType}
+use Rattle.flame_spec.specs.declared.models.Function.{Function}
+use Rattle.flame_spec.specs.declared.trees.Def.{Def}
+use Rattle.flame_spec.specs.declared.trees.Unit.{Unit}
 use Rattle.flame_spec.specs.Conditions.{number_at}
 use Rattle.flame_spec.specs.Functions.{functions_from, at_type}
 use Rattle.flame_spec.specs.Views.{Key, key_order}

@@ -1,10 +1,10 @@
 -- What single changes keep, every statement keeps.
 use Rattle.std.proofs.Common.{◌≡◌, ℕ, zero, suc, List, [], ◌∷◌, refl, sym, ap, Bool, true, false, cond, Option, Some, None}
 use Rattle.std.specs.Prelude.{ℤ, Result, Ok, Err, is_some, length, ◌&&◌}
-use Rattle.flame_spec.specs.declared.fault.Fault.{Fault}
-use Rattle.flame_spec.specs.declared.model.Model.{Model}
-use Rattle.flame_spec.specs.declared.model.MessageType.{MessageType}
-use Rattle.flame_spec.specs.declared.model.AgentType.{AgentType}
+use Rattle.flame_spec.specs.declared.faults.Fault.{Fault}
+use Rattle.flame_spec.specs.declared.models.Model.{Model}
+use Rattle.flame_spec.specs.declared.models.MessageType.{MessageType}
+use Rattle.flame_spec.specs.declared.models.AgentType.{AgentType}
 use Rattle.flame_spec.specs.Conditions.{number_at}
 use Rattle.flame_spec.specs.Trees.{Declared, Assigned}
 use Rattle.flame_spec.specs.Trees.{Statement, empty, declare, assign, call, block, branch, while, for, do_while, loop_over, return, break, continue}

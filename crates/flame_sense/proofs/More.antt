@@ -4,13 +4,13 @@ use Rattle.std.specs.Prelude.{ℤ, pos, Result, Ok, Err, is_some, slice_get, len
 use Rattle.flame_ops.specs.declared.integers.Op.{Op}
 use Rattle.flame_ops.specs.declared.integers.Cause.TheVariants.{Fuel}
 use Rattle.flame_ops.specs.Integers.{applied}
-use Rattle.flame_spec.specs.declared.fault.Fault.{Fault}
-use Rattle.flame_spec.specs.declared.model.MessageType.{MessageType}
-use Rattle.flame_spec.specs.declared.model.AgentType.{AgentType}
-use Rattle.flame_spec.specs.declared.outcome.Source.{Source}
-use Rattle.flame_spec.specs.declared.outcome.Effect.{Effect}
-use Rattle.flame_spec.specs.declared.outcome.Outcome.{Outcome}
-use Rattle.flame_spec.specs.declared.outcome.Outcome.TheVariants.{Ended, Faulted}
+use Rattle.flame_spec.specs.declared.faults.Fault.{Fault}
+use Rattle.flame_spec.specs.declared.models.MessageType.{MessageType}
+use Rattle.flame_spec.specs.declared.models.AgentType.{AgentType}
+use Rattle.flame_spec.specs.declared.outcomes.Source.{Source}
+use Rattle.flame_spec.specs.declared.outcomes.Effect.{Effect}
+use Rattle.flame_spec.specs.declared.outcomes.Outcome.{Outcome}
+use Rattle.flame_spec.specs.declared.outcomes.Outcome.TheVariants.{Ended, Faulted}
 use Rattle.flame_spec.specs.Functions.{functions, Place}
 use Rattle.flame_spec.specs.Conditions.{number_at}
 use Rattle.flame_spec.specs.Trees.{Expression, number, name, field, get, signed, chain, all_of, any_of}

@@ -1,7 +1,7 @@
 -- Rows that are made value by value.
 use Rattle.std.proofs.Common.{◌≡◌, ℕ, zero, suc, ◌+◌, List, [], ◌∷◌, ◌++◌, refl, sym, ap, ◌∙◌, append_assoc, add-one}
 use Rattle.std.specs.Prelude.{ℤ, pos, Result, Ok, Err}
-use Rattle.flame_spec.specs.declared.fault.Fault.{Fault}
+use Rattle.flame_spec.specs.declared.faults.Fault.{Fault}
 use Rattle.flame_spec.specs.Conditions.{number_at}
 use Rattle.flame_sense.specs.Statements.{value_and, fitted}
 

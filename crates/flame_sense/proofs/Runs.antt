@@ -8,11 +8,11 @@ use Rattle.std.specs.Ordering.{int_eq}
 use Rattle.std.specs.Option.{option_copied}
 use Rattle.std.proofs.lemmas.Bool.Decides.{Decides-int_eq}
 use Rattle.std.proofs.lemmas.List.{at_drop_more, at_drop_all}
-use Rattle.flame_spec.specs.declared.fault.Fault.{Fault}
-use Rattle.flame_spec.specs.declared.model.MessageType.{MessageType}
-use Rattle.flame_spec.specs.declared.tree.Stmt.{Stmt}
-use Rattle.flame_spec.specs.declared.tree.Expr.{Expr}
-use Rattle.flame_spec.specs.declared.tree.Arm.{Arm}
+use Rattle.flame_spec.specs.declared.faults.Fault.{Fault}
+use Rattle.flame_spec.specs.declared.models.MessageType.{MessageType}
+use Rattle.flame_spec.specs.declared.trees.Stmt.{Stmt}
+use Rattle.flame_spec.specs.declared.trees.Expr.{Expr}
+use Rattle.flame_spec.specs.declared.trees.Arm.{Arm}
 use Rattle.flame_spec.specs.Trees.{Expression, Statements, Assigned}
 use Rattle.flame_spec.specs.Seen.{expression, statements, arms}
 use Rattle.flame_sense.specs.declared.ending.Ending.{Ending}

@@ -3,9 +3,9 @@ use Rattle.std.proofs.Common.{◌≡◌, ℕ, ◌+◌, Bool, true, false, cond, 
 use Rattle.std.specs.Prelude.{find}
 use Rattle.std.specs.List.{flat_map}
 use Rattle.std.specs.Str.{bytes_eq}
-use Rattle.flame_spec.specs.declared.model.Function.{Function}
-use Rattle.flame_spec.specs.declared.tree.Unit.{Unit}
-use Rattle.flame_spec.specs.declared.tree.Def.{Def}
+use Rattle.flame_spec.specs.declared.models.Function.{Function}
+use Rattle.flame_spec.specs.declared.trees.Unit.{Unit}
+use Rattle.flame_spec.specs.declared.trees.Def.{Def}
 use Rattle.flame_spec.specs.Lists.{each_from}
 use Rattle.flame_spec.specs.Trees.{no_more}
 use Rattle.flame_spec.specs.CheckFaults.{Definition, definition, definitions_of, is_idle, is_for}

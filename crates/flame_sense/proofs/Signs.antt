@@ -2,8 +2,8 @@
 use Rattle.std.proofs.Common.{◌≡◌, ℕ, ◌+◌, ◌<◌, List, [], ◌∷◌, ◌++◌, length, take, get_or, refl, ap, ◌∙◌}
 use Rattle.std.specs.Prelude.{ℤ, Result, Ok, Err}
 use Rattle.std.proofs.lemmas.List.{take_more}
-use Rattle.flame_spec.specs.declared.fault.Fault.{Fault}
-use Rattle.flame_spec.specs.declared.tree.Sign.{Sign}
+use Rattle.flame_spec.specs.declared.faults.Fault.{Fault}
+use Rattle.flame_spec.specs.declared.trees.Sign.{Sign}
 use Rattle.flame_sense.specs.Expressions.{on_value, signed_by, signs_value}
 
 signs_push :

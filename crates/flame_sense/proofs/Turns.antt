@@ -1,8 +1,8 @@
 -- Fuel never rises, so a loop may be begun anew with what is left.
 use Rattle.std.proofs.Common.{◌≡◌, ◌≢◌, ℕ, zero, suc, ◌-◌, ◌<◌, ◌≤◌, refl, sym, ap, ◌∙◌, Bool, true, false, cond, Option, arith}
 use Rattle.std.specs.Prelude.{ℤ, Result, Ok, Err}
-use Rattle.flame_spec.specs.declared.fault.Fault.{Fault}
-use Rattle.flame_spec.specs.declared.model.Model.{Model}
+use Rattle.flame_spec.specs.declared.faults.Fault.{Fault}
+use Rattle.flame_spec.specs.declared.models.Model.{Model}
 use Rattle.flame_spec.specs.Trees.{Expression, Statements, Assigned}
 use Rattle.flame_sense.specs.Scenes.{Setting, State}
 use Rattle.flame_sense.specs.Expressions.{holds}

@@ -3,9 +3,9 @@ use Rattle.std.proofs.Common.{◌≡◌, ℕ, zero, suc, ◌+◌, List, [], ◌�
 use Rattle.std.specs.Prelude.{ℤ, All, slice_get, IsSomeAnd}
 use Rattle.std.proofs.lemmas.List.{length-set}
 use Rattle.std.proofs.lemmas.List.Elements.{All-append, All-cons}
-use Rattle.flame_spec.specs.declared.model.Model.{Model}
-use Rattle.flame_spec.specs.declared.model.MessageType.{MessageType}
-use Rattle.flame_spec.specs.declared.model.AgentType.{AgentType}
+use Rattle.flame_spec.specs.declared.models.Model.{Model}
+use Rattle.flame_spec.specs.declared.models.MessageType.{MessageType}
+use Rattle.flame_spec.specs.declared.models.AgentType.{AgentType}
 use Rattle.flame_spec.specs.Columns.{width}
 use Rattle.flame_sense.specs.Words.{numbered_where}
 use Rattle.flame_sense.specs.Scenes.{State}

@@ -1,6 +1,6 @@
 -- How statements end, and what follows them.
 use Rattle.std.specs.Prelude.{ℕ, ℤ, ◌-◌, List, length, drop, Result, Ok, Err}
-use Rattle.flame_spec.specs.declared.fault.Fault.{Fault}
+use Rattle.flame_spec.specs.declared.faults.Fault.{Fault}
 use Rattle.flame_sense.specs.Scenes.{State}
 
 -- it went on behind the statement, met `break`, met `continue`, returned a value, or faulted

@@ -3,10 +3,10 @@ use Rattle.std.specs.Prelude.{ℕ, ℤ, pos, List, [], ◌∷◌, Bool, not, Res
 use Rattle.std.specs.Ordering.{int_eq}
 use Rattle.flame_ops.specs.declared.integers.Cause.{Cause}
 use Rattle.flame_ops.specs.Integers.{applied, negated, truth}
-use Rattle.flame_spec.specs.declared.fault.Fault.{Fault}
-use Rattle.flame_spec.specs.declared.tree.Sign.{Sign}
-use Rattle.flame_spec.specs.declared.tree.SignKind.{SignKind}
-use Rattle.flame_spec.specs.declared.tree.SignKind.TheVariants.{Minus, Plus, Bang}
+use Rattle.flame_spec.specs.declared.faults.Fault.{Fault}
+use Rattle.flame_spec.specs.declared.trees.Sign.{Sign}
+use Rattle.flame_spec.specs.declared.trees.SignKind.{SignKind}
+use Rattle.flame_spec.specs.declared.trees.SignKind.TheVariants.{Minus, Plus, Bang}
 use Rattle.flame_spec.specs.Trees.{Expression, number, name, field, get, signed, chain, all_of, any_of}
 use Rattle.flame_spec.specs.Trees.{Expressions, no_parts, part, Links, no_links, link}
 use Rattle.flame_sense.specs.Scenes.{Setting, State, named, got, field_in}

@@ -1,8 +1,8 @@
 -- Facts that every statement keeps, from the state before it to the state that it leaves.
 use Rattle.std.specs.Prelude.{◌≡◌, ℕ, suc, ℤ, List, Bool, Some, slice_set}
-use Rattle.flame_spec.specs.declared.model.Model.{Model}
-use Rattle.flame_spec.specs.declared.model.MessageType.{MessageType}
-use Rattle.flame_spec.specs.declared.model.AgentType.{AgentType}
+use Rattle.flame_spec.specs.declared.models.Model.{Model}
+use Rattle.flame_spec.specs.declared.models.MessageType.{MessageType}
+use Rattle.flame_spec.specs.declared.models.AgentType.{AgentType}
 use Rattle.flame_sense.specs.Words.{numbered_where}
 use Rattle.flame_sense.specs.Scenes.{Local, State}
 use Rattle.flame_sense.specs.Endings.{End, went_on, broke, continued, returned, faulted}

@@ -1,13 +1,13 @@
 -- What holds of every function's run, whatever its source, memory, boards, constants, iteration and fuel.
 use Rattle.std.specs.Prelude.{◌≡◌, ◌≢◌, ℕ, suc, ◌+◌, ◌≤◌, ◌⊎◌, ℤ, pos, List, true, Option, Some, Ok, All, length, slice_get, IsSomeAnd, if◌then◌else◌}
 use Rattle.flame_ops.specs.declared.integers.Cause.TheVariants.{Fuel}
-use Rattle.flame_spec.specs.declared.fault.Fault.{Fault}
-use Rattle.flame_spec.specs.declared.model.Model.{Model}
-use Rattle.flame_spec.specs.declared.outcome.Source.{Source}
-use Rattle.flame_spec.specs.declared.outcome.Effect.{Effect}
-use Rattle.flame_spec.specs.declared.outcome.Sent.{Sent}
-use Rattle.flame_spec.specs.declared.outcome.Born.{Born}
-use Rattle.flame_spec.specs.declared.outcome.Outcome.TheVariants.{Ended, Faulted}
+use Rattle.flame_spec.specs.declared.faults.Fault.{Fault}
+use Rattle.flame_spec.specs.declared.models.Model.{Model}
+use Rattle.flame_spec.specs.declared.outcomes.Source.{Source}
+use Rattle.flame_spec.specs.declared.outcomes.Effect.{Effect}
+use Rattle.flame_spec.specs.declared.outcomes.Sent.{Sent}
+use Rattle.flame_spec.specs.declared.outcomes.Born.{Born}
+use Rattle.flame_spec.specs.declared.outcomes.Outcome.TheVariants.{Ended, Faulted}
 use Rattle.flame_spec.specs.Columns.{width}
 use Rattle.flame_spec.specs.Functions.{Place, functions}
 use Rattle.flame_spec.specs.Trees.{Expression, Expressions, all_of, any_of, Statements, Assigned}

@@ -1,7 +1,7 @@
 -- The turns of loops. Each costs one unit of fuel, paid just before the body runs.
 use Rattle.std.specs.Prelude.{ℕ, zero, suc, ℤ, List, [], ◌∷◌, Result, if◌then◌else◌}
 use Rattle.flame_ops.specs.declared.integers.Cause.TheVariants.{Fuel}
-use Rattle.flame_spec.specs.declared.fault.Fault.{Fault}
+use Rattle.flame_spec.specs.declared.faults.Fault.{Fault}
 use Rattle.flame_sense.specs.Scenes.{State, Current}
 use Rattle.flame_sense.specs.Expressions.{holds}
 use Rattle.flame_sense.specs.Endings.{End, went_on, broke, continued, returned, faulted, with_value, on_to}

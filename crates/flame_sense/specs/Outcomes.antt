@@ -2,16 +2,16 @@
 use Rattle.std.specs.Prelude.{ℕ, ℤ, List, [], Option, Some, None, option_map, find, codes, slice_get, slice_index_or, if◌then◌else◌}
 use Rattle.std.specs.List.{filter_map, flat_map}
 use Rattle.std.specs.Str.{bytes_eq}
-use Rattle.flame_spec.specs.declared.model.Model.{Model}
-use Rattle.flame_spec.specs.declared.model.AgentType.{AgentType}
-use Rattle.flame_spec.specs.declared.model.MessageType.{MessageType}
-use Rattle.flame_spec.specs.declared.model.Function.{Function}
-use Rattle.flame_spec.specs.declared.model.Input.{Input}
-use Rattle.flame_spec.specs.declared.outcome.Source.{Source}
-use Rattle.flame_spec.specs.declared.outcome.Outcome.{Outcome}
-use Rattle.flame_spec.specs.declared.outcome.Outcome.TheVariants.{Ended, Faulted}
-use Rattle.flame_spec.specs.declared.tree.Unit.{Unit}
-use Rattle.flame_spec.specs.declared.tree.Def.{Def}
+use Rattle.flame_spec.specs.declared.models.Model.{Model}
+use Rattle.flame_spec.specs.declared.models.AgentType.{AgentType}
+use Rattle.flame_spec.specs.declared.models.MessageType.{MessageType}
+use Rattle.flame_spec.specs.declared.models.Function.{Function}
+use Rattle.flame_spec.specs.declared.models.Input.{Input}
+use Rattle.flame_spec.specs.declared.outcomes.Source.{Source}
+use Rattle.flame_spec.specs.declared.outcomes.Outcome.{Outcome}
+use Rattle.flame_spec.specs.declared.outcomes.Outcome.TheVariants.{Ended, Faulted}
+use Rattle.flame_spec.specs.declared.trees.Unit.{Unit}
+use Rattle.flame_spec.specs.declared.trees.Def.{Def}
 use Rattle.flame_spec.specs.Functions.{functions, Place}
 use Rattle.flame_spec.specs.Seen.{statements}
 use Rattle.flame_spec.specs.Trees.{Statements, no_more}

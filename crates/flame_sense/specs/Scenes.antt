@@ -3,11 +3,11 @@ use Rattle.std.specs.Prelude.{ℕ, ℤ, pos, List, [], ◌∷◌, Option, Some, 
 use Rattle.std.specs.List.{position_from}
 use Rattle.std.specs.Option.{option_or}
 use Rattle.std.specs.Str.{bytes_eq}
-use Rattle.flame_spec.specs.declared.model.Model.{Model}
-use Rattle.flame_spec.specs.declared.model.AgentType.{AgentType}
-use Rattle.flame_spec.specs.declared.model.MessageType.{MessageType}
-use Rattle.flame_spec.specs.declared.outcome.Sent.{Sent}
-use Rattle.flame_spec.specs.declared.outcome.Born.{Born}
+use Rattle.flame_spec.specs.declared.models.Model.{Model}
+use Rattle.flame_spec.specs.declared.models.AgentType.{AgentType}
+use Rattle.flame_spec.specs.declared.models.MessageType.{MessageType}
+use Rattle.flame_spec.specs.declared.outcomes.Sent.{Sent}
+use Rattle.flame_spec.specs.declared.outcomes.Born.{Born}
 use Rattle.flame_spec.specs.Columns.{column}
 use Rattle.flame_spec.specs.Conditions.{number_at}
 use Rattle.flame_sense.specs.Words.{is_capitals, is_get, is_row, is_iteration, column_where}

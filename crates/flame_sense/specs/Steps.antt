@@ -12,10 +12,10 @@ use Rattle.flame_sense.specs.declared.scene.Open.{Open, fold-Open}
 use Rattle.flame_sense.specs.declared.scene.Open.TheOpen.{Open-F}
 use Rattle.flame_sense.specs.declared.ending.Ending.{Ending}
 use Rattle.flame_sense.specs.declared.ending.Ending.TheVariants.{WentOn, Broke, Continued, Returned, Faulted}
-use Rattle.flame_spec.specs.declared.model.MessageType.{MessageType}
-use Rattle.flame_spec.specs.declared.model.AgentType.{AgentType}
-use Rattle.flame_spec.specs.declared.model.Function.{Function}
-use Rattle.flame_spec.specs.declared.tree.Stmt.{Stmt}
+use Rattle.flame_spec.specs.declared.models.MessageType.{MessageType}
+use Rattle.flame_spec.specs.declared.models.AgentType.{AgentType}
+use Rattle.flame_spec.specs.declared.models.Function.{Function}
+use Rattle.flame_spec.specs.declared.trees.Stmt.{Stmt}
 use Rattle.flame_spec.specs.Functions.{Place}
 use Rattle.flame_spec.specs.Seen.{statements}
 use Rattle.flame_spec.specs.Trees.{Statements, no_more}

@@ -2,7 +2,7 @@
 use Rattle.std.specs.Prelude.{ℕ, ◌+◌, List, [], ◌∷◌, ◌++◌, map, codes, Bool, Option, Some, None, option_map, if◌then◌else◌}
 use Rattle.std.specs.Char.{to_ascii_uppercase}
 use Rattle.std.specs.Str.{bytes_eq}
-use Rattle.flame_spec.specs.declared.model.Variable.{Variable}
+use Rattle.flame_spec.specs.declared.models.Variable.{Variable}
 use Rattle.flame_spec.specs.Columns.{width_of}
 
 -- the name in ASCII capitals

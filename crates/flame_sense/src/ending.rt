@@ -1,6 +1,6 @@
 //! How statements end.
 
-use flame_spec::fault::Fault;
+use flame_spec::Fault;
 
 /// How a statement ended.
 #[derive(Clone, Copy, Debug, PartialEq, Eq)]

@@ -12,8 +12,8 @@ use crate::words::column_of;
 use flame_ops::integers::Op;
 use flame_rows::NoMemory;
 use flame_rows::Row;
-use flame_spec::condition::{Condition, Operand};
-use flame_spec::model::{AgentType, MessageType, Sort};
+use flame_spec::{Condition, Operand};
+use flame_spec::{AgentType, MessageType, Sort};
 use std::cmp::Ordering;
 
 /// The value of what a filter compares.

@@ -14,8 +14,8 @@ use flame_rows::NoMemory;
 use flame_rows::Bag;
 use flame_rows::Row;
 use flame_rows::Seq;
-use flame_spec::model::{AgentType, Function};
-use flame_spec::outcome::{Effect, Outcome, Source};
+use flame_spec::{AgentType, Function};
+use flame_spec::{Effect, Outcome, Source};
 use std::alloc::Global;
 
 /// The outcome of a function that ended so, and left this.

@@ -13,7 +13,7 @@ use crate::words::Form;
 use flame_rows::NoMemory;
 use flame_rows::Bag;
 use flame_rows::Row;
-use flame_spec::model::{AgentType, Input, MessageType, Model};
+use flame_spec::{AgentType, Input, MessageType, Model};
 use std::alloc::Global;
 
 /// The rows that an agent with this memory reads, as they lie on the board.

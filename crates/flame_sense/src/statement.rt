@@ -18,8 +18,8 @@ use crate::expression::value;
 use crate::scene::{Open, Setting, State};
 use flame_ops::integers::Cause;
 use flame_rows::NoMemory;
-use flame_spec::fault::Fault;
-use flame_spec::tree::{Arm, Assign, Expr, Stmt};
+use flame_spec::Fault;
+use flame_spec::{Arm, Assign, Expr, Stmt};
 
 /// What a statement does.
 #[cycle(run)]

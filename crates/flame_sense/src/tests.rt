@@ -11,7 +11,7 @@ mod scene;
 use crate::outcome::evaluate;
 use flame_rows::NoMemory;
 use flame_rows::Seq;
-use flame_spec::outcome::{Outcome, Source};
+use flame_spec::{Outcome, Source};
 use reader::unit;
 use scene::{boards, model, row};
 use std::alloc::Global;

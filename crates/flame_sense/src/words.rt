@@ -5,7 +5,7 @@ ghost use Rattle.flame_sense.specs.Words.{is_capitals, is_between, column_where}
 ghost use Rattle.flame_sense.specs.Steps.{is_written, within_reach};
 ghost use Rattle.flame_spec.specs.Columns.{column, width_of};
 
-use flame_spec::model::Variable;
+use flame_spec::Variable;
 
 /// A way in which a word of a function file names something of the model.
 #[derive(Clone, Copy, Debug, PartialEq, Eq)]

@@ -1,15 +1,16 @@
 -- What each form of a tree is seen as.
-use Rattle.std.proofs.Common.{◌≡◌, ℕ, List, map, rules, Box, Global}
+use Rattle.std.proofs.Common.{◌≡◌, ℕ, List, map, rules}
 use Rattle.std.specs.Prelude.{ℤ, option_map}
-use Rattle.flame_spec.specs.declared.tree.Sign.{Sign}
-use Rattle.flame_spec.specs.declared.tree.Expr.{Expr, Number, Name, Field, Get, Unary, Chain, All, Any, the_lemmas}
-use Rattle.flame_spec.specs.declared.tree.Link.{Link}
-use Rattle.flame_spec.specs.declared.tree.Stmt.{Stmt, Empty, Declare, Assign, Call, Block, If, While, For, Do, Loop, Return, Break, Continue, the_lemmas as stmt_lemmas}
-use Rattle.flame_spec.specs.declared.tree.Item.{Item}
-use Rattle.flame_spec.specs.declared.tree.Assign as assignment
-use Rattle.flame_spec.specs.declared.tree.Arm.{Arm}
-use Rattle.flame_spec.specs.declared.tree.Head.{Head}
-use Rattle.flame_spec.specs.Trees.{number, name, field, get, signed, chain, all_of, any_of}
+use Rattle.flame_spec.specs.declared.trees.Sign.{Sign}
+use Rattle.flame_spec.specs.declared.trees.Expr.{Expr, Number, Name, Field, Get, At, FieldAt, Unary, Chain, All, Any, the_lemmas}
+use Rattle.flame_spec.specs.declared.trees.Link.{Link}
+use Rattle.flame_spec.specs.declared.trees.Subscript.{Subscript}
+use Rattle.flame_spec.specs.declared.trees.Stmt.{Stmt, Empty, Declare, Assign, Call, Block, If, While, For, Do, Loop, Return, Break, Continue, the_lemmas as stmt_lemmas}
+use Rattle.flame_spec.specs.declared.trees.Item.{Item}
+use Rattle.flame_spec.specs.declared.trees.Assign as assignment
+use Rattle.flame_spec.specs.declared.trees.Arm.{Arm}
+use Rattle.flame_spec.specs.declared.trees.Head.{Head}
+use Rattle.flame_spec.specs.Trees.{number, name, field, get, at, field_at, signed, chain, all_of, any_of}
 use Rattle.flame_spec.specs.Trees.{empty, declare, assign, call, block, branch, while, for, do_while, loop_over, return, break, continue}
 use Rattle.flame_spec.specs.Seen.{links, expression, expressions, declared, assigned, arms, statement, statements}
 
@@ -25,12 +26,22 @@ expression-Field line word variable = search (rules, the_lemmas)
 pub expression-Get : (line : ℕ) (word : List ℕ) → expression (Get line word) ≡ get line word
 expression-Get line word = search (rules, the_lemmas)
 
-pub expression-Unary : (signs : List Sign) (e : Box Expr Global) → expression (Unary signs e) ≡ signed signs (expression e.value)
+pub expression-At :
+    (line : ℕ) (word : List ℕ) (s : Subscript)
+    → expression (At line word s) ≡ at line word s.line (expression s.index)
+expression-At line word s = search (rules, the_lemmas)
+
+pub expression-FieldAt :
+    (line : ℕ) (word variable : List ℕ) (s : Subscript)
+    → expression (FieldAt line word variable s) ≡ field_at line word variable s.line (expression s.index)
+expression-FieldAt line word variable s = search (rules, the_lemmas)
+
+pub expression-Unary : (signs : List Sign) (e : Expr) → expression (Unary signs e) ≡ signed signs (expression e)
 expression-Unary signs e = search (rules, the_lemmas)
 
 pub expression-Chain :
-    (e : Box Expr Global) (more : List Link)
-    → expression (Chain e more) ≡ chain (expression e.value) (links more)
+    (e : Expr) (more : List Link)
+    → expression (Chain e more) ≡ chain (expression e) (links more)
 expression-Chain e more = search (rules, the_lemmas)
 
 pub expression-All : (parts : List Expr) → expression (All parts) ≡ all_of (expressions parts)
@@ -67,9 +78,9 @@ pub statement-While :
 statement-While line test body = search (rules, stmt_lemmas)
 
 pub statement-For :
-    (line : ℕ) (head : Box Head Global) (body : List Stmt)
+    (line : ℕ) (head : Head) (body : List Stmt)
     → statement (For line head body)
-    ≡ for line (statements head.value.first) (option_map expression head.value.test) (option_map assigned head.value.step)
+    ≡ for line (statements head.first) (option_map expression head.test) (option_map assigned head.step)
     (statements body)
 statement-For line head body = search (rules, stmt_lemmas)
 

@@ -1,8 +1,8 @@
 -- Accepted sources, of which all later definitions speak.
 use Rattle.std.specs.Prelude.{◌≡◌, ◌==◌, [], length, Bool, None, IsTrue}
 use Rattle.std.specs.List.{list_all}
-use Rattle.flame_spec.specs.declared.model.AgentType.{AgentType}
-use Rattle.flame_spec.specs.declared.outcome.Source.{Source}
+use Rattle.flame_spec.specs.declared.models.AgentType.{AgentType}
+use Rattle.flame_spec.specs.declared.outcomes.Source.{Source}
 use Rattle.flame_spec.specs.WellFormed.{is_well_formed}
 use Rattle.flame_spec.specs.NameFaults.{name_faults}
 use Rattle.flame_spec.specs.States.{start_states}

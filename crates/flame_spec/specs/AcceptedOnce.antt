@@ -1,8 +1,8 @@
 -- There is one way only for a source to be accepted, so that a type may keep the fact. [own]
 use Rattle.std.specs.Coded.{Coded-set, coded_ℕ, coded_bool, coded_list, coded_option}
-use Rattle.flame_spec.specs.contracts.fault.NameFault as name_row
-use Rattle.flame_spec.specs.contracts.fault.CheckFault as check_row
-use Rattle.flame_spec.specs.declared.outcome.Source.{Source}
+use Rattle.flame_spec.specs.contracts.faults.NameFault as name_row
+use Rattle.flame_spec.specs.contracts.faults.CheckFault as check_row
+use Rattle.flame_spec.specs.declared.outcomes.Source.{Source}
 use Rattle.flame_spec.specs.Accepted.{IsAccepted}
 
 pub IsAccepted-prop : (source : Source) → IsProp (IsAccepted source)

@@ -1,39 +1,17 @@
 -- The check faults of a model's function files: all of them, in their order.
-use Rattle.std.specs.Prelude.{ℕ, List, [], ◌∷◌, ◌++◌, map, codes, Bool, true, false, not, ◌&&◌}
+use Rattle.std.specs.Prelude.{ℕ, List, [], ◌∷◌, ◌++◌, Bool, true, false, not, ◌&&◌, Some, if◌then◌else◌}
 use Rattle.std.specs.List.{list_any, flat_map}
-use Rattle.std.specs.Str.{bytes_eq}
-use Rattle.flame_spec.specs.declared.model.Model.{Model}
-use Rattle.flame_spec.specs.declared.model.Function.{Function}
-use Rattle.flame_spec.specs.declared.tree.Unit as file
-use Rattle.flame_spec.specs.declared.tree.Def.{Def}
-use Rattle.flame_spec.specs.declared.fault.CheckFault.{CheckFault}
-use Rattle.flame_spec.specs.declared.fault.CheckKind.TheVariants.{DefinedTwice, MissingFunction}
-use Rattle.flame_spec.specs.Lists.{each}
+use Rattle.flame_spec.specs.declared.models.Model.{Model}
+use Rattle.flame_spec.specs.declared.models.Function.{Function}
+use Rattle.flame_spec.specs.declared.trees.Unit as file
+use Rattle.flame_spec.specs.declared.faults.CheckFault.{CheckFault}
+use Rattle.flame_spec.specs.declared.faults.CheckKind.TheVariants.{DefinedTwice, HasParameters, MissingFunction}
+use Rattle.flame_spec.specs.Definitions.{Definition, definitions, is_idle, is_for, has_none, is_helper, helpers_among}
 use Rattle.flame_spec.specs.KnownNames.{is_among}
 use Rattle.flame_spec.specs.Functions.{Place, functions}
-use Rattle.flame_spec.specs.Trees.{Statements}
-use Rattle.flame_spec.specs.Seen.{statements}
-use Rattle.flame_spec.specs.Scopes.{Site, at_entry}
-use Rattle.flame_spec.specs.StatementFaults.{statements_faults}
-
--- a C function: the number of its file among the model's files, its line, its name and its body [own]
-pub record Definition : Type 0 where
-  pub file : ℕ
-  pub line : ℕ
-  pub name : List ℕ
-  pub body : Statements
-
--- a C function of the file of this number [own]
-abbrev pub definition : ℕ → Def → Definition
-definition file def = record { file = file; line = def.line; name = def.name; body = statements def.body }
-
--- the C functions of the file of this number [own]
-abbrev pub definitions_of : ℕ → file.Unit → List Definition
-definitions_of file unit = map (definition file) unit.functions
-
--- all C functions in source order: file by file, from the top [own]
-abbrev pub definitions : List file.Unit → List Definition
-definitions units = each definitions_of units
+use Rattle.flame_spec.specs.HelperFaults.{helper_site, recursive_faults, deep_faults}
+use Rattle.flame_spec.specs.Scopes.{Site, at_entry, after_parameters}
+use Rattle.flame_spec.specs.StatementFaults.{parameters_faults, statements_faults}
 
 -- ---- functions that are defined twice
 
@@ -47,15 +25,23 @@ abbrev pub twice_faults : List (List ℕ) → List Definition → List CheckFaul
 twice_faults earlier [] = []
 twice_faults earlier (d ∷ more) = twice_where (is_among d.name earlier) d ++ twice_faults (d.name ∷ earlier) more
 
+-- ---- functions of the model that have parameters
+
+-- the C function is one for the function of the model, which is not `idle` [own]
+abbrev pub is_run_by : Definition → Place → Bool
+is_run_by d place = not (is_idle place.function) && is_for place.function d
+
+-- the C function, where it has parameters and is one for a function of the model [FLAME User Manual]
+abbrev pub parameters_where : Bool → Definition → List CheckFault
+parameters_where true d = record { kind = HasParameters; file = d.file; line = d.line; name = d.name } ∷ []
+parameters_where false d = []
+
+-- a C function for a function of the model that has parameters [FLAME User Manual]
+abbrev pub having_faults : Model → Definition → List CheckFault
+having_faults model d =
+    parameters_where (not (has_none d.parameters) && list_any (is_run_by d) (functions model)) d
+
 -- ---- functions that are missing
-
--- a function of the model that needs no C function [own]
-abbrev pub is_idle : Function → Bool
-is_idle function = bytes_eq function.name (codes "idle")
-
--- the C function is one for the function of the model [own]
-abbrev pub is_for : Function → Definition → Bool
-is_for function d = bytes_eq d.name function.name
 
 -- the function of the model, where no C function defines it [FLAME User Manual]
 abbrev pub missing_where : Bool → Function → List CheckFault
@@ -70,33 +56,45 @@ missing_faults ds place =
 -- ---- bodies
 
 -- where a C function is checked for a function of the model [own]
-abbrev pub site : Model → Definition → Place → Site
-site model d place = record { model = model; type = place.type; function = place.function; file = d.file }
+abbrev pub site : Model → List Definition → Definition → Place → Site
+site model hs d place = record { model = model; helpers = hs; runs = Some place; file = d.file }
 
--- the body of a C function, where it is checked for a function of the model [own]
-abbrev pub body_where : Bool → Site → Statements → List CheckFault
-body_where true site body = statements_faults site at_entry body
-body_where false site body = []
+-- the parameters and the body of a C function, where it is checked there; parameters stand in the scope of the body's
+-- block [C, 6.9.1]
+abbrev pub definition_faults : Site → Definition → List CheckFault
+definition_faults site d =
+    parameters_faults site at_entry d.parameters
+    ++ statements_faults site (after_parameters at_entry d.parameters) d.body
 
--- the body of a C function, where it is one for this function of the model, which is not `idle` [own]
-abbrev pub body_faults : Model → Definition → Place → List CheckFault
-body_faults model d place =
-    body_where (not (is_idle place.function) && is_for place.function d) (site model d place) d.body
+-- a C function, where it is one for this function of the model, which is not `idle` [own]
+abbrev pub body_faults : Model → List Definition → Definition → Place → List CheckFault
+body_faults model hs d place = if is_run_by d place then definition_faults (site model hs d place) d else []
 
--- the body of a C function for each function of the model that it is one for, in document order; the body of `idle` and
--- that of a C function which the model does not name are passed over [own]
-abbrev pub bodies_faults : Model → Definition → List CheckFault
-bodies_faults model d = flat_map (body_faults model d) (functions model)
+-- a C function: a helper once; another one for each function of the model that it is one for, in document order; `idle`,
+-- and a C function without parameters that the model does not name, are passed over [own]
+abbrev pub bodies_faults : Model → List Definition → Definition → List CheckFault
+bodies_faults model hs d =
+    if is_helper model d
+    then definition_faults (helper_site model hs d) d
+    else flat_map (body_faults model hs d) (functions model)
 
 -- ---- the whole list
 
--- the faults of these C functions: those defined twice, the functions of the model that are missing, those in bodies
--- [own]
-abbrev pub faults_of : Model → List Definition → List CheckFault
-faults_of model ds =
+-- the faults of these C functions, of which these are helpers: functions that are defined twice, those for functions of
+-- the model that have parameters, functions of the model that are missing, helpers that call each other, helpers whose
+-- calls are too deep, and the faults in bodies [own]
+abbrev pub faults_with : Model → List Definition → List Definition → List CheckFault
+faults_with model hs ds =
     twice_faults [] ds
+    ++ flat_map (having_faults model) ds
     ++ flat_map (missing_faults ds) (functions model)
-    ++ flat_map (bodies_faults model) ds
+    ++ recursive_faults model hs
+    ++ deep_faults model hs
+    ++ flat_map (bodies_faults model hs) ds
+
+-- the check faults of these C functions [own]
+abbrev pub faults_of : Model → List Definition → List CheckFault
+faults_of model ds = faults_with model (helpers_among model ds) ds
 
 -- the check faults of a model and its function files, which are numbered as they stand [own]
 abbrev pub check_faults : Model → List file.Unit → List CheckFault

@@ -1,8 +1,8 @@
 -- Widths of rows, and the columns of their variables.
-use Rattle.std.specs.Prelude.{ℕ, ◌+◌, List, [], ◌∷◌, Bool, Option, Some, None, if◌then◌else◌}
+use Rattle.std.specs.Prelude.{ℕ, ◌+◌, List, [], ◌∷◌, Bool, Option, Some, None, is_some, if◌then◌else◌}
 use Rattle.std.specs.List.{list_any}
 use Rattle.std.specs.Str.{bytes_eq}
-use Rattle.flame_spec.specs.declared.model.Variable.{Variable}
+use Rattle.flame_spec.specs.declared.models.Variable.{Variable}
 
 -- 1, or the length of an array [XMML]
 abbrev pub width_by : Option ℕ → ℕ
@@ -27,3 +27,21 @@ abbrev pub column : List ℕ → List Variable → ℕ
 column name [] = 0
 column name (variable ∷ variables) =
     if bytes_eq variable.name name then 0 else width_of variable + column name variables
+
+-- the first of these variables that passes, with its column, where the columns begin with `from` [own]
+abbrev pub columned_from : (Variable → Bool) → ℕ → List Variable → Option (ℕ × Variable)
+columned_from passes from [] = None
+columned_from passes from (variable ∷ variables) =
+    if passes variable then Some (from, variable) else columned_from passes (from + width_of variable) variables
+
+-- the first of these variables that passes, with its column [own]
+abbrev pub columned_where : (Variable → Bool) → List Variable → Option (ℕ × Variable)
+columned_where passes variables = columned_from passes 0 variables
+
+-- the variable of this name, with its column [own]
+abbrev pub variable_named : List Variable → List ℕ → Option (ℕ × Variable)
+variable_named variables name = columned_where (λ variable. bytes_eq variable.name name) variables
+
+-- the variable is an array [own]
+abbrev pub is_array : Variable → Bool
+is_array variable = is_some variable.length

@@ -5,14 +5,14 @@ use Rattle.std.specs.Int.{int_rem_euclid}
 use Rattle.std.specs.Ordering.{int_eq}
 use Rattle.flame_ops.specs.declared.integers.Op.{Op}
 use Rattle.flame_ops.specs.declared.integers.Op.TheVariants.{Lt, Gt, Le, Ge, Eq, Ne}
-use Rattle.flame_spec.specs.declared.condition.Condition.{Condition}
-use Rattle.flame_spec.specs.declared.condition.Condition.TheVariants.{Compare, And', Or', Not', Time}
-use Rattle.flame_spec.specs.declared.condition.Operand.{Operand}
-use Rattle.flame_spec.specs.declared.condition.Operand.TheVariants.{Number, Agent, Message}
-use Rattle.flame_spec.specs.declared.model.Variable.{Variable}
-use Rattle.flame_spec.specs.declared.model.TimeUnit.{TimeUnit}
-use Rattle.flame_spec.specs.declared.model.AgentType.{AgentType}
-use Rattle.flame_spec.specs.declared.model.MessageType.{MessageType}
+use Rattle.flame_spec.specs.declared.conditions.Condition.{Condition, fold-Condition}
+use Rattle.flame_spec.specs.declared.conditions.Condition.TheOpen.{Condition-F}
+use Rattle.flame_spec.specs.declared.conditions.Operand.{Operand}
+use Rattle.flame_spec.specs.declared.conditions.Operand.TheVariants.{Number, Agent, Message}
+use Rattle.flame_spec.specs.declared.models.Variable.{Variable}
+use Rattle.flame_spec.specs.declared.models.TimeUnit.{TimeUnit}
+use Rattle.flame_spec.specs.declared.models.AgentType.{AgentType}
+use Rattle.flame_spec.specs.declared.models.MessageType.{MessageType}
 use Rattle.flame_spec.specs.Columns.{column, width}
 use Rattle.flame_spec.specs.TimeUnits.{unit_length}
 
@@ -71,14 +71,19 @@ abbrev pub in_unit : Option ℤ → ℤ → ℤ → ℤ → Bool
 in_unit None phase duration iteration = false
 in_unit (Some length) phase duration iteration = in_time length phase duration iteration
 
+-- whether a form holds, where its parts tell whether they do [FLAME User Manual]
+abbrev pub truth_step : Scope → Condition-F (Moment → Bool) → Moment → Bool
+truth_step scope (Condition-F.Compare op a b) moment =
+    compares op (operand_value scope a moment) (operand_value scope b moment)
+truth_step scope (Condition-F.And left right) moment = left moment && right moment
+truth_step scope (Condition-F.Or left right) moment = left moment || right moment
+truth_step scope (Condition-F.Not part) moment = not (part moment)
+truth_step scope (Condition-F.Time unit phase duration) moment =
+    in_unit (unit_length scope.units unit) (operand_value scope phase moment) duration moment.iteration
+
 -- whether the condition holds [FLAME User Manual]
 abbrev pub truth : Scope → Condition → Moment → Bool
-truth scope (Compare op a b) moment = compares op (operand_value scope a moment) (operand_value scope b moment)
-truth scope (And' _ a _ b) moment = truth scope a moment && truth scope b moment
-truth scope (Or' _ a _ b) moment = truth scope a moment || truth scope b moment
-truth scope (Not' _ a) moment = not (truth scope a moment)
-truth scope (Time unit phase duration) moment =
-    in_unit (unit_length scope.units unit) (operand_value scope phase moment) duration moment.iteration
+truth scope = fold-Condition (Moment → Bool) (truth_step scope)
 
 -- whether a function's condition holds for an agent with this memory in this iteration [FLAME User Manual]
 abbrev pub condition_holds : AgentType → List TimeUnit → Condition → List ℤ → ℤ → Bool
@@ -97,13 +102,17 @@ abbrev pub is_length : Option ℤ → Bool
 is_length None = false
 is_length (Some length) = int_le (pos 1) length && int_le length (pos 2147483647)
 
+-- whether the units of a form have lengths, where its parts tell whether theirs do [own]
+abbrev pub lengths_step : List TimeUnit → Condition-F Bool → Bool
+lengths_step units (Condition-F.Compare op a b) = true
+lengths_step units (Condition-F.And left right) = left && right
+lengths_step units (Condition-F.Or left right) = left && right
+lengths_step units (Condition-F.Not part) = part
+lengths_step units (Condition-F.Time unit phase duration) = is_length (unit_length units unit)
+
 -- whether the unit of each time condition has a length [own]
 abbrev pub has_lengths : List TimeUnit → Condition → Bool
-has_lengths units (Compare op a b) = true
-has_lengths units (And' _ a _ b) = has_lengths units a && has_lengths units b
-has_lengths units (Or' _ a _ b) = has_lengths units a && has_lengths units b
-has_lengths units (Not' _ a) = has_lengths units a
-has_lengths units (Time unit phase duration) = is_length (unit_length units unit)
+has_lengths units = fold-Condition Bool (lengths_step units)
 
 -- what a condition must meet to be read by columns [own]
 pub record IsReadable (scope : Scope) (condition : Condition) : Type 0 where

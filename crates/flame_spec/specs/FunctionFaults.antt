@@ -2,11 +2,11 @@
 use Rattle.std.specs.Prelude.{ℕ, List, [], ◌++◌, take, map, codes, Bool, not, ◌&&◌, Option, Some, None}
 use Rattle.std.specs.List.{list_any}
 use Rattle.std.specs.Str.{bytes_eq}
-use Rattle.flame_spec.specs.declared.fault.NameFault.{NameFault}
-use Rattle.flame_spec.specs.declared.fault.NameKind.TheVariants.{Duplicate, UnknownMessage, UnknownVariable, FunctionShared, RandomOrder}
-use Rattle.flame_spec.specs.declared.model.Function.{Function}
-use Rattle.flame_spec.specs.declared.model.Input.{Input}
-use Rattle.flame_spec.specs.declared.model.Sort.{Sort}
+use Rattle.flame_spec.specs.declared.faults.NameFault.{NameFault}
+use Rattle.flame_spec.specs.declared.faults.NameKind.TheVariants.{Duplicate, UnknownMessage, UnknownVariable, FunctionShared, RandomOrder}
+use Rattle.flame_spec.specs.declared.models.Function.{Function}
+use Rattle.flame_spec.specs.declared.models.Input.{Input}
+use Rattle.flame_spec.specs.declared.models.Sort.{Sort}
 use Rattle.flame_spec.specs.Lists.{each}
 use Rattle.flame_spec.specs.KnownNames.{is_among, DeclaredNames}
 use Rattle.flame_spec.specs.Paths.{at_key, at_number}

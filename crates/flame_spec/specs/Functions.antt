@@ -1,8 +1,8 @@
 -- The functions of a model in document order: type by type, function by function.
 use Rattle.std.specs.Prelude.{ℕ, ◌+◌, List, [], ◌∷◌, ◌++◌, map}
-use Rattle.flame_spec.specs.declared.model.Model.{Model}
-use Rattle.flame_spec.specs.declared.model.AgentType.{AgentType}
-use Rattle.flame_spec.specs.declared.model.Function.{Function}
+use Rattle.flame_spec.specs.declared.models.Model.{Model}
+use Rattle.flame_spec.specs.declared.models.AgentType.{AgentType}
+use Rattle.flame_spec.specs.declared.models.Function.{Function}
 
 -- a function with its type and the number of its type [own]
 pub record Place : Type 0 where

@@ -1,7 +1,7 @@
 -- Layers: of n functions, numbered in document order, where `before f g` tells whether f stands before g.
 use Rattle.std.specs.Prelude.{ℕ, zero, suc, ◌+◌, max, Bool, List, map, if◌then◌else◌}
 use Rattle.std.specs.List.{range_with_len}
-use Rattle.flame_spec.specs.declared.model.Model.{Model}
+use Rattle.flame_spec.specs.declared.models.Model.{Model}
 use Rattle.flame_spec.specs.Before.{before, function_count}
 
 -- 0 where no function below n stands before g, else 1 more than the greatest height of those that do [own]

@@ -1,11 +1,11 @@
 -- Faults of the names in conditions.
 use Rattle.std.specs.Prelude.{ℕ, List, [], ◌++◌, codes, not, Option, Some, None}
-use Rattle.flame_spec.specs.declared.fault.NameFault.{NameFault}
-use Rattle.flame_spec.specs.declared.fault.NameKind.TheVariants.{UnknownVariable, UnknownUnit}
-use Rattle.flame_spec.specs.declared.condition.Operand.{Operand}
-use Rattle.flame_spec.specs.declared.condition.Operand.TheVariants.{Number, Agent, Message}
-use Rattle.flame_spec.specs.declared.condition.Condition.{Condition, fold-Condition}
-use Rattle.flame_spec.specs.declared.condition.Condition.TheOpen.{Condition-F}
+use Rattle.flame_spec.specs.declared.faults.NameFault.{NameFault}
+use Rattle.flame_spec.specs.declared.faults.NameKind.TheVariants.{UnknownVariable, UnknownUnit}
+use Rattle.flame_spec.specs.declared.conditions.Operand.{Operand}
+use Rattle.flame_spec.specs.declared.conditions.Operand.TheVariants.{Number, Agent, Message}
+use Rattle.flame_spec.specs.declared.conditions.Condition.{Condition, fold-Condition}
+use Rattle.flame_spec.specs.declared.conditions.Condition.TheOpen.{Condition-F}
 use Rattle.flame_spec.specs.KnownNames.{is_among}
 use Rattle.flame_spec.specs.Paths.{at_key}
 use Rattle.flame_spec.specs.Refusals.{fault_where}
@@ -43,10 +43,10 @@ leaf_step scope (Condition-F.Compare op left right) path =
     operand_faults scope (at_key (at_key path (codes "lhs")) (codes "value")) left
     ++ operand_faults scope (at_key (at_key path (codes "rhs")) (codes "value")) right
 leaf_step scope (Condition-F.And left right) path =
-    left.value (at_key path (codes "lhs")) ++ right.value (at_key path (codes "rhs"))
+    left (at_key path (codes "lhs")) ++ right (at_key path (codes "rhs"))
 leaf_step scope (Condition-F.Or left right) path =
-    left.value (at_key path (codes "lhs")) ++ right.value (at_key path (codes "rhs"))
-leaf_step scope (Condition-F.Not part) path = part.value (at_key path (codes "not"))
+    left (at_key path (codes "lhs")) ++ right (at_key path (codes "rhs"))
+leaf_step scope (Condition-F.Not part) path = part (at_key path (codes "not"))
 leaf_step scope (Condition-F.Time period phase duration) path =
     time_faults scope (at_key path (codes "time")) period phase
 

@@ -1,5 +1,5 @@
 -- Lists that come from other lists, element by element.
-use Rattle.std.specs.Prelude.{ℕ, ◌+◌, List, [], ◌∷◌, ◌++◌, Option, Some, None}
+use Rattle.std.specs.Prelude.{ℕ, ◌+◌, List, [], ◌∷◌, ◌++◌, Bool, Option, Some, None, if◌then◌else◌}
 
 -- what each element gives with its number, one after another, numbered from i [own]
 abbrev pub each_from : {X Y : Type 0} → (ℕ → X → List Y) → ℕ → List X → List Y
@@ -14,3 +14,12 @@ each f xs = each_from f 0 xs
 abbrev pub first : {X : Type 0} → List X → Option X
 first [] = None
 first (x ∷ xs) = Some x
+
+-- the first that passes, with its number, where they are numbered from i [own]
+abbrev pub numbered_from : {X : Type 0} → (X → Bool) → ℕ → List X → Option (ℕ × X)
+numbered_from passes i [] = None
+numbered_from passes i (x ∷ xs) = if passes x then Some (i, x) else numbered_from passes (i + 1) xs
+
+-- the first that passes, with its number, from 0 [own]
+abbrev pub numbered_where : {X : Type 0} → (X → Bool) → List X → Option (ℕ × X)
+numbered_where passes xs = numbered_from passes 0 xs

@@ -1,9 +1,9 @@
 -- Faults of the names of constants, messages and their variables.
 use Rattle.std.specs.Prelude.{ℕ, List, ◌++◌, take, codes}
-use Rattle.flame_spec.specs.declared.fault.NameFault.{NameFault}
-use Rattle.flame_spec.specs.declared.fault.NameKind.TheVariants.{Duplicate, Clash}
-use Rattle.flame_spec.specs.declared.model.Variable.{Variable}
-use Rattle.flame_spec.specs.declared.model.MessageType.{MessageType}
+use Rattle.flame_spec.specs.declared.faults.NameFault.{NameFault}
+use Rattle.flame_spec.specs.declared.faults.NameKind.TheVariants.{Duplicate, Clash}
+use Rattle.flame_spec.specs.declared.models.Variable.{Variable}
+use Rattle.flame_spec.specs.declared.models.MessageType.{MessageType}
 use Rattle.flame_spec.specs.Lists.{each}
 use Rattle.flame_spec.specs.KnownNames.{is_among, variable_names, message_names}
 use Rattle.flame_spec.specs.Capitals.{clashes}

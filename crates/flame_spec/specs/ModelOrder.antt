@@ -2,7 +2,7 @@
 -- `before f g` tells whether f stands before g.
 use Rattle.std.specs.Prelude.{ℕ, zero, suc, ◌+◌, ◌==◌, ◌&&◌, not, Bool, List, [], ◌∷◌, ◌++◌, Option, Some, None, take, drop, reverse, min, is_none, if◌then◌else◌}
 use Rattle.std.specs.List.{position_or_len}
-use Rattle.flame_spec.specs.declared.model.Model.{Model}
+use Rattle.flame_spec.specs.declared.models.Model.{Model}
 use Rattle.flame_spec.specs.Before.{before, function_count}
 use Rattle.flame_spec.specs.Below.{first_below, is_in}
 

@@ -1,7 +1,7 @@
 -- Single faults of names.
 use Rattle.std.specs.Prelude.{ℕ, List, [], ◌∷◌, Bool, if◌then◌else◌}
-use Rattle.flame_spec.specs.declared.fault.NameFault.{NameFault}
-use Rattle.flame_spec.specs.declared.fault.NameKind.{NameKind}
+use Rattle.flame_spec.specs.declared.faults.NameFault.{NameFault}
+use Rattle.flame_spec.specs.declared.faults.NameKind.{NameKind}
 
 -- the fault of this kind of the name at this path [own]
 abbrev pub name_fault : NameKind → List ℕ → List ℕ → NameFault

@@ -1,22 +1,47 @@
 -- What the places of a function's body see: the locals that are declared round them, the names that the model gives,
 -- and the loops that are open.
-use Rattle.std.specs.Prelude.{ℕ, List, [], ◌∷◌, codes, Bool, true, false, not, ◌&&◌, ◌||◌, Option, Some, None}
+use Rattle.std.specs.Prelude.{ℕ, List, [], ◌∷◌, map, Bool, true, false, not, ◌&&◌, ◌||◌, Option, Some, None, is_some}
 use Rattle.std.specs.List.{list_any}
 use Rattle.std.specs.Str.{bytes_eq}
-use Rattle.flame_spec.specs.declared.model.Model.{Model}
-use Rattle.flame_spec.specs.declared.model.AgentType.{AgentType}
-use Rattle.flame_spec.specs.declared.model.MessageType.{MessageType}
-use Rattle.flame_spec.specs.declared.model.Function.{Function}
+use Rattle.flame_spec.specs.declared.models.Model.{Model}
+use Rattle.flame_spec.specs.declared.models.MessageType.{MessageType}
+use Rattle.flame_spec.specs.declared.models.Variable.{Variable}
+use Rattle.flame_spec.specs.declared.trees.Parameter.{Parameter}
+use Rattle.flame_spec.specs.Definitions.{Definition}
+use Rattle.flame_spec.specs.Functions.{Place}
 use Rattle.flame_spec.specs.KnownNames.{is_among}
-use Rattle.flame_spec.specs.Capitals.{capitals}
+use Rattle.flame_spec.specs.LookUps.{Given, given}
 use Rattle.flame_spec.specs.Trees.{Declared, Statement, declare, Statements, no_more, also}
 
--- the function of the model that a body is checked for, and the number of the file that the body stands in [own]
+-- where a body is checked: the model and its helpers, the function of the model that it is checked for, which a helper
+-- has none of, and the number of the file that the body stands in [own]
 pub record Site : Type 0 where
   pub model : Model
-  pub type : AgentType
-  pub function : Function
+  pub helpers : List Definition
+  pub runs : Option Place
   pub file : ℕ
+
+-- the variables that the function of this place has [FLAME User Manual]
+abbrev pub memory_in : Option Place → List Variable
+memory_in None = []
+memory_in (Some place) = place.type.memory
+
+-- the memory variables that the body sees: those of the function's type; a helper sees none [FLAME User Manual; own]
+abbrev pub memory_at : Site → List Variable
+memory_at site = memory_in site.runs
+
+-- the messages that the function of this place may read [FLAME User Manual]
+abbrev pub messages_in : Option Place → Model → List MessageType
+messages_in None model = []
+messages_in (Some place) model = model.messages
+
+-- the messages that the body may read; a helper reads none [FLAME User Manual; own]
+abbrev pub messages_at : Site → List MessageType
+messages_at site = messages_in site.runs site.model
+
+-- what the model gives to the word there, beside locals [FLAME User Manual]
+abbrev pub given_at : Site → List ℕ → Option Given
+given_at site word = given (memory_at site) site.model.constants word
 
 -- a loop: over the message of this name, or over none [FLAME User Manual]
 pub data Loop : Type 0 where
@@ -33,7 +58,7 @@ pub record Sight : Type 0 where
 
 -- ---- where scopes and loops begin
 
--- what the first statement of a function's body sees: a scope without locals, and no loop [C, 6.2.1]
+-- what the first parameter of a function sees: a scope without locals, and no loop [C, 6.2.1]
 abbrev pub at_entry : Sight
 at_entry = record { scope = []; outer = []; own = None; loops = [] }
 
@@ -55,6 +80,11 @@ in_value_of name sight = record sight { own = Some name }
 abbrev pub after_name : Sight → List ℕ → Sight
 after_name sight name = record sight { scope = name ∷ sight.scope }
 
+-- once the scope declares these parameters too; it is that of the body's block [C, 6.2.1, 6.9.1]
+abbrev pub after_parameters : Sight → List Parameter → Sight
+after_parameters sight [] = sight
+after_parameters sight (parameter ∷ parameters) = after_parameters (after_name sight parameter.name) parameters
+
 -- once the scope declares the names of these items too [C, 6.2.1]
 abbrev pub after_items : Sight → List Declared → Sight
 after_items sight [] = sight
@@ -73,22 +103,6 @@ after_all sight (also statement statements) = after_all (after sight statement) 
 
 -- ---- names
 
--- the word is a memory variable of the function's type in capitals [FLAME User Manual]
-abbrev pub is_memory : Site → List ℕ → Bool
-is_memory site word = list_any (λ variable. bytes_eq (capitals variable.name) word) site.type.memory
-
--- the word is a constant in capitals [FLAME User Manual]
-abbrev pub is_constant : Site → List ℕ → Bool
-is_constant site word = list_any (λ constant. bytes_eq (capitals constant) word) site.model.constants
-
--- the word is `iteration_loop`, which reads the number of the iteration [FLAME User Manual]
-abbrev pub is_iteration : List ℕ → Bool
-is_iteration word = bytes_eq (codes "iteration_loop") word
-
--- the model gives the word a meaning [FLAME User Manual]
-abbrev pub is_given : Site → List ℕ → Bool
-is_given site word = is_memory site word || is_constant site word || is_iteration word
-
 -- the word is a local of the scope or of one round it [C, 6.2.1]
 abbrev pub is_local : Sight → List ℕ → Bool
 is_local sight word = is_among word sight.scope || list_any (is_among word) sight.outer
@@ -101,7 +115,8 @@ is_name_of (Some name) word = bytes_eq name word
 -- the word stands for something there: the model gives it a meaning, or it is a local; in its own value an item's name
 -- stands for nothing, not even for a local of that name in a scope round it [C, 6.2.1; an item in its own value: own]
 abbrev pub is_visible : Site → Sight → List ℕ → Bool
-is_visible site sight word = not (is_name_of sight.own word) && (is_given site word || is_local sight word)
+is_visible site sight word =
+    not (is_name_of sight.own word) && (is_some (given_at site word) || is_local sight word)
 
 -- ---- loops
 

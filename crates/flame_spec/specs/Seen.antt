@@ -1,15 +1,19 @@
 -- What trees are seen as by definitions: form by form the same.
 use Rattle.std.specs.Prelude.{ℕ, List, [], ◌∷◌, map, Option, option_map}
-use Rattle.flame_spec.specs.declared.tree.Expr.{Expr, fold-Expr}
-use Rattle.flame_spec.specs.declared.tree.Expr.TheOpen.{Expr-F, Link-F}
-use Rattle.flame_spec.specs.declared.tree.Link.{Link}
-use Rattle.flame_spec.specs.declared.tree.Stmt.{Stmt, fold-Stmt}
-use Rattle.flame_spec.specs.declared.tree.Stmt.TheOpen.{Stmt-F, Arm-F, Head-F}
-use Rattle.flame_spec.specs.declared.tree.Arm.{Arm}
-use Rattle.flame_spec.specs.declared.tree.Item.{Item}
-use Rattle.flame_spec.specs.declared.tree.Assign.{Assign}
+use Rattle.flame_spec.specs.declared.trees.Expr.{Expr, fold-Expr}
+use Rattle.flame_spec.specs.declared.trees.Expr.TheOpen.{Expr-F, Link-F, Subscript-F}
+use Rattle.flame_spec.specs.declared.trees.Link.{Link}
+use Rattle.flame_spec.specs.declared.trees.Subscript.{Subscript}
+use Rattle.flame_spec.specs.declared.trees.Value.{Value}
+use Rattle.flame_spec.specs.declared.trees.Value.TheVariants.{Plain, Call}
+use Rattle.flame_spec.specs.declared.trees.Stmt.{Stmt, fold-Stmt}
+use Rattle.flame_spec.specs.declared.trees.Stmt.TheOpen.{Stmt-F, Arm-F, Head-F}
+use Rattle.flame_spec.specs.declared.trees.Arm.{Arm}
+use Rattle.flame_spec.specs.declared.trees.Item.{Item}
+use Rattle.flame_spec.specs.declared.trees.Assign.{Assign}
 use Rattle.flame_ops.specs.declared.integers.Op.{Op}
-use Rattle.flame_spec.specs.Trees.{Expression, number, name, field, get, signed, chain, all_of, any_of, Expressions, no_parts, part, Links, no_links, link}
+use Rattle.flame_spec.specs.Trees.{Expression, number, name, field, get, at, field_at, signed, chain, all_of, any_of}
+use Rattle.flame_spec.specs.Trees.{Expressions, no_parts, part, Links, no_links, link, Stored, plain, called, Indexed}
 use Rattle.flame_spec.specs.Trees.{Declared, Assigned, Statement, empty, declare, assign, call, block, branch, while, for, do_while, loop_over, return, break, continue}
 use Rattle.flame_spec.specs.Trees.{Statements, no_more, also, Arms, no_arms, arm}
 
@@ -30,23 +34,30 @@ links_of [] = no_links
 links_of (l ∷ ls) = link l.op l.line l.right (links_of ls)
 
 -- a form of expressions, whose parts are seen already [own]
-abbrev pub expression_step : Expr-F Expression Joined → Expression
+abbrev pub expression_step : Expr-F Expression Joined Indexed → Expression
 expression_step (Expr-F.Number n) = number n
 expression_step (Expr-F.Name line word) = name line word
 expression_step (Expr-F.Field line word variable) = field line word variable
 expression_step (Expr-F.Get line word) = get line word
-expression_step (Expr-F.Unary signs e) = signed signs e.value
-expression_step (Expr-F.Chain e more) = chain e.value (links_of more)
+expression_step (Expr-F.At line word subscript) = at line word subscript.line subscript.index
+expression_step (Expr-F.FieldAt line word variable subscript) =
+    field_at line word variable subscript.line subscript.index
+expression_step (Expr-F.Unary signs e) = signed signs e
+expression_step (Expr-F.Chain e more) = chain e (links_of more)
 expression_step (Expr-F.All parts) = all_of (expressions_of parts)
 expression_step (Expr-F.Any parts) = any_of (expressions_of parts)
 
 -- a link, whose operand is seen already [own]
-abbrev pub joined_step : Link-F Expression Joined → Joined
+abbrev pub joined_step : Link-F Expression Joined Indexed → Joined
 joined_step l = record { op = l.op; line = l.line; right = l.right }
+
+-- which element, whose index is seen already [own]
+abbrev pub indexed_step : Subscript-F Expression Joined Indexed → Indexed
+indexed_step s = record { line = s.line; index = s.index }
 
 -- an expression [own]
 abbrev pub expression : Expr → Expression
-expression = fold-Expr Expression Joined expression_step joined_step
+expression = fold-Expr Expression Joined Indexed expression_step joined_step indexed_step
 
 -- expressions in order [own]
 abbrev pub expressions : List Expr → Expressions
@@ -60,13 +71,29 @@ joined l = record { op = l.op; line = l.line; right = expression l.right }
 abbrev pub links : List Link → Links
 links ls = links_of (map joined ls)
 
+-- which element [own]
+abbrev pub indexed : Subscript → Indexed
+indexed s = record { line = s.line; index = expression s.index }
+
+-- what an assignment or a declaration stores [own]
+abbrev pub stored : Value → Stored
+stored (Plain e) = plain (expression e)
+stored (Call line word arguments) = called line word (expressions arguments)
+
 -- a local that a declaration declares [own]
 abbrev pub declared : Item → Declared
-declared item = record { line = item.line; name = item.name; value = option_map expression item.value }
+declared item = record { line = item.line; name = item.name; value = option_map stored item.value }
 
 -- an assignment [own]
 abbrev pub assigned : Assign → Assigned
-assigned a = record { line = a.line; name = a.name; op = a.op; op_line = a.op_line; value = expression a.value }
+assigned a = record {
+  line = a.line;
+  name = a.name;
+  subscript = option_map indexed a.subscript;
+  op = a.op;
+  op_line = a.op_line;
+  value = stored a.value;
+}
 
 -- a test and its body [own]
 pub record Tested : Type 0 where
@@ -99,7 +126,7 @@ statement_step (Stmt-F.Block body) = block (statements_of body)
 statement_step (Stmt-F.If tests otherwise) = branch (arms_of tests) (statements_of otherwise)
 statement_step (Stmt-F.While line test body) = while line (expression test) (statements_of body)
 statement_step (Stmt-F.For line head body) =
-    for line head.value.first head.value.test head.value.step (statements_of body)
+    for line head.first head.test head.step (statements_of body)
 statement_step (Stmt-F.Do line body test) = do_while line (statements_of body) (expression test)
 statement_step (Stmt-F.Loop line word body end_line end_word) =
     loop_over line word (statements_of body) end_line end_word

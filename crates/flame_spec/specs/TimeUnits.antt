@@ -1,7 +1,7 @@
 -- Lengths of time units.
 use Rattle.std.specs.Prelude.{ℕ, ℤ, pos, ◌*ℤ◌, List, [], ◌∷◌, codes, Option, Some, None, option_map, if◌then◌else◌, reverse}
 use Rattle.std.specs.Str.{bytes_eq}
-use Rattle.flame_spec.specs.declared.model.TimeUnit.{TimeUnit}
+use Rattle.flame_spec.specs.declared.models.TimeUnit.{TimeUnit}
 
 -- how many iterations the unit of this name has, where the units stand with the last one first: `iteration` has one,
 -- and a unit has its period times the length of the unit that it is measured in, which is declared before it [XMML]

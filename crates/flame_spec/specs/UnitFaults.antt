@@ -1,9 +1,9 @@
 -- Faults of the names of time units.
 use Rattle.std.specs.Prelude.{ℕ, ℤ, pos, ◌*ℤ◌, int_lt, List, ◌++◌, take, codes, Bool, true, false, if◌then◌else◌, Option, option_map}
 use Rattle.std.specs.Option.{option_map_or}
-use Rattle.flame_spec.specs.declared.fault.NameFault.{NameFault}
-use Rattle.flame_spec.specs.declared.fault.NameKind.TheVariants.{Duplicate, UnknownUnit, LongUnit}
-use Rattle.flame_spec.specs.declared.model.TimeUnit.{TimeUnit}
+use Rattle.flame_spec.specs.declared.faults.NameFault.{NameFault}
+use Rattle.flame_spec.specs.declared.faults.NameKind.TheVariants.{Duplicate, UnknownUnit, LongUnit}
+use Rattle.flame_spec.specs.declared.models.TimeUnit.{TimeUnit}
 use Rattle.flame_spec.specs.Lists.{each}
 use Rattle.flame_spec.specs.TimeUnits.{unit_length}
 use Rattle.flame_spec.specs.KnownNames.{is_among, unit_names}

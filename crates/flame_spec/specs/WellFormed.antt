@@ -4,18 +4,18 @@ use Rattle.std.specs.List.{list_all}
 use Rattle.std.specs.Option.{option_map_or, is_none}
 use Rattle.flame_ops.specs.declared.integers.Op.{Op}
 use Rattle.flame_ops.specs.declared.integers.Op.TheVariants.{Eq, Ne, Lt, Gt, Le, Ge}
-use Rattle.flame_spec.specs.declared.condition.Operand.{Operand}
-use Rattle.flame_spec.specs.declared.condition.Operand.TheVariants.{Number, Agent, Message}
-use Rattle.flame_spec.specs.declared.condition.Condition.{Condition, fold-Condition}
-use Rattle.flame_spec.specs.declared.condition.Condition.TheOpen.{Condition-F}
-use Rattle.flame_spec.specs.declared.model.Model.{Model}
-use Rattle.flame_spec.specs.declared.model.TimeUnit.{TimeUnit}
-use Rattle.flame_spec.specs.declared.model.Variable.{Variable}
-use Rattle.flame_spec.specs.declared.model.MessageType.{MessageType}
-use Rattle.flame_spec.specs.declared.model.AgentType.{AgentType}
-use Rattle.flame_spec.specs.declared.model.Function.{Function}
-use Rattle.flame_spec.specs.declared.model.Input.{Input}
-use Rattle.flame_spec.specs.declared.model.Sort.{Sort}
+use Rattle.flame_spec.specs.declared.conditions.Operand.{Operand}
+use Rattle.flame_spec.specs.declared.conditions.Operand.TheVariants.{Number, Agent, Message}
+use Rattle.flame_spec.specs.declared.conditions.Condition.{Condition, fold-Condition}
+use Rattle.flame_spec.specs.declared.conditions.Condition.TheOpen.{Condition-F}
+use Rattle.flame_spec.specs.declared.models.Model.{Model}
+use Rattle.flame_spec.specs.declared.models.TimeUnit.{TimeUnit}
+use Rattle.flame_spec.specs.declared.models.Variable.{Variable}
+use Rattle.flame_spec.specs.declared.models.MessageType.{MessageType}
+use Rattle.flame_spec.specs.declared.models.AgentType.{AgentType}
+use Rattle.flame_spec.specs.declared.models.Function.{Function}
+use Rattle.flame_spec.specs.declared.models.Input.{Input}
+use Rattle.flame_spec.specs.declared.models.Sort.{Sort}
 use Rattle.flame_spec.specs.Names.{is_filled, is_name}
 
 -- a number in the range of int: -2147483648 to 2147483647 [C, 6.2.5, of 32 bits]
@@ -52,9 +52,9 @@ is_well_formed_phase (Message name) = false
 abbrev pub well_formed_step : Bool → Condition-F Bool → Bool
 well_formed_step timed (Condition-F.Compare op left right) =
     is_comparison op && (is_well_formed_operand left && is_well_formed_operand right)
-well_formed_step timed (Condition-F.And left right) = left.value && right.value
-well_formed_step timed (Condition-F.Or left right) = left.value && right.value
-well_formed_step timed (Condition-F.Not part) = part.value
+well_formed_step timed (Condition-F.And left right) = left && right
+well_formed_step timed (Condition-F.Or left right) = left && right
+well_formed_step timed (Condition-F.Not part) = part
 well_formed_step timed (Condition-F.Time period phase duration) =
     timed && (is_name period && (is_well_formed_phase phase && is_positive_int duration))
 

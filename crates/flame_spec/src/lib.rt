@@ -1,14 +1,19 @@
-//! What models, function files, populations and their runs mean: the data and the definitions that other crates cite.
+//! What models and function files mean: the data and the definitions that other crates cite.
 #![tactic(auto)]
 
-pub mod accepted_laws;
-pub mod check_laws;
-pub mod condition;
-pub mod fault;
-pub mod model;
-pub mod name_laws;
-pub mod order_laws;
-pub mod outcome;
-pub mod tree;
-pub mod used_laws;
-pub mod view_laws;
+mod conditions;
+mod faults;
+mod models;
+mod outcomes;
+mod same_data;
+mod same_trees;
+mod trees;
+
+pub use conditions::{Condition, Operand};
+pub use faults::{CheckFault, CheckKind, Fault, NameFault, NameKind};
+pub use models::{AgentType, Function, Input, MessageType, Model, Sort, TimeUnit, Variable};
+pub use outcomes::{Born, Effect, Outcome, Sent, Source, Widths};
+pub use trees::{
+    Arm, Assign, Def, Expr, Head, Item, Link, Parameter, Sign, SignKind, Stmt, Subscript, Unit,
+    Value,
+};

@@ -3,7 +3,7 @@ use Rattle.std.specs.Prelude.{ℕ, ℤ, pos, List, [], ◌∷◌, Result, Ok, Er
 use Rattle.flame_ops.specs.declared.integers.Cause.{Cause}
 use Rattle.flame_ops.specs.Integers.{applied}
 use Rattle.flame_rows.specs.Bags.{ascending}
-use Rattle.flame_spec.specs.declared.fault.Fault.{Fault}
+use Rattle.flame_spec.specs.declared.faults.Fault.{Fault}
 use Rattle.flame_top.specs.declared.source.Operand.{Operand}
 use Rattle.flame_top.specs.declared.source.Operand.TheVariants.{Get, Number}
 use Rattle.flame_top.specs.declared.source.Link.{Link}

@@ -7,7 +7,7 @@ use flame_ops::integers::apply;
 use flame_rows::NoMemory;
 use flame_rows::Bag;
 use flame_rows::Row;
-use flame_spec::fault::Fault;
+use flame_spec::Fault;
 use crate::source::{Operand, Sum};
 use std::alloc::Global;
 use std::marker::Model;

@@ -7,7 +7,7 @@ use crate::meaning::held;
 use flame_ops::integers::Cause;
 use flame_rows::NoMemory;
 use flame_rows::Row;
-use flame_spec::fault::Fault;
+use flame_spec::Fault;
 use crate::model::NarrowModel;
 use itoa::Buffer;
 use std::alloc::Global;

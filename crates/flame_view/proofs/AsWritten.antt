@@ -1,10 +1,10 @@
 -- The view by columns is the view by names.
 use Rattle.std.proofs.Common.{◌≡◌, List, Option, Some, None, refl, ap}
 use Rattle.std.specs.Prelude.{ℤ, option_map}
-use Rattle.flame_spec.specs.declared.condition.Condition.{Condition}
-use Rattle.flame_spec.specs.declared.model.AgentType.{AgentType}
-use Rattle.flame_spec.specs.declared.model.MessageType.{MessageType}
-use Rattle.flame_spec.specs.declared.model.Sort.{Sort}
+use Rattle.flame_spec.specs.declared.conditions.Condition.{Condition}
+use Rattle.flame_spec.specs.declared.models.AgentType.{AgentType}
+use Rattle.flame_spec.specs.declared.models.MessageType.{MessageType}
+use Rattle.flame_spec.specs.declared.models.Sort.{Sort}
 use Rattle.flame_spec.specs.Views.{is_read, key_of, view}
 use Rattle.flame_cond.specs.declared.sort.SortBy.{SortBy}
 use Rattle.flame_cond.specs.declared.test.Test.{Test}

@@ -1,10 +1,10 @@
 -- Views by columns: under a filter and a key that were read.
 use Rattle.std.specs.Prelude.{◌≡◌, ℤ, List, Bool, true, Option, Some, None, option_map}
 use Rattle.std.specs.List.{filter}
-use Rattle.flame_spec.specs.declared.condition.Condition.{Condition}
-use Rattle.flame_spec.specs.declared.model.AgentType.{AgentType}
-use Rattle.flame_spec.specs.declared.model.MessageType.{MessageType}
-use Rattle.flame_spec.specs.declared.model.Sort.{Sort}
+use Rattle.flame_spec.specs.declared.conditions.Condition.{Condition}
+use Rattle.flame_spec.specs.declared.models.AgentType.{AgentType}
+use Rattle.flame_spec.specs.declared.models.MessageType.{MessageType}
+use Rattle.flame_spec.specs.declared.models.Sort.{Sort}
 use Rattle.flame_spec.specs.Views.{view, view_of, key_of}
 use Rattle.flame_cond.specs.declared.sort.SortBy.{SortBy}
 use Rattle.flame_cond.specs.declared.test.Test.{Test}

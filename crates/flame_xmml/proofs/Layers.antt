@@ -9,10 +9,10 @@ use Rattle.std.specs.declared.cmp.Ordering.TheVariants.{Less, Equal, Greater}
 use Rattle.serde_json.specs.Data.{Data, null, boolean, number, string, array, object, Members, no_members, member}
 use Rattle.serde_json.specs.Data.{depth, members_depth}
 use Rattle.serde_json.specs.Find.{get_member}
-use Rattle.flame_spec.specs.declared.condition.Condition.{Condition, roll-Condition}
-use Rattle.flame_spec.specs.declared.condition.Condition.TheVariants.{Not, rolls-Not}
-use Rattle.flame_spec.specs.declared.condition.Condition.TheFolds.{fold-roll-Condition}
-use Rattle.flame_spec.specs.declared.condition.Condition.TheOpen.{Condition-F}
+use Rattle.flame_spec.specs.declared.conditions.Condition.{Condition, roll-Condition}
+use Rattle.flame_spec.specs.declared.conditions.Condition.TheVariants.{Not, rolls-Not}
+use Rattle.flame_spec.specs.declared.conditions.Condition.TheFolds.{fold-roll-Condition}
+use Rattle.flame_spec.specs.declared.conditions.Condition.TheOpen.{Condition-F}
 use Rattle.flame_xmml.specs.declared.fault.Want.TheVariants.{Condition as ConditionWant}
 use Rattle.flame_xmml.specs.Parts.{part, has, is_object, object_of, wanted, required}
 use Rattle.flame_xmml.specs.Bare.{boxed, bare_step, bare_condition}

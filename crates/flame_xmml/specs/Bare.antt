@@ -3,12 +3,12 @@
 use Rattle.std.specs.Prelude.{Box, map, option_map}
 use Rattle.std.specs.declared.alloc.Global.{Global}
 use denote.RawPtr.{null_ptr}
-use Rattle.flame_spec.specs.declared.condition.Condition.{Condition, fold-Condition, roll-Condition}
-use Rattle.flame_spec.specs.declared.condition.Condition.TheOpen.{Condition-F}
-use Rattle.flame_spec.specs.declared.model.Model.{Model}
-use Rattle.flame_spec.specs.declared.model.AgentType.{AgentType}
-use Rattle.flame_spec.specs.declared.model.Function.{Function}
-use Rattle.flame_spec.specs.declared.model.Input.{Input}
+use Rattle.flame_spec.specs.declared.conditions.Condition.{Condition, fold-Condition, roll-Condition}
+use Rattle.flame_spec.specs.declared.conditions.Condition.TheOpen.{Condition-F}
+use Rattle.flame_spec.specs.declared.models.Model.{Model}
+use Rattle.flame_spec.specs.declared.models.AgentType.{AgentType}
+use Rattle.flame_spec.specs.declared.models.Function.{Function}
+use Rattle.flame_spec.specs.declared.models.Input.{Input}
 
 -- the allocator of the heap; there is one
 abbrev pub heap : Global

@@ -6,10 +6,10 @@ use Rattle.std.specs.Cmp.Lexicographic.{slice_cmp}
 use Rattle.serde_json.specs.Data.{Data, null, boolean, number, string, array, object, Members, no_members, member}
 use Rattle.flame_ops.specs.declared.integers.Op.{Op}
 use Rattle.flame_ops.specs.declared.integers.Op.TheVariants.{Eq}
-use Rattle.flame_spec.specs.declared.condition.Condition.{Condition, roll-Condition}
-use Rattle.flame_spec.specs.declared.condition.Condition.TheOpen.{Condition-F}
-use Rattle.flame_spec.specs.declared.condition.Operand.{Operand}
-use Rattle.flame_spec.specs.declared.condition.Operand.TheVariants.{Number}
+use Rattle.flame_spec.specs.declared.conditions.Condition.{Condition, roll-Condition}
+use Rattle.flame_spec.specs.declared.conditions.Condition.TheOpen.{Condition-F}
+use Rattle.flame_spec.specs.declared.conditions.Operand.{Operand}
+use Rattle.flame_spec.specs.declared.conditions.Operand.TheVariants.{Number}
 use Rattle.flame_xmml.specs.declared.fault.Shape.{Shape}
 use Rattle.flame_xmml.specs.declared.fault.Want.TheVariants.{Condition as ConditionWant}
 use Rattle.flame_xmml.specs.declared.words.Connective.{Connective}

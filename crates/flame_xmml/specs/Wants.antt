@@ -12,8 +12,8 @@ use Rattle.flame_spec.specs.Steps.{◌>>=◌, only_where}
 use Rattle.flame_spec.specs.Json.{kept}
 use Rattle.flame_spec.specs.Names.{is_name, is_filled}
 use Rattle.flame_ops.specs.declared.integers.Op.TheVariants.{Lt, Gt, Le, Ge, Eq, Ne}
-use Rattle.flame_spec.specs.declared.condition.Operand.{Operand}
-use Rattle.flame_spec.specs.declared.condition.Operand.TheVariants.{Number, Agent, Message}
+use Rattle.flame_spec.specs.declared.conditions.Operand.{Operand}
+use Rattle.flame_spec.specs.declared.conditions.Operand.TheVariants.{Number, Agent, Message}
 use Rattle.flame_xmml.specs.Parts.{members}
 use Rattle.flame_xmml.specs.declared.words.Connective.{Connective}
 use Rattle.flame_xmml.specs.declared.words.Connective.TheVariants.{Compare, And, Or}

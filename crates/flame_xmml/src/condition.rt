@@ -20,7 +20,7 @@ use crate::place::Place;
 use crate::words::{Connective, connective_of, name_of};
 use flame_ops::integers::Op;
 use flame_rows::Text;
-use flame_spec::condition::{Condition, Operand};
+use flame_spec::{Condition, Operand};
 use serde_json::Value;
 use std::alloc::Global;
 

@@ -22,8 +22,8 @@ use crate::parts::{object, part, wanted};
 use crate::place::Place;
 use crate::words::filled_of;
 use flame_rows::Text;
-use flame_spec::condition::Condition;
-use flame_spec::model::{AgentType, Function, Input, MessageType, Sort, TimeUnit, Variable};
+use flame_spec::Condition;
+use flame_spec::{AgentType, Function, Input, MessageType, Sort, TimeUnit, Variable};
 use serde_json::Value;
 use std::alloc::Global;
 

@@ -17,7 +17,7 @@ use crate::parts::{fault, object, part};
 use crate::place::Place;
 use flame_rows::Seq;
 use flame_rows::Text;
-use flame_spec::model::{AgentType, MessageType, Model, TimeUnit};
+use flame_spec::{AgentType, MessageType, Model, TimeUnit};
 use serde_json::Value;
 use std::alloc::Global;
 

@@ -8,7 +8,7 @@ use crate::names::is_name;
 use crate::numbers::int_of;
 use flame_rows::NoMemory;
 use flame_rows::Text;
-use flame_spec::condition::Operand;
+use flame_spec::Operand;
 use serde_json::Value;
 use std::alloc::Global;
 

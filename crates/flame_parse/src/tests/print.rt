@@ -1,6 +1,6 @@
 //! Trees as texts: a word and a form that begins with one has their line behind a dot, an operator and a sign its own.
 
-use flame_spec::tree::{Arm, Assign, Def, Expr, Head, Item, Link, Sign, Stmt};
+use flame_spec::{Arm, Assign, Def, Expr, Head, Item, Link, Sign, Stmt};
 use std::alloc::Global;
 use std::test::Fail;
 

@@ -2,7 +2,7 @@
 
 use super::scene::F;
 use super::{Alone, check_alone, outcome_of};
-use flame_spec::outcome::Outcome;
+use flame_spec::Outcome;
 use std::alloc::Global;
 use std::process::Abort;
 use std::test::Fail;

@@ -6,7 +6,7 @@ use flame_ops::integers::Op;
 use flame_rows::NoMemory;
 use flame_rows::Seq;
 use flame_rows::Text;
-use flame_spec::tree::{Arm, Assign, Def, Expr, Head, Item, Link, Sign, SignKind, Stmt, Unit};
+use flame_spec::{Arm, Assign, Def, Expr, Head, Item, Link, Sign, SignKind, Stmt, Unit};
 use std::alloc::Global;
 
 /// More than any list of a file has members.

@@ -8,8 +8,8 @@ use flame_rows::Bag;
 use flame_rows::Row;
 use flame_rows::Seq;
 use flame_rows::Text;
-use flame_spec::condition::{Condition, Operand};
-use flame_spec::model::{AgentType, Function, Input, MessageType, Model, Sort, Variable};
+use flame_spec::{Condition, Operand};
+use flame_spec::{AgentType, Function, Input, MessageType, Model, Sort, Variable};
 use std::alloc::Global;
 
 /// Reads m and n.

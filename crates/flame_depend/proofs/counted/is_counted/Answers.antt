@@ -1,8 +1,8 @@
 -- The functions of one type more.
 use Rattle.std.proofs.Common.{◌≡◌, ◌+◌, ◌<◌, ◌++◌, ◌∷◌, length, map, drop, get_or, ap, sym, ◌∙◌, arith}
 use Rattle.std.proofs.lemmas.List.{drop_more, length-map, length-append}
-use Rattle.flame_spec.specs.declared.model.AgentType.{AgentType}
-use Rattle.flame_spec.specs.declared.model.Function.{Function}
+use Rattle.flame_spec.specs.declared.models.AgentType.{AgentType}
+use Rattle.flame_spec.specs.declared.models.Function.{Function}
 use Rattle.flame_spec.specs.Functions.{at_type, functions_from}
 use Rattle.flame_depend.proofs.counted.is_counted.Goals as goal
 

@@ -3,7 +3,7 @@ use Rattle.std.proofs.Common.{[], ◌<◌, length, get_or, take, ap, sym, ◌∙
 use Rattle.std.specs.Prelude.{◌||◌}
 use Rattle.std.specs.List.{list_any}
 use Rattle.std.proofs.lemmas.List.Folds.{list_any_more}
-use Rattle.flame_spec.specs.declared.model.Input.{Input}
+use Rattle.flame_spec.specs.declared.models.Input.{Input}
 use Rattle.flame_spec.specs.Below.{is_in}
 use Rattle.flame_depend.specs.Marks.{marked_where}
 use Rattle.flame_depend.specs.Tables.{listed}

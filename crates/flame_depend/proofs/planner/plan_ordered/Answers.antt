@@ -1,7 +1,7 @@
 -- The lists are those of the model.
 use Rattle.std.proofs.Common.{◌≡◌, List, ◌<◌, length, map, ap, sym, ◌∙◌, subst}
 use Rattle.std.specs.List.{All}
-use Rattle.flame_spec.specs.declared.model.AgentType.{AgentType}
+use Rattle.flame_spec.specs.declared.models.AgentType.{AgentType}
 use Rattle.flame_spec.specs.States.{start_states}
 use Rattle.flame_spec.specs.ModelOrder.{order, first_left}
 use Rattle.flame_spec.specs.Layers.{layers}

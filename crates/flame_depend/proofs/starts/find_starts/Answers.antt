@@ -1,7 +1,7 @@
 -- One type more.
 use Rattle.std.proofs.Common.{◌≡◌, ℕ, List, [], ◌∷◌, ◌++◌, length, take, get_or, map, ap, sym, ◌∙◌, arith}
 use Rattle.std.proofs.lemmas.List.{map-append, take_more}
-use Rattle.flame_spec.specs.declared.model.AgentType.{AgentType}
+use Rattle.flame_spec.specs.declared.models.AgentType.{AgentType}
 use Rattle.flame_spec.specs.States.{start_states}
 use Rattle.flame_depend.specs.Plans.{lone, starts_of}
 use Rattle.flame_depend.proofs.Planning.{one_lone, many_more}

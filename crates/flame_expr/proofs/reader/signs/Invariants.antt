@@ -1,5 +1,5 @@
 use Rattle.std.proofs.Common.{◌≡◌, ℕ, ◌-◌, ◌≤◌, ◌++◌, List, length, drop}
-use Rattle.flame_spec.specs.declared.tree.Sign.{Sign}
+use Rattle.flame_spec.specs.declared.trees.Sign.{Sign}
 use Rattle.flame_lex.specs.declared.token.Token.{Token}
 use Rattle.flame_expr.specs.Grammar.{Signs}
 use Rattle.flame_expr.specs.Levels.{signs}

@@ -1,6 +1,6 @@
 use Rattle.std.proofs.Common.{◌≡◌, ◌∙◌, sym, ap}
 use Rattle.std.proofs.lemmas.Result.{IfErr-weaker, on_ok_weaker}
-use Rattle.flame_spec.specs.declared.fault.NameKind.TheVariants.{Clash}
+use Rattle.flame_spec.specs.declared.faults.NameKind.TheVariants.{Clash}
 use Rattle.flame_spec.specs.KnownNames.{is_among}
 use Rattle.flame_spec.specs.Capitals.{capitals}
 use Rattle.flame_spec.specs.Refusals.{fault_where}

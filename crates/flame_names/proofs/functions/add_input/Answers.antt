@@ -1,7 +1,7 @@
 use Rattle.std.proofs.Common.{◌≡◌, ◌∙◌, ◌++◌, [], Some, None, sym, ap, codes, unwrap_or}
 use Rattle.std.specs.Option.{is_some, option_copied}
 use Rattle.std.proofs.lemmas.Result.{err_from_is_err_and, IfErr-weaker, on_ok_weaker}
-use Rattle.flame_spec.specs.declared.fault.NameKind.TheVariants.{Duplicate, UnknownMessage}
+use Rattle.flame_spec.specs.declared.faults.NameKind.TheVariants.{Duplicate, UnknownMessage}
 use Rattle.flame_spec.specs.KnownNames.{is_among}
 use Rattle.flame_spec.specs.Paths.{at_key}
 use Rattle.flame_spec.specs.Refusals.{fault_where, name_fault}

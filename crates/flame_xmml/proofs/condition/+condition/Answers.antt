@@ -2,8 +2,8 @@
 use Rattle.std.proofs.Common.{◌<◌, sym, ap, ◌∙◌, subst, codes, arith}
 use Rattle.serde_json.specs.Data.{depth}
 use Rattle.serde_json.specs.View.{view}
-use Rattle.flame_spec.specs.declared.condition.Condition.{roll-Condition}
-use Rattle.flame_spec.specs.declared.condition.Condition.TheOpen.{Condition-F}
+use Rattle.flame_spec.specs.declared.conditions.Condition.{roll-Condition}
+use Rattle.flame_spec.specs.declared.conditions.Condition.TheOpen.{Condition-F}
 use Rattle.flame_xmml.specs.Places.{path_of, at}
 use Rattle.flame_xmml.specs.Bare.{boxed, bare_condition, bare_sides}
 use Rattle.flame_xmml.specs.Conditions.{condition_faults, condition_of, time_faults, time_of}

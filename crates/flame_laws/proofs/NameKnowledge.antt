@@ -1,0 +1,102 @@
+-- Where nothing is found wrong with the names of a condition, they are declared.
+use Rattle.std.proofs.Common.{◌≡◌, ℕ, zero, suc, ◌+◌, Bool, true, false, List, [], ◌∷◌, ◌++◌, Some, refl, ap, sym, ◌∙◌, arith, rules, not, Box, Global}
+use Rattle.std.specs.Prelude.{ℤ, slice_get, codes, ◌&&◌}
+use Rattle.flame_ops.specs.declared.integers.Op.{Op}
+use Rattle.flame_spec.specs.declared.conditions.Condition.{Condition, And, Or, Not, the_lemmas}
+use Rattle.flame_spec.specs.declared.conditions.Condition.TheVariants.{Compare, And', Or', Not', Time}
+use Rattle.flame_spec.specs.declared.conditions.Operand.{Operand}
+use Rattle.flame_spec.specs.declared.conditions.Operand.TheVariants.{Number, Agent, Message}
+use Rattle.flame_spec.specs.declared.faults.NameKind.{NameKind}
+use Rattle.flame_spec.specs.Lists.{each_from}
+use Rattle.flame_spec.specs.Paths.{at_key}
+use Rattle.flame_spec.specs.Refusals.{fault_where}
+use Rattle.flame_spec.specs.Leaves.{LeafNames, operand_faults, period_faults, leaf_faults}
+use Rattle.flame_spec.specs.UsedNames.{knows_operand, knows}
+use Rattle.flame_spec.proofs.Found.{left-none, right-none}
+
+-- where nothing comes from a list, nothing comes from any of its elements
+pub each_none :
+    {X Y : Type 0} (f : ℕ → X → List Y) (i : ℕ) (xs : List X) (k : ℕ) (x : X) (n : ℕ)
+    → each_from f i xs ≡ []
+    → slice_get xs k ≡ Some x
+    → n ≡ i + k
+    → f n x ≡ []
+each_none f i [] k x n none at e = cc
+each_none f i (y ∷ ys) zero x n none at e =
+    let same : y ≡ x = cc in
+    let place : n ≡ i = omega arith in
+    ap (λ m. f m x) place ∙ sym (ap (f i) same) ∙ left-none (f i y) (each_from f (i + 1) ys) none
+each_none f i (y ∷ ys) (suc k) x n none at e =
+    each_none f (i + 1) ys k x n (right-none (f i y) (each_from f (i + 1) ys) none) at (omega arith)
+
+pub test_fails : (test : Bool) (kind : NameKind) (path name : List ℕ) → fault_where test kind path name ≡ [] → test ≡ false
+test_fails true kind path name none = cc
+test_fails false kind path name none = refl
+
+pub not_false : (b : Bool) → not b ≡ false → b ≡ true
+not_false true e = refl
+not_false false e = cc
+
+both : (a b : Bool) → a ≡ true → b ≡ true → a && b ≡ true
+both a b e f = cc
+
+operand_known :
+    (scope : LeafNames) (path : List ℕ) (operand : Operand)
+    → operand_faults scope path operand ≡ []
+    → knows_operand scope operand ≡ true
+operand_known scope path (Number number) none = refl
+operand_known scope path (Agent name) none = not_false _ (test_fails _ _ _ _ none)
+operand_known scope path (Message name) none = not_false _ (test_fails _ _ _ _ none)
+
+leaf-Compare :
+    (scope : LeafNames) (op : Op) (a b : Operand) (path : List ℕ)
+    → leaf_faults scope (Compare op a b) path
+    ≡ operand_faults scope (at_key (at_key path (codes "lhs")) (codes "value")) a
+    ++ operand_faults scope (at_key (at_key path (codes "rhs")) (codes "value")) b
+leaf-Compare scope op a b path = search (rules, the_lemmas)
+
+leaf-And :
+    (scope : LeafNames) (a b : Box Condition Global) (path : List ℕ)
+    → leaf_faults scope (And a b) path
+    ≡ leaf_faults scope a.value (at_key path (codes "lhs")) ++ leaf_faults scope b.value (at_key path (codes "rhs"))
+leaf-And scope a b path = search (rules, the_lemmas)
+
+leaf-Or :
+    (scope : LeafNames) (a b : Box Condition Global) (path : List ℕ)
+    → leaf_faults scope (Or a b) path
+    ≡ leaf_faults scope a.value (at_key path (codes "lhs")) ++ leaf_faults scope b.value (at_key path (codes "rhs"))
+leaf-Or scope a b path = search (rules, the_lemmas)
+
+leaf-Not :
+    (scope : LeafNames) (a : Box Condition Global) (path : List ℕ)
+    → leaf_faults scope (Not a) path ≡ leaf_faults scope a.value (at_key path (codes "not"))
+leaf-Not scope a path = search (rules, the_lemmas)
+
+leaf-Time :
+    (scope : LeafNames) (unit : List ℕ) (phase : Operand) (duration : ℤ) (path : List ℕ)
+    → leaf_faults scope (Time unit phase duration) path
+    ≡ period_faults scope (at_key (at_key path (codes "time")) (codes "period")) unit
+    ++ operand_faults scope (at_key (at_key path (codes "time")) (codes "phase")) phase
+leaf-Time scope unit phase duration path = search (rules, the_lemmas)
+
+-- the box of a part, as the forms of a condition hold it
+abbrev boxed : Box (Unit {0}) Global → Condition → Box Condition Global
+boxed place part = record { ptr = place.ptr; value = part; alloc = place.alloc }
+
+pub condition_known :
+    (scope : LeafNames) (condition : Condition) (path : List ℕ)
+    → leaf_faults scope condition path ≡ []
+    → knows scope condition ≡ true
+condition_known scope (Compare op a b) path none =
+    let parts = sym (leaf-Compare scope op a b path) ∙ none in
+    both _ _ (operand_known scope _ a (left-none _ _ parts)) (operand_known scope _ b (right-none _ _ parts))
+condition_known scope (And' p a q b) path none =
+    let parts = sym (leaf-And scope (boxed p a) (boxed q b) path) ∙ none in
+    both _ _ (condition_known scope a _ (left-none _ _ parts)) (condition_known scope b _ (right-none _ _ parts))
+condition_known scope (Or' p a q b) path none =
+    let parts = sym (leaf-Or scope (boxed p a) (boxed q b) path) ∙ none in
+    both _ _ (condition_known scope a _ (left-none _ _ parts)) (condition_known scope b _ (right-none _ _ parts))
+condition_known scope (Not' p a) path none = condition_known scope a _ (sym (leaf-Not scope (boxed p a) path) ∙ none)
+condition_known scope (Time unit phase duration) path none =
+    let parts = sym (leaf-Time scope unit phase duration path) ∙ none in
+    both _ _ (not_false _ (test_fails _ _ _ _ (left-none _ _ parts))) (operand_known scope _ phase (right-none _ _ parts))

@@ -1,0 +1,29 @@
+-- The definitions compute, but for the digits of list numbers.
+use Rattle.std.proofs.Common.{ℕ, List, [], ◌∷◌, ◌++◌, ap, ◌∙◌, arith}
+use Rattle.std.specs.Prelude.{codes, decimal}
+use Rattle.std.proofs.lemmas.Fmt.{decimal_digit}
+use Rattle.flame_spec.specs.declared.faults.NameFault.{NameFault}
+use Rattle.flame_spec.specs.declared.faults.NameKind.TheVariants.{Clash, UnknownUnit, LongUnit}
+use Rattle.flame_spec.specs.Refusals.{name_fault}
+use Rattle.flame_spec.proofs.used_laws.cases.Goals as goal
+
+abbrev clash_at : List ℕ → List NameFault
+clash_at zero =
+    name_fault Clash
+    (codes "/xmodel/agents/" ++ (((zero ++ codes "/memory") ++ (codes "/" ++ zero)) ++ codes "/name"))
+    (codes "X")
+    ∷ []
+
+abbrev units_at : List ℕ → List ℕ → List NameFault
+units_at zero two =
+    name_fault UnknownUnit (codes "/xmodel/environment/timeUnits/" ++ (zero ++ codes "/unit")) (codes "hour")
+    ∷ name_fault LongUnit (codes "/xmodel/environment/timeUnits/" ++ (two ++ codes "/period")) (codes "age")
+    ∷ []
+
+pub returns-clause-clash : goal.returns-clause-clash
+returns-clause-clash c = ap clash_at (decimal_digit 0 (omega arith))
+
+pub returns-clause-units : goal.returns-clause-units
+returns-clause-units c =
+    ap (λ zero. units_at zero (decimal 2)) (decimal_digit 0 (omega arith))
+    ∙ ap (units_at (48 ∷ [])) (decimal_digit 2 (omega arith))

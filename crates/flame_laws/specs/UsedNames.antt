@@ -1,0 +1,64 @@
+-- Names that conditions, inputs and outputs use: in models without name faults each is declared. [own]
+use Rattle.std.specs.Prelude.{◌≡◌, ℕ, List, [], Bool, true, false, ◌&&◌, Some, slice_get}
+use Rattle.flame_spec.specs.declared.conditions.Condition.{Condition}
+use Rattle.flame_spec.specs.declared.conditions.Condition.TheVariants.{Compare, And', Or', Not', Time}
+use Rattle.flame_spec.specs.declared.conditions.Operand.{Operand}
+use Rattle.flame_spec.specs.declared.conditions.Operand.TheVariants.{Number, Agent, Message}
+use Rattle.flame_spec.specs.declared.models.Model.{Model}
+use Rattle.flame_spec.specs.declared.models.AgentType.{AgentType}
+use Rattle.flame_spec.specs.declared.models.Function.{Function}
+use Rattle.flame_spec.specs.declared.models.Input.{Input}
+use Rattle.flame_spec.specs.declared.models.Sort.{Sort}
+use Rattle.flame_spec.specs.KnownNames.{is_among, variable_names, DeclaredNames, declared_by}
+use Rattle.flame_spec.specs.Leaves.{LeafNames}
+use Rattle.flame_spec.specs.FunctionFaults.{condition_scope, filter_scope}
+use Rattle.flame_spec.specs.NameFaults.{name_faults}
+
+-- the variable that is compared is one that can be read there
+abbrev pub knows_operand : LeafNames → Operand → Bool
+knows_operand scope (Number number) = true
+knows_operand scope (Agent name) = is_among name scope.memory
+knows_operand scope (Message name) = is_among name scope.message
+
+-- each variable and each unit of the condition is one that can be read there
+abbrev pub knows : LeafNames → Condition → Bool
+knows scope (Compare op a b) = knows_operand scope a && knows_operand scope b
+knows scope (And' _ a _ b) = knows scope a && knows scope b
+knows scope (Or' _ a _ b) = knows scope a && knows scope b
+knows scope (Not' _ a) = knows scope a
+knows scope (Time unit phase duration) = is_among unit scope.units && knows_operand scope phase
+
+-- the message that an input reads is declared, and so are the names in its filter and its sort; no random order is
+-- asked for
+pub record IsInputKnown (declared : DeclaredNames) (memory : List (List ℕ)) (input : Input) : Type 0 where
+  pub message : is_among input.message declared.messages ≡ true
+  pub order : input.random ≡ false
+  pub filter :
+      (condition : Condition)
+      → input.filter ≡ Some condition
+      → knows (filter_scope declared memory input.message) condition ≡ true
+  pub sort : (sort : Sort) → input.sort ≡ Some sort → is_among sort.key (declared.variables input.message) ≡ true
+
+-- the names in a function's condition, in its inputs and in its outputs are declared
+pub record IsFunctionKnown (declared : DeclaredNames) (memory : List (List ℕ)) (function : Function) : Type 0 where
+  pub condition :
+      (condition : Condition)
+      → function.condition ≡ Some condition
+      → knows (condition_scope declared memory) condition ≡ true
+  pub inputs :
+      (k : ℕ) (input : Input)
+      → slice_get function.inputs k ≡ Some input
+      → IsInputKnown declared memory input
+  pub outputs :
+      (k : ℕ) (message : List ℕ)
+      → slice_get function.outputs k ≡ Some message
+      → is_among message declared.messages ≡ true
+
+-- in a model without name faults the names that a function uses are declared
+abbrev pub UsedNamesAreDeclared : Type 0
+UsedNamesAreDeclared =
+    (model : Model) (i j : ℕ) (type : AgentType) (function : Function)
+    → name_faults model ≡ []
+    → slice_get model.agents i ≡ Some type
+    → slice_get type.functions j ≡ Some function
+    → IsFunctionKnown (declared_by model) (variable_names type.memory) function

@@ -1,0 +1,30 @@
+//! Conditions of functions and filters of inputs, as XMML has them.
+
+use flame_ops::integers::Op;
+use flame_rows::{Part, Text};
+
+/// A condition of a function, or a filter of an input.
+#[derive(Debug, Drop)]
+pub enum Condition {
+    /// A comparison by `Eq`, `Ne`, `Lt`, `Gt`, `Le` or `Ge`.
+    Compare(Op, Operand, Operand),
+    /// Both hold.
+    And(Part<Condition>, Part<Condition>),
+    /// One of the two holds, or both.
+    Or(Part<Condition>, Part<Condition>),
+    /// The other does not hold.
+    Not(Part<Condition>),
+    /// A time condition: the name of its unit, the phase, and the duration, 1 to 2147483647. It stands in no filter.
+    Time(Text, Operand, i32),
+}
+
+/// What a condition compares.
+#[derive(Debug, Drop)]
+pub enum Operand {
+    /// A number.
+    Number(i32),
+    /// The agent's memory variable of this name, written `a.name`.
+    Agent(Text),
+    /// The message's variable of this name, written `m.name`.
+    Message(Text),
+}

@@ -1,0 +1,109 @@
+//! Faults of transition functions, of names in models, and of the bodies in function files.
+
+use flame_ops::integers::Cause;
+use flame_rows::Text;
+
+/// Why an agent's run of its function has no outcome.
+#[derive(Clone, Copy, Debug, PartialEq, Eq)]
+pub struct Fault {
+    /// Why the operator, or the function, has no value.
+    pub cause: Cause,
+    /// The line of the operator, or of the loop that lacks fuel, from 1.
+    pub line: u32,
+}
+
+/// A name of a model that cannot stand where it stands.
+#[derive(Debug, Drop)]
+pub struct NameFault {
+    /// What is wrong.
+    pub kind: NameKind,
+    /// Where the fault stands in the model file: the keys and list numbers from the root, each after a `/`.
+    pub path: Text,
+    /// The name as it stands there, with `a.` or `m.` in a condition; of `RandomOrder` the message's, of `LongUnit` the
+    /// unit's.
+    pub name: Text,
+}
+
+/// What is wrong with a name of a model.
+#[derive(Clone, Copy, Debug, PartialEq, Eq)]
+pub enum NameKind {
+    /// An earlier one of its kind has this name; of a unit also `iteration`, of a function one with the same states
+    /// too, of an input or an output one of the same message.
+    Duplicate,
+    /// In capitals, as function files write it, it is equal to an earlier name: a constant's, a message's or a memory
+    /// variable's among its like, or of a memory variable a constant's.
+    Clash,
+    /// No message has this name.
+    UnknownMessage,
+    /// No variable that can be read there has this name.
+    UnknownVariable,
+    /// It is neither `iteration` nor a time unit that is known there.
+    UnknownUnit,
+    /// A function of an earlier agent type has this name.
+    FunctionShared,
+    /// A random order of messages is asked for.
+    RandomOrder,
+    /// The unit is longer than 2147483647 iterations.
+    LongUnit,
+    /// It is an array, and a single variable is wanted.
+    NotSingle,
+    /// With this array the variables before it and it are wider than 4,096 numbers.
+    TooWide,
+}
+
+/// A place of the function files that cannot stand in a function of the model.
+#[derive(Debug, Drop)]
+pub struct CheckFault {
+    /// What is wrong.
+    pub kind: CheckKind,
+    /// The number of the function file among the model's files; 0 for `MissingFunction`.
+    pub file: u32,
+    /// The line of the word, from 1; 0 for `MissingFunction`.
+    pub line: u32,
+    /// The word.
+    pub name: Text,
+}
+
+/// What is wrong with a function file.
+#[derive(Clone, Copy, Debug, PartialEq, Eq)]
+pub enum CheckKind {
+    /// No function file has this function of the model.
+    MissingFunction,
+    /// An earlier function has this name.
+    DefinedTwice,
+    /// Nothing that is visible there has this name.
+    UnknownName,
+    /// Its scope declares it already, or it is a memory variable or a constant in capitals, or `iteration_loop`.
+    Redeclared,
+    /// No form of a call has this word.
+    UnknownCall,
+    /// The call has another number of arguments than it wants: one to set a variable, one for each declared variable of
+    /// a message or an agent, one for each parameter of a helper.
+    WrongCount,
+    /// The function does not output this message.
+    NotOutput,
+    /// The function does not input this message.
+    NotInput,
+    /// No loop over this message is open.
+    OutsideLoop,
+    /// A loop over this message is open already.
+    NestedSame,
+    /// FINISH has another name than START.
+    LoopMismatch,
+    /// No loop is open.
+    StrayBreak,
+    /// It is a constant or `iteration_loop`.
+    ReadOnly,
+    /// It has an index and is no array.
+    NotArray,
+    /// It is an array and has no index.
+    NeedsIndex,
+    /// The argument for an array is no array of its length.
+    WrongLength,
+    /// A C function for a function of the model has parameters.
+    HasParameters,
+    /// The helpers of this cycle call each other.
+    Recursive,
+    /// The helper's calls of helpers are more than 64 levels deep, its own counted.
+    DeepCalls,
+}
