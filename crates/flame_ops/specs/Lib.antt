@@ -1,6 +1,7 @@
 pub mod Integers
+pub mod Words
+pub mod Spellings
+pub mod Ascii
 pub mod Division
 pub mod Overflows
-pub mod Spellings
-pub mod Words
-pub mod Laws
+pub mod SpellingLaws

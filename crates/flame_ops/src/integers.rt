@@ -29,6 +29,8 @@ pub enum Cause {
     DivideByZero,
     /// A further turn of a loop, and no fuel left for it.
     Fuel,
+    /// An index of an array that is below 0 or not below the array's length.
+    BadIndex,
 }
 
 /// One arm of an operator's body: a checked call, a checked call with its divisor, or a comparison.
@@ -56,7 +58,8 @@ macro_rules! answer {
 ///
 /// `DivideByZero` comes exactly where the operator is `/` or `%` and `b` is 0. Else `Overflow` comes exactly where the
 /// value is outside -2147483648 to 2147483647 (which 6.5 leaves open), and for `%` where the quotient is: of
-/// -2147483648 by -1 neither quotient nor remainder is given, as 6.5.5 has it. `Fuel` never comes.
+/// -2147483648 by -1 neither quotient nor remainder is given, as 6.5.5 has it. `Fuel` and
+/// `BadIndex` never come.
 pub fn apply(op: Op, a: i32, b: i32) -> Result<i32, Cause>
     ensures { result ≡ applied op a b }
 {

@@ -2,7 +2,7 @@
 
 ghost use Rattle.flame_ops.specs.Division.{QuotientAndRemainder, RemainderIsLess, RemainderHasSign};
 ghost use Rattle.flame_ops.specs.Overflows.{AnswersAreInts, DivisionOverflows};
-ghost use Rattle.flame_ops.specs.Laws.{LongestIsUnique, NumberIsUnique};
+ghost use Rattle.flame_ops.specs.SpellingLaws.{LongestIsUnique, NumberIsUnique};
 
 /// `(a / b) * b + a % b` is `a`, and the quotient is truncated towards zero (C standard, 6.5.5).
 pub fn truncated_division()

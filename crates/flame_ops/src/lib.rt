@@ -1,4 +1,5 @@
-//! The operators of transition functions on `int`, and the spellings of operators and keywords in their source.
+//! The operators of transition functions on `int`, and the spellings of operators, keywords and directives in their
+//! source.
 #![tactic(auto)]
 
 pub mod integers;
@@ -8,3 +9,7 @@ pub mod table;
 #[cfg(test)]
 mod tests;
 pub mod words;
+
+pub use integers::{Cause, Op, apply, negate};
+pub use table::Table;
+pub use words::{directives, keywords, longest, operators};

@@ -1,8 +1,8 @@
-//! The operators and keywords of the source, and the longest spelling at a place.
+//! The operators, keywords and directives of the source, and the longest spelling at a place.
 
 ghost use Rattle.std.specs.Prelude.{◌≡◌, ◌≤◌, length, drop, IfSome, IfNone};
 ghost use Rattle.flame_ops.specs.Spellings.{IsTable, IsLongest, NoneStands};
-ghost use Rattle.flame_ops.specs.Words.{operator_spellings, keyword_spellings};
+ghost use Rattle.flame_ops.specs.Words.{operator_spellings, keyword_spellings, directive_spellings};
 
 use crate::spelling::Spelling;
 use crate::table::Table;
@@ -12,14 +12,16 @@ macro_rules! table {
     ($($text:literal)*) => { Table::of([$(Spelling::of($text)),*]) };
 }
 
-/// The operators and other marks of the source, 29 spellings (C standard, 6.4.6).
-pub fn operators() -> Table<29>
+/// The operators and other marks of the source, 31 spellings (C standard, 6.4.6).
+pub fn operators() -> Table<31>
     ensures spellings { result ≡ operator_spellings }
     ensures table { IsTable operator_spellings }
 {
+    // ORDER MARKS
     table! {
         b"+" b"-" b"*" b"/" b"%" b"++" b"--" b"+=" b"-=" b"*=" b"/=" b"%=" b"=" b"==" b"!=" b"!"
         b"<" b">" b"<=" b">=" b"&&" b"||" b"(" b")" b"{" b"}" b"," b";" b"->"
+        b"[" b"]"
     }
 }
 
@@ -31,6 +33,14 @@ pub fn keywords() -> Table<10>
     table! {
         b"int" b"void" b"if" b"else" b"while" b"for" b"do" b"return" b"break" b"continue"
     }
+}
+
+/// The directives of the source, 2 spellings (C standard, 6.10.2 and 6.10.3).
+pub fn directives() -> Table<2>
+    ensures spellings { result ≡ directive_spellings }
+    ensures table { IsTable directive_spellings }
+{
+    table! { b"include" b"define" }
 }
 
 /// The number of the longest spelling that stands at the place `at` of the bytes, None exactly where none stands there

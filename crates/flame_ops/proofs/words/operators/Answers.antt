@@ -8,8 +8,8 @@ use Rattle.flame_ops.proofs.words.operators.Goals as goal
 operators_table : IsTable operator_spellings
 operators_table = IsTable-is_table operator_spellings refl
 
-pub of-requires-30 : goal.of-requires-30
-of-requires-30 c = (
+pub of-requires-32 : goal.of-requires-32
+of-requires-32 c = (
   search rules,
   (
     search rules,
@@ -43,6 +43,8 @@ of-requires-30 c = (
       c.of-27.ensures,
       c.of-28.ensures,
       c.of-29.ensures,
+      c.of-30.ensures,
+      c.of-31.ensures,
     ) operators_table,
   ),
 )
