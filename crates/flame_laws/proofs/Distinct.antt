@@ -11,7 +11,8 @@ use Rattle.flame_spec.specs.declared.models.TimeUnit.{TimeUnit}
 use Rattle.flame_spec.specs.declared.models.MessageType.{MessageType}
 use Rattle.flame_spec.specs.declared.models.AgentType.{AgentType}
 use Rattle.flame_spec.specs.Lists.{each, each_from}
-use Rattle.flame_spec.specs.Capitals.{capitals, clashes}
+use Rattle.flame_ops.specs.Ascii.{capitals}
+use Rattle.flame_spec.specs.Capitals.{clashes}
 use Rattle.flame_spec.specs.KnownNames.{is_among, unit_names, message_names, declared_by}
 use Rattle.flame_spec.specs.Paths.{root, at_key, at_number}
 use Rattle.flame_spec.specs.Refusals.{fault_where}

@@ -5,7 +5,7 @@ use Rattle.std.proofs.lemmas.Bool.{not-false}
 use Rattle.flame_spec.specs.declared.models.Model.{Model}
 use Rattle.flame_spec.specs.declared.models.MessageType.{MessageType}
 use Rattle.flame_spec.specs.declared.faults.CheckKind.TheVariants.{NotInput, NestedSame, LoopMismatch, OutsideLoop, UnknownName}
-use Rattle.flame_spec.specs.Capitals.{capitals}
+use Rattle.flame_ops.specs.Ascii.{capitals}
 use Rattle.flame_spec.specs.Trees.{Declared, Statement, declare, loop_over}
 use Rattle.flame_spec.specs.Trees.{Statements, no_more, also}
 use Rattle.flame_spec.specs.Scopes.{Site, Loop, over_message, over_none, Sight, in_scope, in_loop, after_name, after_items, after, after_all}

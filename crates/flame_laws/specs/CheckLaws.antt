@@ -7,7 +7,7 @@ use Rattle.flame_spec.specs.declared.models.AgentType.{AgentType}
 use Rattle.flame_spec.specs.declared.trees.Unit as file
 use Rattle.flame_spec.specs.declared.faults.CheckFault.{CheckFault}
 use Rattle.flame_spec.specs.declared.faults.CheckKind.TheVariants.{MissingFunction}
-use Rattle.flame_spec.specs.Capitals.{capitals}
+use Rattle.flame_ops.specs.Ascii.{capitals}
 use Rattle.flame_spec.specs.Columns.{has_variable}
 use Rattle.flame_spec.specs.Functions.{Place, functions}
 use Rattle.flame_spec.specs.Trees.{name, get, field, Expressions, Declared, Assigned, call, Statements, loop_over, break, continue}

@@ -2,7 +2,7 @@
 use Rattle.std.proofs.Common.{◌≡◌, ℕ, List, [], ◌∷◌, map, refl, sym, ap, ◌∙◌, Bool, true, false, true≢false, not}
 use Rattle.std.specs.Prelude.{◌||◌}
 use Rattle.std.specs.List.{list_any}
-use Rattle.flame_spec.specs.Capitals.{capitals}
+use Rattle.flame_ops.specs.Ascii.{capitals}
 use Rattle.flame_spec.specs.KnownNames.{is_among}
 
 -- a test of what each element gives

@@ -5,7 +5,8 @@ use Rattle.flame_spec.specs.declared.faults.NameFault.{NameFault}
 use Rattle.flame_spec.specs.declared.faults.NameKind.{NameKind}
 use Rattle.flame_spec.specs.declared.faults.NameKind.TheVariants.{Duplicate, Clash}
 use Rattle.flame_spec.specs.Lists.{first}
-use Rattle.flame_spec.specs.Capitals.{capitals, clashes}
+use Rattle.flame_ops.specs.Ascii.{capitals}
+use Rattle.flame_spec.specs.Capitals.{clashes}
 use Rattle.flame_spec.specs.KnownNames.{is_among}
 use Rattle.flame_spec.specs.Refusals.{name_fault, fault_where}
 use Rattle.flame_spec.specs.MessageFaults.{apart_faults}

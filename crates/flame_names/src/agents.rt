@@ -1,7 +1,7 @@
 //! Agent types.
 
 ghost use Rattle.std.specs.Prelude.{◌≡◌, ◌++◌, ◌||◌, [], ◌∷◌, ℕ, List, map, IfOk, IfErr, OnOk};
-ghost use Rattle.flame_spec.specs.Capitals.{capitals};
+ghost use Rattle.flame_ops.specs.Ascii.{capitals};
 ghost use Rattle.flame_spec.specs.KnownNames.{is_among, variable_names};
 ghost use Rattle.flame_spec.specs.NameFaults.{memory_name_faults, memory_faults, function_names, agent_faults, agents_faults};
 ghost use Rattle.flame_names.specs.Places.{text_of};

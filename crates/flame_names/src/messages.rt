@@ -2,7 +2,7 @@
 
 ghost use Rattle.std.specs.Prelude.{◌≡◌, ◌++◌, [], ◌∷◌, ℕ, List, map, IfOk, IfErr, OnOk, None, false, string_bytes};
 ghost use Rattle.std.specs.Option.{option_copied};
-ghost use Rattle.flame_spec.specs.Capitals.{capitals};
+ghost use Rattle.flame_ops.specs.Ascii.{capitals};
 ghost use Rattle.flame_spec.specs.KnownNames.{is_among, variable_names, message_names};
 ghost use Rattle.flame_spec.specs.MessageFaults.{apart_faults, constant_faults, variables_faults, message_faults, messages_faults};
 ghost use Rattle.flame_names.specs.Places.{text_of};

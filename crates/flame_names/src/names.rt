@@ -1,7 +1,7 @@
 //! The names of a model.
 
 ghost use Rattle.std.specs.Prelude.{◌≡◌, [], map, IfOk, IfErr, OnOk};
-ghost use Rattle.flame_spec.specs.Capitals.{capitals};
+ghost use Rattle.flame_ops.specs.Ascii.{capitals};
 ghost use Rattle.flame_spec.specs.KnownNames.{unit_names};
 ghost use Rattle.flame_spec.specs.NameFaults.{environment_faults, model_faults, name_faults};
 ghost use Rattle.flame_names.specs.Places.{text_of};

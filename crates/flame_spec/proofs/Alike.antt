@@ -2,7 +2,8 @@
 use Rattle.std.proofs.Common.{◌≡◌, ℕ, List, [], ◌∷◌, map, refl, ap, Bool, true, false, true≢false, not}
 use Rattle.std.specs.Prelude.{◌||◌, ◌&&◌}
 use Rattle.std.specs.Str.{bytes_eq}
-use Rattle.flame_spec.specs.Capitals.{capitals, clashes}
+use Rattle.flame_ops.specs.Ascii.{capitals}
+use Rattle.flame_spec.specs.Capitals.{clashes}
 use Rattle.flame_spec.specs.KnownNames.{is_among}
 
 alike_step : (same there alike rest more : Bool)

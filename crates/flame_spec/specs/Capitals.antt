@@ -1,11 +1,8 @@
--- Names in capitals, as function files write variables and constants.
+-- Names that are equal in capitals, as function files write variables and constants.
 use Rattle.std.specs.Prelude.{ℕ, List, Bool, not, ◌&&◌}
 use Rattle.std.specs.List.{list_any}
-use Rattle.std.specs.Str.{bytes_eq, str_to_ascii_uppercase}
-
--- the text with its ASCII letters as capitals [FLAME User Manual]
-abbrev pub capitals : List ℕ → List ℕ
-capitals text = str_to_ascii_uppercase text
+use Rattle.std.specs.Str.{bytes_eq}
+use Rattle.flame_ops.specs.Ascii.{capitals}
 
 -- two different names that are equal in capitals [own]
 abbrev pub is_alike : List ℕ → List ℕ → Bool

@@ -6,7 +6,7 @@ use Rattle.flame_spec.specs.declared.models.Model.{Model}
 use Rattle.flame_spec.specs.declared.models.TimeUnit.{TimeUnit}
 use Rattle.flame_spec.specs.declared.models.Variable.{Variable}
 use Rattle.flame_spec.specs.declared.models.MessageType.{MessageType}
-use Rattle.flame_spec.specs.Capitals.{capitals}
+use Rattle.flame_ops.specs.Ascii.{capitals}
 
 -- it is one of these names [own]
 abbrev pub is_among : List ℕ → List (List ℕ) → Bool

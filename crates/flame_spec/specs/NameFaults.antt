@@ -8,7 +8,8 @@ use Rattle.flame_spec.specs.declared.models.AgentType.{AgentType}
 use Rattle.flame_spec.specs.declared.models.Function.{Function}
 use Rattle.flame_spec.specs.Lists.{each}
 use Rattle.flame_spec.specs.KnownNames.{is_among, variable_names, DeclaredNames, declared_by}
-use Rattle.flame_spec.specs.Capitals.{capitals, clashes}
+use Rattle.flame_ops.specs.Ascii.{capitals}
+use Rattle.flame_spec.specs.Capitals.{clashes}
 use Rattle.flame_spec.specs.Paths.{root, at_key, at_number}
 use Rattle.flame_spec.specs.Refusals.{fault_where}
 use Rattle.flame_spec.specs.UnitFaults.{units_faults}

@@ -1,17 +1,9 @@
 -- Names of models, variables and functions.
 use Rattle.std.specs.Prelude.{ℕ, List, length, slice_index, nat_eq, codes, Bool, not, ◌==◌, ◌&&◌, ◌||◌, nat_le, nat_lt}
 use Rattle.std.specs.List.{list_all, list_any, starts_with}
-use Rattle.std.specs.Char.{is_ascii_digit}
 use Rattle.std.specs.Str.{bytes_eq}
+use Rattle.flame_ops.specs.Ascii.{begins_word, is_word_byte}
 use Rattle.flame_ops.specs.Words.{keyword_spellings}
-
--- an ASCII letter or `_` [C, 6.4.2.1]
-abbrev pub is_letter : ℕ → Bool
-is_letter b = (nat_le 65 b && nat_le b 90) || (nat_le 97 b && nat_le b 122) || (b == 95)
-
--- an ASCII letter, a digit or `_` [C, 6.4.2.1]
-abbrev pub is_word_byte : ℕ → Bool
-is_word_byte b = is_letter b || is_ascii_digit b
 
 -- at least one byte [own]
 abbrev pub is_filled : List ℕ → Bool
@@ -22,7 +14,7 @@ abbrev pub is_name : List ℕ → Bool
 is_name text =
     is_filled text
     && nat_le (length text) 100
-    && is_letter (slice_index text 0)
+    && begins_word (slice_index text 0)
     && list_all is_word_byte text
 
 -- a word that C or the message macros have for themselves [C, 6.4.1; FLAME User Manual]

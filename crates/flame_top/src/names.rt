@@ -4,7 +4,8 @@ ghost use Rattle.std.specs.Prelude.{◌≡◌};
 ghost use Rattle.std.specs.List.{list_all, list_any};
 ghost use Rattle.std.specs.Str.{bytes_eq};
 ghost use Rattle.flame_ops.specs.Words.{keyword_spellings};
-ghost use Rattle.flame_spec.specs.Names.{is_letter, is_word_byte, is_filled, is_name, is_reserved, is_function_name};
+ghost use Rattle.flame_spec.specs.Names.{is_filled, is_name, is_reserved, is_function_name};
+ghost use Rattle.flame_ops.specs.Ascii.{begins_word, is_word_byte};
 
 use flame_ops::words::keywords;
 
@@ -20,7 +21,7 @@ pub(crate) fn is_name(text: &str) -> bool
     ensures { result ≡ is_name text.now }
 {
     let bytes = text.as_bytes();
-    bytes.len() > 0 && bytes.len() <= 100 && is_letter(bytes[0]) && has_word_bytes(bytes)
+    bytes.len() > 0 && bytes.len() <= 100 && begins_word(bytes[0]) && has_word_bytes(bytes)
 }
 
 /// Whether the text is a name that a transition function with a body may have: it is neither `idle` nor a word that C
@@ -31,8 +32,8 @@ pub(crate) fn is_function_name(text: &str) -> bool
     is_name(text) && text != "idle" && !is_reserved(text.as_bytes())
 }
 
-fn is_letter(b: u8) -> bool
-    ensures { result ≡ is_letter b }
+fn begins_word(b: u8) -> bool
+    ensures { result ≡ begins_word b }
 {
     b.is_ascii_alphabetic() || b == b'_'
 }
@@ -41,7 +42,7 @@ fn is_letter(b: u8) -> bool
 pub(crate) fn is_word_byte(b: u8) -> bool
     ensures { result ≡ is_word_byte b }
 {
-    is_letter(b) || b.is_ascii_digit()
+    begins_word(b) || b.is_ascii_digit()
 }
 
 fn has_word_bytes(bytes: &[u8]) -> bool

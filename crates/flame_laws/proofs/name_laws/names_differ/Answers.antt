@@ -1,5 +1,5 @@
 use Rattle.std.proofs.Common.{map}
-use Rattle.flame_spec.specs.Capitals.{capitals}
+use Rattle.flame_ops.specs.Ascii.{capitals}
 use Rattle.flame_spec.specs.KnownNames.{unit_names, message_names}
 use Rattle.flame_spec.specs.NameFaults.{type_names}
 use Rattle.flame_spec.proofs.Distinct.{distinct, constants_differ, units_differ, messages_differ, types_differ}

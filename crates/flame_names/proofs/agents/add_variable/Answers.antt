@@ -2,7 +2,7 @@ use Rattle.std.proofs.Common.{◌≡◌, ◌∙◌, sym, ap}
 use Rattle.std.proofs.lemmas.Result.{IfErr-weaker, on_ok_weaker}
 use Rattle.flame_spec.specs.declared.faults.NameKind.TheVariants.{Clash}
 use Rattle.flame_spec.specs.KnownNames.{is_among}
-use Rattle.flame_spec.specs.Capitals.{capitals}
+use Rattle.flame_ops.specs.Ascii.{capitals}
 use Rattle.flame_spec.specs.Refusals.{fault_where}
 use Rattle.flame_names.specs.Places.{text_of}
 use Rattle.flame_names.proofs.Among.{was_there, was_new, looked_up}

@@ -1,6 +1,6 @@
 use Rattle.std.proofs.Common.{◌≡◌, take, drop, map}
 use Rattle.flame_spec.specs.Lists.{each_from}
-use Rattle.flame_spec.specs.Capitals.{capitals}
+use Rattle.flame_ops.specs.Ascii.{capitals}
 use Rattle.flame_spec.specs.KnownNames.{message_names}
 use Rattle.flame_spec.specs.Paths.{at_number}
 use Rattle.flame_spec.specs.MessageFaults.{message_faults, messages_faults}
