@@ -12,8 +12,8 @@ use Rattle.flame_spec.specs.Functions.{Place}
 use Rattle.flame_spec.specs.KnownNames.{is_among}
 use Rattle.flame_spec.specs.LookUps.{Given, in_memory, memory_got, memory_set, message_sent, agent_born}
 use Rattle.flame_spec.specs.Trees.{Expression, name, field, get, Expressions, no_parts, part}
-use Rattle.flame_spec.specs.Scopes.{Site, Sight, memory_at, given_at}
-use Rattle.flame_spec.specs.ExpressionFaults.{fault_where, name_faults, getter_faults, row_faults, member_read}
+use Rattle.flame_spec.specs.Scopes.{Context, Sight, memory_at, given_at}
+use Rattle.flame_spec.specs.ExpressionFaults.{fault_where, unknown_faults, getter_faults, row_faults, member_read}
 use Rattle.flame_spec.specs.ExpressionFaults.{expression_faults, parts_faults}
 
 -- what a call statement does: it sets a memory variable, by its column; sends a message or bears an agent, by the number
@@ -36,30 +36,30 @@ added_in None deed = None
 added_in (Some place) deed = Some deed
 
 -- what a word of none of the forms before does: it bears an agent, or calls a helper [FLAME User Manual; own]
-abbrev pub born_or_called : Site → Option (ℕ × AgentType) → List ℕ → Option Deed
-born_or_called site (Some found) word = added_in site.runs (bears found.0 found.1)
-born_or_called site None word = called_by (helper_named site.helpers word)
+abbrev pub born_or_called : Context → Option (ℕ × AgentType) → List ℕ → Option Deed
+born_or_called context (Some found) word = added_in context.runs (bears found.0 found.1)
+born_or_called context None word = called_by (helper_named context.helpers word)
 
 -- what a word that sets no variable does [FLAME User Manual; own]
-abbrev pub sent_or_else : Site → Option (ℕ × MessageType) → List ℕ → Option Deed
-sent_or_else site (Some found) word = added_in site.runs (sends found.0 found.1)
-sent_or_else site None word = born_or_called site (agent_born site.model.agents word) word
+abbrev pub sent_or_else : Context → Option (ℕ × MessageType) → List ℕ → Option Deed
+sent_or_else context (Some found) word = added_in context.runs (sends found.0 found.1)
+sent_or_else context None word = born_or_called context (agent_born context.model.agents word) word
 
 -- what a word does, where this variable was found that it sets, or none [FLAME User Manual; own]
-abbrev pub set_or_else : Site → Option (ℕ × Variable) → List ℕ → Option Deed
-set_or_else site (Some found) word = Some (sets found.0 found.1)
-set_or_else site None word = sent_or_else site (message_sent site.model.messages word) word
+abbrev pub set_or_else : Context → Option (ℕ × Variable) → List ℕ → Option Deed
+set_or_else context (Some found) word = Some (sets found.0 found.1)
+set_or_else context None word = sent_or_else context (message_sent context.model.messages word) word
 
 -- what a call statement of the word does; the three forms of the model come before helpers, and a word that adds is one
 -- of them in a helper too, which may not add [FLAME User Manual; own]
-abbrev pub deed_of : Site → List ℕ → Option Deed
-deed_of site word = set_or_else site (memory_set (memory_at site) word) word
+abbrev pub deed_of : Context → List ℕ → Option Deed
+deed_of context word = set_or_else context (memory_set (memory_at context) word) word
 
 -- ---- arguments
 
--- the variables whose values the arguments are, one each, where the call adds something [FLAME User Manual]
+-- the variables whose values the arguments are, one each, where it sets or adds something [FLAME User Manual]
 abbrev pub places_of : Deed → List Variable
-places_of (sets column variable) = []
+places_of (sets column variable) = variable ∷ []
 places_of (sends number message) = message.variables
 places_of (bears number type) = type.memory
 places_of (calls number helper) = []
@@ -88,10 +88,10 @@ length_given (Some (in_memory column variable)) = variable.length
 length_given _ = None
 
 -- the length of the array that an argument is: an array of the memory in capitals, or one of a message's row [own]
-abbrev pub length_of_argument : Site → Expression → Option ℕ
-length_of_argument site (name line word) = length_given (given_at site word)
-length_of_argument site (field line word variable) = length_found (member_read site word variable)
-length_of_argument site _ = None
+abbrev pub length_of_argument : Context → Expression → Option ℕ
+length_of_argument context (name line word) = length_given (given_at context word)
+length_of_argument context (field line word variable) = length_found (member_read context word variable)
+length_of_argument context _ = None
 
 -- it is that length [own]
 abbrev pub is_length : ℕ → Option ℕ → Bool
@@ -99,27 +99,27 @@ is_length length None = false
 is_length length (Some other) = other == length
 
 -- the faults of an argument's form, where an array may stand without an index [own]
-abbrev pub whole_faults : Site → Sight → Expression → List CheckFault
-whole_faults site sight (name line word) = name_faults site sight line word
-whole_faults site sight (field line word variable) = row_faults site sight line word variable
-whole_faults site sight (get line word) = getter_faults site (memory_got (memory_at site) word) line word
-whole_faults site sight e = expression_faults site sight e
+abbrev pub whole_faults : Context → Sight → Expression → List CheckFault
+whole_faults context sight (name line word) = unknown_faults context sight line word
+whole_faults context sight (field line word variable) = row_faults context sight line word variable
+whole_faults context sight (get line word) = getter_faults context (memory_got (memory_at context) word) line word
+whole_faults context sight e = expression_faults context sight e
 
 -- an argument of the call of this word, for a single variable or for an array of this length [own]
-abbrev pub argument_faults : Site → Sight → ℕ → List ℕ → Option ℕ → Expression → List CheckFault
-argument_faults site sight line word None e = expression_faults site sight e
-argument_faults site sight line word (Some length) e =
-    whole_faults site sight e
-    ++ fault_where (not (is_length length (length_of_argument site e))) site WrongLength line word
+abbrev pub argument_faults : Context → Sight → ℕ → List ℕ → Option ℕ → Expression → List CheckFault
+argument_faults context sight line word None e = expression_faults context sight e
+argument_faults context sight line word (Some length) e =
+    whole_faults context sight e
+    ++ fault_where (not (is_length length (length_of_argument context e))) context WrongLength line word
 
 -- the arguments of the call of this word, from left to right, each for its variable; those beyond the variables are
 -- values [own]
-abbrev pub arguments_faults : Site → Sight → ℕ → List ℕ → List Variable → Expressions → List CheckFault
-arguments_faults site sight line word variables no_parts = []
-arguments_faults site sight line word [] (part e parts) = parts_faults site sight (part e parts)
-arguments_faults site sight line word (variable ∷ variables) (part e parts) =
-    argument_faults site sight line word variable.length e
-    ++ arguments_faults site sight line word variables parts
+abbrev pub arguments_faults : Context → Sight → ℕ → List ℕ → List Variable → Expressions → List CheckFault
+arguments_faults context sight line word variables no_parts = []
+arguments_faults context sight line word [] (part e parts) = parts_faults context sight (part e parts)
+arguments_faults context sight line word (variable ∷ variables) (part e parts) =
+    argument_faults context sight line word variable.length e
+    ++ arguments_faults context sight line word variables parts
 
 -- ---- calls
 
@@ -134,25 +134,25 @@ is_no_output None message = true
 is_no_output (Some place) message = not (is_among message.name place.function.outputs)
 
 -- it sends a message that is no output of the function [XMML]
-abbrev pub sends_no_output : Site → Deed → Bool
-sends_no_output site (sends number message) = is_no_output site.runs message
-sends_no_output site _ = false
+abbrev pub sends_no_output : Context → Deed → Bool
+sends_no_output context (sends number message) = is_no_output context.runs message
+sends_no_output context _ = false
 
 -- a call statement of this word that does this, or nothing: the call itself, then its arguments [own]
-abbrev pub deed_faults : Site → Sight → Option Deed → ℕ → List ℕ → Expressions → List CheckFault
-deed_faults site sight None line word arguments =
-    fault_where true site UnknownCall line word ++ parts_faults site sight arguments
-deed_faults site sight (Some deed) line word arguments =
-    fault_where (sets_array deed) site NeedsIndex line word
-    ++ fault_where (not (count arguments == wanted deed)) site WrongCount line word
-    ++ fault_where (sends_no_output site deed) site NotOutput line word
-    ++ arguments_faults site sight line word (places_of deed) arguments
+abbrev pub deed_faults : Context → Sight → Option Deed → ℕ → List ℕ → Expressions → List CheckFault
+deed_faults context sight None line word arguments =
+    fault_where true context UnknownCall line word ++ parts_faults context sight arguments
+deed_faults context sight (Some deed) line word arguments =
+    fault_where (sets_array deed) context NeedsIndex line word
+    ++ fault_where (not (count arguments == wanted deed)) context WrongCount line word
+    ++ fault_where (sends_no_output context deed) context NotOutput line word
+    ++ arguments_faults context sight line word (places_of deed) arguments
 
 -- a call statement [own]
-abbrev pub call_faults : Site → Sight → ℕ → List ℕ → Expressions → List CheckFault
-call_faults site sight line word arguments = deed_faults site sight (deed_of site word) line word arguments
+abbrev pub call_faults : Context → Sight → ℕ → List ℕ → Expressions → List CheckFault
+call_faults context sight line word arguments = deed_faults context sight (deed_of context word) line word arguments
 
 -- a call as a value, which names a helper [own]
-abbrev pub called_faults : Site → Sight → ℕ → List ℕ → Expressions → List CheckFault
-called_faults site sight line word arguments =
-    deed_faults site sight (called_by (helper_named site.helpers word)) line word arguments
+abbrev pub called_faults : Context → Sight → ℕ → List ℕ → Expressions → List CheckFault
+called_faults context sight line word arguments =
+    deed_faults context sight (called_by (helper_named context.helpers word)) line word arguments

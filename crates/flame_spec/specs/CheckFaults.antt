@@ -9,8 +9,8 @@ use Rattle.flame_spec.specs.declared.faults.CheckKind.TheVariants.{DefinedTwice,
 use Rattle.flame_spec.specs.Definitions.{Definition, definitions, is_idle, is_for, has_none, is_helper, helpers_among}
 use Rattle.flame_spec.specs.KnownNames.{is_among}
 use Rattle.flame_spec.specs.Functions.{Place, functions}
-use Rattle.flame_spec.specs.HelperFaults.{helper_site, recursive_faults, deep_faults}
-use Rattle.flame_spec.specs.Scopes.{Site, at_entry, after_parameters}
+use Rattle.flame_spec.specs.HelperFaults.{helper_context, recursive_faults, deep_faults}
+use Rattle.flame_spec.specs.Scopes.{Context, at_entry, after_parameters}
 use Rattle.flame_spec.specs.StatementFaults.{parameters_faults, statements_faults}
 
 -- ---- functions that are defined twice
@@ -32,14 +32,14 @@ abbrev pub is_run_by : Definition → Place → Bool
 is_run_by d place = not (is_idle place.function) && is_for place.function d
 
 -- the C function, where it has parameters and is one for a function of the model [FLAME User Manual]
-abbrev pub parameters_where : Bool → Definition → List CheckFault
-parameters_where true d = record { kind = HasParameters; file = d.file; line = d.line; name = d.name } ∷ []
-parameters_where false d = []
+abbrev pub with_parameters_where : Bool → Definition → List CheckFault
+with_parameters_where true d = record { kind = HasParameters; file = d.file; line = d.line; name = d.name } ∷ []
+with_parameters_where false d = []
 
 -- a C function for a function of the model that has parameters [FLAME User Manual]
-abbrev pub having_faults : Model → Definition → List CheckFault
-having_faults model d =
-    parameters_where (not (has_none d.parameters) && list_any (is_run_by d) (functions model)) d
+abbrev pub with_parameters_faults : Model → Definition → List CheckFault
+with_parameters_faults model d =
+    with_parameters_where (not (has_none d.parameters) && list_any (is_run_by d) (functions model)) d
 
 -- ---- functions that are missing
 
@@ -56,37 +56,38 @@ missing_faults ds place =
 -- ---- bodies
 
 -- where a C function is checked for a function of the model [own]
-abbrev pub site : Model → List Definition → Definition → Place → Site
-site model hs d place = record { model = model; helpers = hs; runs = Some place; file = d.file }
+abbrev pub context : Model → List Definition → Definition → Place → Context
+context model hs d place = record { model = model; helpers = hs; runs = Some place; file = d.file }
 
 -- the parameters and the body of a C function, where it is checked there; parameters stand in the scope of the body's
 -- block [C, 6.9.1]
-abbrev pub definition_faults : Site → Definition → List CheckFault
-definition_faults site d =
-    parameters_faults site at_entry d.parameters
-    ++ statements_faults site (after_parameters at_entry d.parameters) d.body
+abbrev pub definition_faults : Context → Definition → List CheckFault
+definition_faults context d =
+    parameters_faults context at_entry d.parameters
+    ++ statements_faults context (after_parameters at_entry d.parameters) d.body
 
 -- a C function, where it is one for this function of the model, which is not `idle` [own]
 abbrev pub body_faults : Model → List Definition → Definition → Place → List CheckFault
-body_faults model hs d place = if is_run_by d place then definition_faults (site model hs d place) d else []
+body_faults model hs d place = if is_run_by d place then definition_faults (context model hs d place) d else []
 
--- a C function: a helper once; another one for each function of the model that it is one for, in document order; `idle`,
--- and a C function without parameters that the model does not name, are passed over [own]
+-- a C function: a helper once; another one for each function of the model that it is one for, in document order. The
+-- body for a function `idle` of the model, and a C function without parameters that the model does not name, are passed
+-- over [own]
 abbrev pub bodies_faults : Model → List Definition → Definition → List CheckFault
 bodies_faults model hs d =
     if is_helper model d
-    then definition_faults (helper_site model hs d) d
+    then definition_faults (helper_context model hs d) d
     else flat_map (body_faults model hs d) (functions model)
 
 -- ---- the whole list
 
 -- the faults of these C functions, of which these are helpers: functions that are defined twice, those for functions of
--- the model that have parameters, functions of the model that are missing, helpers that call each other, helpers whose
--- calls are too deep, and the faults in bodies [own]
+-- the model that have parameters, functions of the model that are missing, a cycle of calls of helpers, calls of helpers
+-- that are too deep, and the faults in bodies [own]
 abbrev pub faults_with : Model → List Definition → List Definition → List CheckFault
 faults_with model hs ds =
     twice_faults [] ds
-    ++ flat_map (having_faults model) ds
+    ++ flat_map (with_parameters_faults model) ds
     ++ flat_map (missing_faults ds) (functions model)
     ++ recursive_faults model hs
     ++ deep_faults model hs

@@ -15,7 +15,7 @@ use Rattle.flame_spec.specs.Trees.{Declared, Statement, declare, Statements, no_
 
 -- where a body is checked: the model and its helpers, the function of the model that it is checked for, which a helper
 -- has none of, and the number of the file that the body stands in [own]
-pub record Site : Type 0 where
+pub record Context : Type 0 where
   pub model : Model
   pub helpers : List Definition
   pub runs : Option Place
@@ -27,21 +27,21 @@ memory_in None = []
 memory_in (Some place) = place.type.memory
 
 -- the memory variables that the body sees: those of the function's type; a helper sees none [FLAME User Manual; own]
-abbrev pub memory_at : Site → List Variable
-memory_at site = memory_in site.runs
+abbrev pub memory_at : Context → List Variable
+memory_at context = memory_in context.runs
 
--- the messages that the function of this place may read [FLAME User Manual]
+-- the messages that the function of this place knows: all of the model [FLAME User Manual]
 abbrev pub messages_in : Option Place → Model → List MessageType
 messages_in None model = []
 messages_in (Some place) model = model.messages
 
--- the messages that the body may read; a helper reads none [FLAME User Manual; own]
-abbrev pub messages_at : Site → List MessageType
-messages_at site = messages_in site.runs site.model
+-- the messages that the body knows; a helper knows none [FLAME User Manual; own]
+abbrev pub messages_at : Context → List MessageType
+messages_at context = messages_in context.runs context.model
 
--- what the model gives to the word there, beside locals [FLAME User Manual]
-abbrev pub given_at : Site → List ℕ → Option Given
-given_at site word = given (memory_at site) site.model.constants word
+-- what the model gives to the word there; locals are another matter [FLAME User Manual]
+abbrev pub given_at : Context → List ℕ → Option Given
+given_at context word = given (memory_at context) context.model.constants word
 
 -- a loop: over the message of this name, or over none [FLAME User Manual]
 pub data Loop : Type 0 where
@@ -114,9 +114,9 @@ is_name_of (Some name) word = bytes_eq name word
 
 -- the word stands for something there: the model gives it a meaning, or it is a local; in its own value an item's name
 -- stands for nothing, not even for a local of that name in a scope round it [C, 6.2.1; an item in its own value: own]
-abbrev pub is_visible : Site → Sight → List ℕ → Bool
-is_visible site sight word =
-    not (is_name_of sight.own word) && (is_some (given_at site word) || is_local sight word)
+abbrev pub is_visible : Context → Sight → List ℕ → Bool
+is_visible context sight word =
+    not (is_name_of sight.own word) && (is_some (given_at context word) || is_local sight word)
 
 -- ---- loops
 

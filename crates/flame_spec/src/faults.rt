@@ -8,7 +8,7 @@ use flame_rows::Text;
 pub struct Fault {
     /// Why the operator, or the function, has no value.
     pub cause: Cause,
-    /// The line of the operator, or of the loop that lacks fuel, from 1.
+    /// The line from 1: of the operator, of the `[`, or of the loop or the call that lacks fuel.
     pub line: u32,
 }
 
@@ -58,9 +58,10 @@ pub struct CheckFault {
     pub kind: CheckKind,
     /// The number of the function file among the model's files; 0 for `MissingFunction`.
     pub file: u32,
-    /// The line of the word, from 1; 0 for `MissingFunction`.
+    /// The line of the word, from 1. Of `DefinedTwice`, `HasParameters`, `Recursive`, `DeepCalls` and a parameter that is
+    /// `Redeclared` it is that of `int`, of the variable in `word->variable` that of the word; of `MissingFunction` it is 0.
     pub line: u32,
-    /// The word.
+    /// The word; of `Recursive` the names of the cycle, as `a -> b -> a`.
     pub name: Text,
 }
 
@@ -73,9 +74,10 @@ pub enum CheckKind {
     DefinedTwice,
     /// Nothing that is visible there has this name.
     UnknownName,
-    /// Its scope declares it already, or it is a memory variable or a constant in capitals, or `iteration_loop`.
+    /// Its scope declares it already, or it is `iteration_loop` or, in capitals, a constant or a memory variable that the
+    /// function has.
     Redeclared,
-    /// No form of a call has this word.
+    /// The word can do nothing there: it has no form of a call that may stand there, and names no helper.
     UnknownCall,
     /// The call has another number of arguments than it wants: one to set a variable, one for each declared variable of
     /// a message or an agent, one for each parameter of a helper.
@@ -98,11 +100,11 @@ pub enum CheckKind {
     NotArray,
     /// It is an array and has no index.
     NeedsIndex,
-    /// The argument for an array is no array of its length.
+    /// The argument for an array does not name an array of its length. The fault stands at the word of the call.
     WrongLength,
     /// A C function for a function of the model has parameters.
     HasParameters,
-    /// The helpers of this cycle call each other.
+    /// Calls of helpers go in a cycle.
     Recursive,
     /// The helper's calls of helpers are more than 64 levels deep, its own counted.
     DeepCalls,

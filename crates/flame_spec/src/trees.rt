@@ -1,5 +1,5 @@
-//! The trees of function files, as the grammar of transition functions has them. Names stand as they are written, and
-//! lines count from 1. Brackets leave no trace.
+//! The trees of function files: transition functions and helpers, as their grammar has them. Names stand as they are
+//! written, and lines count from 1. Brackets leave no trace.
 
 use flame_ops::integers::Op;
 use flame_rows::{Part, Seq, Text};
