@@ -1,14 +1,20 @@
--- Comments and include lines at the front of some bytes.
+-- Comments and directives at the front of some bytes.
 use Rattle.std.proofs.Common.{◌≡◌, ℕ, ◌-◌, ◌<◌, ◌≤◌, true, false, Bool, List, [], ◌∷◌, ◌++◌, take, drop, length, refl}
-use Rattle.std.proofs.Common.{sym, ap, ◌∙◌, arith, subst, cond, Some, None}
+use Rattle.std.proofs.Common.{sym, ap, ◌∙◌, arith, subst, cond, Some}
 use Rattle.std.specs.List.{take_while, prefix_len}
-use Rattle.std.specs.Prelude.{codes}
-use Rattle.std.proofs.lemmas.Bool.{and_parts}
+use Rattle.std.specs.Prelude.{codes, slice_get}
 use Rattle.std.proofs.lemmas.List.{take-append-drop, drop_at, length-append, length-take, length-drop}
 use Rattle.std.proofs.lemmas.List.Folds.{length-prefix_len}
-use Rattle.flame_lex.specs.Bytes.{begins, first_is}
-use Rattle.flame_lex.specs.Pieces.{comment, line_comment, include_line, after_close, begins_include, stays_on_line}
-use Rattle.flame_lex.specs.Steps.{IsPiece}
+use Rattle.std.proofs.lemmas.Bool.Decides.{nat_tests}
+use Rattle.std.proofs.lemmas.Option.{slice_get_within}
+use Rattle.flame_ops.specs.Ascii.{is_word_byte}
+use Rattle.flame_ops.specs.Words.{directive_spellings}
+use Rattle.flame_lex.specs.declared.define.Define.{Define}
+use Rattle.flame_lex.specs.declared.found.Found.TheVariants.{Gap, Defined}
+use Rattle.flame_lex.specs.ByteRuns.{is_hash, begins, first_is, stays_on_line}
+use Rattle.flame_lex.specs.DefineLines.{after_close, Defines}
+use Rattle.flame_lex.specs.LexPieces.{Here, comment, line_comment, include_line, define_line, include, define, IsDirective}
+use Rattle.flame_lex.specs.LexSteps.{IsPiece}
 use Rattle.flame_lex.proofs.Prefixes.{begins_parts}
 use Rattle.flame_lex.proofs.Runs.{run_front}
 
@@ -41,9 +47,9 @@ behind_text bytes text rest e =
     let n : length bytes - length rest ≡ length text = omega (arith, length-append text rest) in
     ap (λ k. drop k bytes) n ∙ ap (drop (length text)) e ∙ drop_at text rest (length text) refl
 
-pub comment_piece : (line_begins : Bool) (bytes rest : List ℕ) → begins bytes (codes "/*") ≡ true
-    → after_close (drop 2 bytes) ≡ Some rest → IsPiece line_begins bytes None (length bytes - length rest)
-comment_piece line_begins bytes rest h close =
+pub comment_piece : (site : Here) (bytes rest : List ℕ) → begins bytes (codes "/*") ≡ true
+    → after_close (drop 2 bytes) ≡ Some rest → IsPiece site bytes Gap (length bytes - length rest)
+comment_piece site bytes rest h close =
     let inside = close_text (drop 2 bytes) rest close in
     let parts = begins_parts bytes (codes "/*") h ∙ ap (λ l. codes "/*" ++ l) inside.1 in
     let size = ap length parts in
@@ -52,7 +58,7 @@ comment_piece line_begins bytes rest h close =
     let behind = behind_text bytes (codes "/*" ++ inside.0) rest parts in
     record {
       form = comment;
-      is_kind = refl;
+      says = refl;
       more = omega (arith, length-append inside.0 rest);
       within = omega arith;
       stands = (
@@ -62,20 +68,20 @@ comment_piece line_begins bytes rest h close =
       );
     }
 
-line_count-within : (bytes : List ℕ) → line_count bytes ≤ length bytes
+pub line_count-within : (bytes : List ℕ) → line_count bytes ≤ length bytes
 line_count-within bytes = omega (arith, length-take (prefix_len stays_on_line bytes) bytes)
 
-line_count-more : (bytes : List ℕ) → first_is stays_on_line bytes ≡ true → 0 < line_count bytes
+pub line_count-more : (bytes : List ℕ) → first_is stays_on_line bytes ≡ true → 0 < line_count bytes
 line_count-more [] h = cc
 line_count-more (b ∷ bytes) h = rw (length-prefix_len stays_on_line (b ∷ bytes)) (rw h (omega arith))
 
-pub line_comment_piece : (line_begins : Bool) (bytes : List ℕ) → begins bytes (codes "//") ≡ true
-    → IsPiece line_begins bytes None (line_count bytes)
-line_comment_piece line_begins bytes h =
+pub line_comment_piece : (site : Here) (bytes : List ℕ) → begins bytes (codes "//") ≡ true
+    → IsPiece site bytes Gap (line_count bytes)
+line_comment_piece site bytes h =
     let parts = begins_parts bytes (codes "//") h in
     record {
       form = line_comment;
-      is_kind = refl;
+      says = refl;
       more = line_count-more bytes (ap (first_is stays_on_line) parts);
       within = line_count-within bytes;
       stands = (
@@ -84,18 +90,53 @@ line_comment_piece line_begins bytes h =
       );
     }
 
-pub include_piece : (line_begins : Bool) (bytes : List ℕ) → line_begins ≡ true → begins_include bytes ≡ true
-    → IsPiece line_begins bytes None (line_count bytes)
-include_piece line_begins bytes b h =
-    let parts = begins_parts bytes (codes "#include") (and_parts _ _ h).0 in
+hash_stays : (b : ℕ) → is_hash b ≡ true → stays_on_line b ≡ true
+hash_stays b h = grind (arith, nat_tests)
+
+line_filled : (bytes : List ℕ) → first_is is_hash bytes ≡ true → 0 < line_count bytes
+line_filled [] h = cc
+line_filled (b ∷ bytes) h = line_count-more (b ∷ bytes) (hash_stays b h)
+
+pub include_piece : (site : Here) (bytes : List ℕ) → IsDirective site include bytes
+    → IsPiece site bytes Gap (line_count bytes)
+include_piece site bytes directive =
+    let whole = sym (take-append-drop (line_count bytes) bytes) in
     record {
       form = include_line;
-      is_kind = refl;
-      more = line_count-more bytes (ap (first_is stays_on_line) parts);
+      says = refl;
+      more = line_filled bytes directive.hash;
       within = line_count-within bytes;
-      stands = (
-        b,
-        subst (λ l. begins_include l ≡ true) (sym (take-append-drop (line_count bytes) bytes)) h,
-        run_front stays_on_line bytes,
-      );
+      stands = (subst (λ l. IsDirective site include l) whole directive, run_front stays_on_line bytes);
     }
+
+pub define_piece : (site : Here) (bytes : List ℕ) (said : Define) → IsDirective site define bytes
+    → Defines site.known (take (line_count bytes) bytes) said
+    → IsPiece site bytes (Defined said) (line_count bytes)
+define_piece site bytes said directive defines =
+    let whole = sym (take-append-drop (line_count bytes) bytes) in
+    record {
+      form = define_line said;
+      says = refl;
+      more = line_filled bytes directive.hash;
+      within = line_count-within bytes;
+      stands = (subst (λ l. IsDirective site define l) whole directive, run_front stays_on_line bytes, defines);
+    }
+
+-- a directive's word is what has been counted
+pub directive_at : (site : Here) (number count : ℕ) (bytes : List ℕ) → site.line_begins ≡ true
+    → first_is is_hash bytes ≡ true
+    → slice_get directive_spellings number ≡ Some (take count (drop 1 bytes))
+    → count ≡ length (take_while is_word_byte (drop 1 bytes))
+    → IsDirective site number bytes
+directive_at site number count bytes b h found e = record {
+  line_begins = b;
+  hash = h;
+  spelled = found ∙ ap (λ n. Some (take n (drop 1 bytes))) (e ∙ length-prefix_len is_word_byte (drop 1 bytes));
+}
+
+-- a directive that is not the first is the second
+pub second : (number : ℕ) (word : List ℕ) → slice_get directive_spellings number ≡ Some word → ¬ (number ≡ include)
+    → number ≡ define
+second number word found other =
+    let within = slice_get_within directive_spellings number word found in
+    omega (arith, within, other)

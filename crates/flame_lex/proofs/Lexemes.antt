@@ -7,16 +7,18 @@ use Rattle.std.specs.Prelude.{ℤ}
 use Rattle.std.proofs.lemmas.Bool.{or_left, or_right}
 use Rattle.std.proofs.lemmas.List.{take-append-drop, length-take}
 use Rattle.std.proofs.lemmas.List.Folds.{length-prefix_len}
+use Rattle.flame_ops.specs.Ascii.{begins_word, is_word_byte}
 use Rattle.flame_lex.specs.declared.token.Kind.{Kind}
 use Rattle.flame_lex.specs.declared.token.Kind.TheVariants.{Word, Number, Mark, Key, Start, Finish}
 use Rattle.flame_lex.specs.declared.fault.LexFault.{LexFault}
 use Rattle.flame_lex.specs.declared.fault.LexFault.TheVariants.{BadByte, BadNumber, BigNumber, OpenComment, Directive}
-use Rattle.flame_lex.specs.Bytes.{first_is, begins_word, is_word_byte}
-use Rattle.flame_lex.specs.Numbers.{IsNumber}
-use Rattle.flame_lex.specs.Words.{IsWord, IsWordKind}
-use Rattle.flame_lex.specs.Pieces.{IsNumeral, IsLexeme}
-use Rattle.flame_lex.specs.Faults.{IsFault}
-use Rattle.flame_lex.specs.Steps.{IsToken, IsNumberFault}
+use Rattle.flame_lex.specs.declared.fault.LexFault.TheVariants.{BadDefine}
+use Rattle.flame_lex.specs.ByteRuns.{first_is}
+use Rattle.flame_lex.specs.Numerals.{IsNumber}
+use Rattle.flame_lex.specs.SourceWords.{IsWord, IsWordKind}
+use Rattle.flame_lex.specs.LexPieces.{Here, IsNumeral, IsLexeme}
+use Rattle.flame_lex.specs.LexFaults.{IsFault}
+use Rattle.flame_lex.specs.LexSteps.{IsToken, IsNumberFault}
 use Rattle.flame_lex.proofs.Runs.{run_front}
 
 -- how many letters, digits and `_` stand at the front
@@ -47,14 +49,14 @@ first_is-take p zero bytes h = absurd (omega arith)
 first_is-take p (suc n) [] h = refl
 first_is-take p (suc n) (b ∷ bytes) h = refl
 
-is_word : (bytes : List ℕ) → first_is begins_word bytes ≡ true
+pub is_word : (bytes : List ℕ) → first_is begins_word bytes ≡ true
     → IsWord (take (word_count bytes) bytes) (drop (word_count bytes) bytes)
 is_word bytes h = record {
   first = first_is-take begins_word (word_count bytes) bytes (first_passes bytes (word_passes bytes h)) ∙ h;
   run = run_front is_word_byte bytes;
 }
 
-is_numeral : (bytes : List ℕ) → first_is is_ascii_digit bytes ≡ true
+pub is_numeral : (bytes : List ℕ) → first_is is_ascii_digit bytes ≡ true
     → IsNumeral (take (word_count bytes) bytes) (drop (word_count bytes) bytes)
 is_numeral bytes h = record {
   first = first_is-take is_ascii_digit (word_count bytes) bytes (first_passes bytes (digit_passes bytes h)) ∙ h;
@@ -85,10 +87,10 @@ number_token n bytes h k = record {
   lexeme = (is_numeral bytes h, k);
 }
 
-pub number_fault : (line_begins : Bool) (place : ℕ) (bytes : List ℕ) (fault : LexFault)
+pub number_fault : (site : Here) (place : ℕ) (bytes : List ℕ) (fault : LexFault)
     → first_is is_ascii_digit bytes ≡ true → IsNumberFault place (take (word_count bytes) bytes) fault
-    → IsFault line_begins place bytes fault
-number_fault line_begins place bytes (BadNumber at) h k = (
+    → IsFault site place bytes fault
+number_fault site place bytes (BadNumber at) h k = (
   k.0,
   take (word_count bytes) bytes,
   record {
@@ -98,7 +100,7 @@ number_fault line_begins place bytes (BadNumber at) h k = (
   },
   k.1,
 )
-number_fault line_begins place bytes (BigNumber at) h k = (
+number_fault site place bytes (BigNumber at) h k = (
   k.0,
   take (word_count bytes) bytes,
   record {
@@ -108,6 +110,7 @@ number_fault line_begins place bytes (BigNumber at) h k = (
   },
   k.1,
 )
-number_fault line_begins place bytes (BadByte at) h k = absurd k
-number_fault line_begins place bytes (OpenComment at) h k = absurd k
-number_fault line_begins place bytes (Directive at) h k = absurd k
+number_fault site place bytes (BadByte at) h k = absurd k
+number_fault site place bytes (OpenComment at) h k = absurd k
+number_fault site place bytes (Directive at) h k = absurd k
+number_fault site place bytes (BadDefine at) h k = absurd k

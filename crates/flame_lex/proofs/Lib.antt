@@ -5,9 +5,14 @@ pub mod LoopWords
 pub mod Marks
 pub mod Lexemes
 pub mod Gaps
+pub mod Idle
 pub mod Cuts
 pub mod Classes
 pub mod WordKinds
+pub mod Lines
+pub mod Defining
 pub mod Unique
 pub mod Apart
 pub mod Readings
+pub mod Decisions
+pub mod Existence

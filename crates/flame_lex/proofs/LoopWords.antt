@@ -4,7 +4,7 @@ use Rattle.std.specs.Prelude.{codes, bytes_eq}
 use Rattle.std.proofs.lemmas.Bool.{both_ways}
 use Rattle.std.proofs.lemmas.List.{take-append-drop, take_at}
 use Rattle.std.proofs.lemmas.Slice.Eq.{bytes_eq-Decides}
-use Rattle.flame_lex.specs.Words.{IsLoopWord}
+use Rattle.flame_lex.specs.SourceWords.{IsLoopWord}
 
 pub not_opened : (opening word name : List ℕ) → bytes_eq (take (length opening) word) opening ≡ false
     → ¬ IsLoopWord opening name word

@@ -4,8 +4,8 @@ use Rattle.std.proofs.lemmas.List.{take-append-drop, length-append, take_at}
 use Rattle.flame_ops.specs.Spellings.{IsLongest, spelling}
 use Rattle.flame_ops.specs.Words.{operator_spellings}
 use Rattle.flame_lex.specs.declared.token.Kind.TheVariants.{Mark}
-use Rattle.flame_lex.specs.Pieces.{begins_comment}
-use Rattle.flame_lex.specs.Steps.{IsToken}
+use Rattle.flame_lex.specs.LexPieces.{begins_comment}
+use Rattle.flame_lex.specs.LexSteps.{IsToken}
 use Rattle.flame_lex.proofs.Prefixes.{begins_parts}
 
 pub mark_token : (bytes : List ℕ) (number : ℕ) → begins_comment bytes ≡ false

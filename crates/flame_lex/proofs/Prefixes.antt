@@ -8,7 +8,8 @@ use Rattle.std.proofs.lemmas.Bool.Decides.{nat_tests}
 use Rattle.std.proofs.lemmas.List.{take-append-drop, take_at}
 use Rattle.std.proofs.lemmas.Slice.Eq.{bytes_eq-Decides}
 use Rattle.std.proofs.lemmas.Str.{IsUtf8-from_ascii}
-use Rattle.flame_lex.specs.Bytes.{begins, is_word_byte}
+use Rattle.flame_ops.specs.Ascii.{is_word_byte}
+use Rattle.flame_lex.specs.ByteRuns.{begins}
 
 pub begins_two : (bytes : List ℕ) (a b : ℕ) → 2 ≤ length bytes → get_or bytes 0 0 ≡ a → get_or bytes 1 0 ≡ b
     → begins bytes (a ∷ b ∷ []) ≡ true

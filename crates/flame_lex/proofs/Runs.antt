@@ -2,7 +2,7 @@
 use Rattle.std.proofs.Common.{◌≡◌, ℕ, suc, ◌+◌, true, false, Bool, List, [], ◌∷◌, take, drop, length, refl, arith, cond}
 use Rattle.std.specs.List.{prefix_len, take_while}
 use Rattle.std.proofs.lemmas.List.Folds.{length-prefix_len}
-use Rattle.flame_lex.specs.Bytes.{IsRun}
+use Rattle.flame_lex.specs.ByteRuns.{IsRun}
 
 first_step : (p : ℕ → Bool) (b : ℕ) (bytes : List ℕ) (n : ℕ) (t : Bool) → p b ≡ t
     → IsRun p (take n bytes) (drop n bytes)
@@ -12,7 +12,8 @@ first_step p b bytes n true e run =
     rw one (record { all = rw e run.all; ends = run.ends })
 first_step p b bytes n false e run = record { all = refl; ends = e }
 
-run_at : (p : ℕ → Bool) (bytes : List ℕ) → IsRun p (take (prefix_len p bytes) bytes) (drop (prefix_len p bytes) bytes)
+-- as it is counted by the definition
+pub run_at : (p : ℕ → Bool) (bytes : List ℕ) → IsRun p (take (prefix_len p bytes) bytes) (drop (prefix_len p bytes) bytes)
 run_at p [] = record { all = refl; ends = refl }
 run_at p (b ∷ bytes) = first_step p b bytes (prefix_len p bytes) (p b) refl (run_at p bytes)
 

@@ -5,7 +5,7 @@ use Rattle.std.specs.Char.{digit_value}
 use Rattle.std.proofs.lemmas.List.Sums.{fold-append, fold_more}
 use Rattle.std.proofs.Math.Nat.{mul_comm}
 use Rattle.std.proofs.lemmas.List.{take-append-drop}
-use Rattle.flame_lex.specs.Numbers.{value_in}
+use Rattle.flame_lex.specs.Numerals.{value_in}
 
 le_times : (base a : ℕ) → 0 < base → a ≤ base * a
 le_times zero a h = absurd (omega arith)

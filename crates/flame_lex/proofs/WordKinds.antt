@@ -1,6 +1,6 @@
 -- A text is of one kind.
 use Rattle.std.proofs.Common.{◌≡◌, ℕ, true, Bool, List, [], ◌∷◌, ◌++◌, refl, sym, ap, ◌∙◌, arith, subst, get_or}
-use Rattle.std.specs.Prelude.{codes, not, ◌&&◌, Contains}
+use Rattle.std.specs.Prelude.{codes, not, ◌&&◌, Contains, slice_get, Some}
 use Rattle.std.proofs.lemmas.Bool.{and_parts, both_ways, not-true}
 use Rattle.std.proofs.lemmas.List.{append_cancel_left, append_cancel_right}
 use Rattle.std.proofs.lemmas.Option.{slice_get_within, get_or_from_slice_get}
@@ -9,8 +9,8 @@ use Rattle.flame_ops.specs.Words.{operator_spellings, keyword_spellings}
 use Rattle.flame_ops.proofs.Distinct.{IsTable-is_table}
 use Rattle.flame_lex.specs.declared.token.Kind.{Kind}
 use Rattle.flame_lex.specs.declared.token.Kind.TheVariants.{Word, Number, Mark, Key, Start, Finish}
-use Rattle.flame_lex.specs.Bytes.{first_is, IsRun, begins}
-use Rattle.flame_lex.specs.Words.{IsLoopWord, IsKeyword, IsWordKind, start, finish}
+use Rattle.flame_lex.specs.ByteRuns.{first_is, IsRun, begins}
+use Rattle.flame_lex.specs.SourceWords.{IsLoopWord, IsKeyword, IsWordKind, start, finish}
 use Rattle.flame_lex.proofs.Prefixes.{begins_from}
 use Rattle.flame_lex.proofs.Classes.{all_at}
 
@@ -20,12 +20,17 @@ operators_table = IsTable-is_table operator_spellings refl
 keywords_table : IsTable keyword_spellings
 keywords_table = IsTable-is_table keyword_spellings refl
 
-keyword_contained : (number : ℕ) (word : List ℕ) → IsKeyword number word → Contains keyword_spellings word
-keyword_contained number word k = (
+-- the spelling of a number is among the spellings
+pub contained : (spellings : List (List ℕ)) (number : ℕ) (word : List ℕ) → slice_get spellings number ≡ Some word
+    → Contains spellings word
+contained spellings number word k = (
   number,
-  slice_get_within keyword_spellings number word k,
-  get_or_from_slice_get keyword_spellings number word word k,
+  slice_get_within spellings number word k,
+  get_or_from_slice_get spellings number word word k,
 )
+
+pub keyword_contained : (number : ℕ) (word : List ℕ) → IsKeyword number word → Contains keyword_spellings word
+keyword_contained number word k = contained keyword_spellings number word k
 
 abbrev is_unopened : List ℕ → Bool
 is_unopened word = not (begins word start) && not (begins word finish)

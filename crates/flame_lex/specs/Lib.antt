@@ -1,9 +1,11 @@
-pub mod Bytes
-pub mod Numbers
-pub mod Places
-pub mod Words
-pub mod Pieces
-pub mod Faults
-pub mod Reading
-pub mod Laws
-pub mod Steps
+pub mod Lexing
+pub mod LexPieces
+pub mod DefineLines
+pub mod SourceWords
+pub mod Numerals
+pub mod ByteRuns
+pub mod TextPlaces
+pub mod LexFaults
+pub mod CutLaws
+-- the program's own words
+pub mod LexSteps

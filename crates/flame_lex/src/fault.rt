@@ -1,7 +1,7 @@
 //! Why a text has no tokens.
 
-use flame_rows::NoMemory;
-use std::alloc::AllocFailed;
+ghost use Rattle.std.specs.Prelude.{◌≡◌};
+ghost use Rattle.flame_lex.specs.LexFaults.{offset_of, name_of};
 
 /// Where the cut of a text cannot go on, by the byte offset from 0, and why.
 #[derive(Clone, Copy, Debug, PartialEq, Eq)]
@@ -14,48 +14,38 @@ pub enum LexFault {
     BigNumber(u32),
     /// The comment that begins here has no end.
     OpenComment(u32),
-    /// The directive that begins here is no `#include`.
+    /// The directive that begins here is neither `#include` nor `#define`.
     Directive(u32),
+    /// The line of the `#define` that begins here gives no word a number.
+    BadDefine(u32),
 }
 
-/// Why `lex` gives no tokens.
-#[derive(Clone, Copy, Debug, PartialEq, Eq)]
-pub enum Fail {
-    /// The text's fault.
-    Fault(LexFault),
-    /// Memory was not found.
-    NoMemory,
-}
-
-impl From<LexFault> for Fail {
-    ghost use Rattle.std.specs.Prelude.{◌≡◌};
-    ghost use Rattle.flame_lex.specs.declared.fault.Fail.TheVariants.{Fault};
-
-    ghost from_gives = { λ fault fail. fail ≡ Fault fault };
-
-    fn from(fault: LexFault) -> Fail {
-        Fail::Fault(fault)
+impl LexFault {
+    /// The byte offset of the place, from 0.
+    pub fn offset(&self) -> u32
+        ensures { result ≡ offset_of self.now }
+    {
+        match self {
+            LexFault::BadByte(at)
+            | LexFault::BadNumber(at)
+            | LexFault::BigNumber(at)
+            | LexFault::OpenComment(at)
+            | LexFault::Directive(at)
+            | LexFault::BadDefine(at) => *at,
+        }
     }
-}
 
-impl From<NoMemory> for Fail {
-    ghost use Rattle.std.specs.Prelude.{◌≡◌};
-    ghost use Rattle.flame_lex.specs.declared.fault.Fail.TheVariants.{NoMemory};
-
-    ghost from_gives = { λ _ fail. fail ≡ NoMemory };
-
-    fn from(_error: NoMemory) -> Fail {
-        Fail::NoMemory
-    }
-}
-
-impl<T: Drop> From<AllocFailed<T>> for Fail {
-    ghost use Rattle.std.specs.Prelude.{◌≡◌};
-    ghost use Rattle.flame_lex.specs.declared.fault.Fail.TheVariants.{NoMemory};
-
-    ghost from_gives = { λ _ fail. fail ≡ NoMemory };
-
-    fn from(_error: AllocFailed<T>) -> Fail {
-        Fail::NoMemory
+    /// The cause's name, as it is printed.
+    pub fn name(&self) -> &'static str
+        ensures { result.now ≡ name_of self.now }
+    {
+        match self {
+            LexFault::BadByte(_) => "BadByte",
+            LexFault::BadNumber(_) => "BadNumber",
+            LexFault::BigNumber(_) => "BigNumber",
+            LexFault::OpenComment(_) => "OpenComment",
+            LexFault::Directive(_) => "Directive",
+            LexFault::BadDefine(_) => "BadDefine",
+        }
     }
 }

@@ -1,10 +1,11 @@
 //! Numbers (C standard, 6.4.4.1: decimal and hexadecimal constants without a suffix).
 
-ghost use Rattle.std.specs.Prelude.{◌≡◌, ◌<◌, ◌≤◌, ⊤, option_map, IfOk, IfErr, MatchOption};
+ghost use Rattle.std.specs.Prelude.{◌≡◌, ◌<◌, ◌≤◌, ⊤, option_map, IfOk, IfErr, IfSome, MatchOption};
 ghost use Rattle.std.specs.List.{list_all};
 ghost use Rattle.std.specs.Char.{digit_value, is_ascii_digit, is_ascii_hexdigit};
-ghost use Rattle.flame_lex.specs.Numbers.{value_in, is_decimal, is_hexadecimal, number_value, IsNumber};
-ghost use Rattle.flame_lex.specs.Steps.{IsNumberFault};
+ghost use Rattle.flame_lex.specs.DefineLines.{small_value};
+ghost use Rattle.flame_lex.specs.Numerals.{value_in, is_decimal, is_hexadecimal, number_value, IsNumber};
+ghost use Rattle.flame_lex.specs.LexSteps.{IsNumberFault};
 
 use crate::fault::LexFault;
 
@@ -26,6 +27,15 @@ pub(crate) fn number(run: &[u8], at: u32) -> Result<i32, LexFault>
         Some(value) => Ok(value as i32),
         None => Err(LexFault::BigNumber(at)),
     }
+}
+
+/// The value of the run, none where it is no number or above 2147483647.
+pub(crate) fn small_value(run: &[u8]) -> Option<u32>
+    ensures value { result ≡ small_value run.now }
+    ensures small { IfSome result (λ n. n ≤ 2147483647) }
+{
+    let Numeral { base, digits } = numeral_of(run)?;
+    value(base, digits)
 }
 
 /// The base and the digits of the run, none where it is no number.

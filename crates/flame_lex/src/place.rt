@@ -13,11 +13,11 @@ pub(crate) struct Place {
 }
 
 impl Place {
-    ghost use Rattle.flame_lex.specs.Steps.{IsBehind};
+    ghost use Rattle.flame_lex.specs.LexSteps.{IsPlace};
 
     /// The first place of a text.
     pub fn first() -> Place
-        ensures { IsBehind [] result }
+        ensures { IsPlace [] result }
     {
         Place {
             at: 0,
@@ -29,7 +29,7 @@ impl Place {
     /// The place after the bytes that stand at this one.
     pub fn past(self, bytes: &[u8]) -> Place
         requires { self.at + length bytes.now ≤ 4194304 }
-        ensures { (before : List ℕ) → IsBehind before self → IsBehind (before ++ bytes.now) result }
+        ensures { (before : List ℕ) → IsPlace before self → IsPlace (before ++ bytes.now) result }
     {
         let mut place = self;
         for b in bytes {
@@ -42,7 +42,7 @@ impl Place {
     fn past_byte(self, b: u8) -> Place
         requires { self.at < 4194304 }
         ensures at { result.at ≡ self.at + 1 }
-        ensures place { (before : List ℕ) → IsBehind before self → IsBehind (before ++ b ∷ []) result }
+        ensures place { (before : List ℕ) → IsPlace before self → IsPlace (before ++ b ∷ []) result }
     {
         if b == b'\n' {
             Place {

@@ -1,31 +1,33 @@
-//! The operators and the keywords.
+//! The operators, the keywords and the directives.
 
 ghost use Rattle.std.specs.Prelude.{◌≡◌, false, MatchOption};
 ghost use Rattle.flame_ops.specs.Spellings.{NoneStands};
-ghost use Rattle.flame_ops.specs.Words.{operator_spellings, keyword_spellings};
+ghost use Rattle.flame_ops.specs.Words.{operator_spellings, keyword_spellings, directive_spellings};
 
 use crate::lexeme::Lexeme;
 use crate::token::Kind;
-use flame_ops::table::Table;
-use flame_ops::words::{keywords, longest, operators};
+use flame_ops::{Table, directives, keywords, longest, operators};
 
-/// The tables of all operators and of all keywords.
+/// The tables of all operators, of all keywords and of all directives. ORDER MARKS
 #[derive(Drop)]
 pub(crate) struct Tables {
-    pub operators: Table<29>,
+    pub operators: Table<31>,
     pub keywords: Table<10>,
+    pub directives: Table<2>,
     ghost operators_are: { operators ≡ operator_spellings },
     ghost keywords_are: { keywords ≡ keyword_spellings },
+    ghost directives_are: { directives ≡ directive_spellings },
 }
 
 impl Tables {
-    ghost use Rattle.flame_lex.specs.Pieces.{begins_comment};
-    ghost use Rattle.flame_lex.specs.Steps.{IsToken};
+    ghost use Rattle.flame_lex.specs.LexPieces.{begins_comment};
+    ghost use Rattle.flame_lex.specs.LexSteps.{IsToken};
 
     pub fn new() -> Tables {
         Tables {
             operators: operators(),
             keywords: keywords(),
+            directives: directives(),
         }
     }
 

@@ -7,11 +7,11 @@ use flame_rows::Text;
 pub enum Kind {
     /// A word that is none of those below.
     Word(Text),
-    /// A number, from 0 to 2147483647.
+    /// A number: of a numeral from 0 to 2147483647, of a word that a define line names from -2147483647.
     Number(i32),
-    /// A mark, by its number in `flame_ops::words::operators`.
+    /// A mark, by its number in `flame_ops::operators`.
     Mark(u32),
-    /// A keyword, by its number in `flame_ops::words::keywords`.
+    /// A keyword, by its number in `flame_ops::keywords`.
     Key(u32),
     /// The word that opens a loop over the messages of this name, as `START_NAME_MESSAGE_LOOP` (FLAME User Manual).
     Start(Text),

@@ -3,13 +3,12 @@
 ghost use Rattle.std.specs.Prelude.{◌≡◌, ℕ, true, List, IfOk, MatchOption};
 ghost use Rattle.std.specs.List.{list_all};
 ghost use Rattle.flame_ops.specs.Words.{keyword_spellings};
-ghost use Rattle.flame_lex.specs.Bytes.{is_word_byte};
-ghost use Rattle.flame_lex.specs.Words.{IsLoopWord, IsWordKind};
+ghost use Rattle.flame_ops.specs.Ascii.{is_word_byte};
+ghost use Rattle.flame_lex.specs.SourceWords.{IsLoopWord, IsWordKind};
 
 use crate::token::Kind;
 use flame_ops::table::Table;
-use flame_rows::NoMemory;
-use flame_rows::Text;
+use flame_rows::{NoMemory, Text};
 use std::alloc::Global;
 
 /// What the word is.

@@ -1,5 +1,5 @@
 use Rattle.std.proofs.Common.{◌≡◌, ◌≤◌, take}
-use Rattle.flame_lex.specs.Numbers.{value_in}
+use Rattle.flame_lex.specs.Numerals.{value_in}
 use Rattle.flame_lex.proofs.number.value.Given as goal
 
 abbrev pub invariant-loop-b : goal.invariant-loop-b

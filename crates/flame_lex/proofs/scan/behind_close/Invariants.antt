@@ -1,5 +1,5 @@
 use Rattle.std.proofs.Common.{◌≡◌, length}
-use Rattle.flame_lex.specs.Pieces.{after_close}
+use Rattle.flame_lex.specs.DefineLines.{after_close}
 use Rattle.flame_lex.proofs.scan.behind_close.Given as goal
 
 abbrev pub invariant-loop-rest : goal.invariant-loop-rest
