@@ -65,7 +65,7 @@ impl Case {
 pub(crate) fn read_cases(alloc: Global, text: &str) -> Result<Vec<Case>, AllocError> {
     let mut cases = Vec::new(alloc);
     let mut case = Case::new(alloc);
-    for line in text.lines() {
+    for line in text.split('\n') {
         if line == "----" {
             cases.push(case)?;
             case = Case::new(alloc);
