@@ -2,7 +2,7 @@
 use Rattle.flame_spec.specs.Functions.{functions}
 use Rattle.flame_spec.specs.Choice.{may_take, choice, is_chosen}
 use Rattle.flame_spec.specs.ViewLaws.{ChoiceIsFirst, FirstIsChosen, NoChoiceWhereNone, TakersKeepCounts}
-use Rattle.flame_spec.proofs.FirstPlace.{position-first, position-passes, position-earlier, position-stands, position-None}
+use Rattle.flame_laws.proofs.FirstPlace.{position-first, position-passes, position-earlier, position-stands, position-None}
 use Rattle.flame_spec.proofs.Viewed.{count_of-filter}
 
 pub choice_is_first : ChoiceIsFirst

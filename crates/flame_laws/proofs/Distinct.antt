@@ -19,7 +19,7 @@ use Rattle.flame_spec.specs.Refusals.{fault_where}
 use Rattle.flame_spec.specs.UnitFaults.{unit_faults, units_faults, measure_faults}
 use Rattle.flame_spec.specs.MessageFaults.{apart_faults, constant_faults, message_faults, messages_faults, variables_faults}
 use Rattle.flame_spec.specs.NameFaults.{agent_faults, agents_faults, type_names, names_of_functions, environment_faults, name_faults}
-use Rattle.flame_spec.specs.DistinctNames.{AreDistinct}
+use Rattle.flame_laws.specs.DistinctNames.{AreDistinct}
 use Rattle.flame_spec.proofs.Alike.{clashes-new}
 
 pub nil_left : {X : Type 0} (xs ys : List X) → xs ++ ys ≡ [] → xs ≡ []

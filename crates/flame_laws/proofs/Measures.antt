@@ -16,7 +16,7 @@ use Rattle.flame_spec.specs.Paths.{at_key, at_number}
 use Rattle.flame_spec.specs.Refusals.{fault_where}
 use Rattle.flame_spec.specs.UnitFaults.{is_long, length_after, measure_faults, unit_faults, units_faults}
 use Rattle.flame_spec.specs.WellFormed.{is_positive_int, is_well_formed_unit}
-use Rattle.flame_spec.proofs.Distinct.{nil_right, each_none, no_test, is_among-append, bytes_eq_comm}
+use Rattle.flame_laws.proofs.Distinct.{nil_right, each_none, no_test, is_among-append, bytes_eq_comm}
 
 -- a length that is known, from 1 to 2147483647
 abbrev pub Positive : Option ℤ → Type 0

@@ -1,18 +1,20 @@
 -- Where nothing is found wrong with the names of a condition, they are declared.
-use Rattle.std.proofs.Common.{◌≡◌, ℕ, zero, suc, ◌+◌, Bool, true, false, List, [], ◌∷◌, ◌++◌, Some, refl, ap, sym, ◌∙◌, arith, rules, not, Box, Global}
+use Rattle.std.proofs.Common.{◌≡◌, ℕ, zero, suc, ◌+◌, Bool, true, false, List, [], ◌∷◌, ◌++◌, Some, refl, ap, sym, ◌∙◌, arith, rules, not}
 use Rattle.std.specs.Prelude.{ℤ, slice_get, codes, ◌&&◌}
 use Rattle.flame_ops.specs.declared.integers.Op.{Op}
-use Rattle.flame_spec.specs.declared.conditions.Condition.{Condition, And, Or, Not, the_lemmas}
-use Rattle.flame_spec.specs.declared.conditions.Condition.TheVariants.{Compare, And', Or', Not', Time}
+use Rattle.flame_spec.specs.declared.conditions.Condition.{Condition, Compare, And, Or, Not, Time, And', Or', Not', more_of-Condition, end_of-Condition, the_lemmas}
+use Rattle.flame_spec.specs.declared.conditions.Condition.TheBlock.{shape-the_row-Condition-0, hidden-the_row-Condition-0}
+use denote.Hole.Carrier.{hidden}
 use Rattle.flame_spec.specs.declared.conditions.Operand.{Operand}
 use Rattle.flame_spec.specs.declared.conditions.Operand.TheVariants.{Number, Agent, Message}
 use Rattle.flame_spec.specs.declared.faults.NameKind.{NameKind}
 use Rattle.flame_spec.specs.Lists.{each_from}
+use Rattle.flame_spec.specs.KnownNames.{is_among}
 use Rattle.flame_spec.specs.Paths.{at_key}
 use Rattle.flame_spec.specs.Refusals.{fault_where}
 use Rattle.flame_spec.specs.Leaves.{LeafNames, operand_faults, period_faults, leaf_faults}
-use Rattle.flame_spec.specs.UsedNames.{knows_operand, knows}
-use Rattle.flame_spec.proofs.Found.{left-none, right-none}
+use Rattle.flame_laws.specs.UsedNames.{knows_operand, knows}
+use Rattle.flame_laws.proofs.Found.{left-none, right-none}
 
 -- where nothing comes from a list, nothing comes from any of its elements
 pub each_none :
@@ -56,20 +58,20 @@ leaf-Compare :
 leaf-Compare scope op a b path = search (rules, the_lemmas)
 
 leaf-And :
-    (scope : LeafNames) (a b : Box Condition Global) (path : List ℕ)
+    (scope : LeafNames) (a b : Condition) (path : List ℕ)
     → leaf_faults scope (And a b) path
-    ≡ leaf_faults scope a.value (at_key path (codes "lhs")) ++ leaf_faults scope b.value (at_key path (codes "rhs"))
+    ≡ leaf_faults scope a (at_key path (codes "lhs")) ++ leaf_faults scope b (at_key path (codes "rhs"))
 leaf-And scope a b path = search (rules, the_lemmas)
 
 leaf-Or :
-    (scope : LeafNames) (a b : Box Condition Global) (path : List ℕ)
+    (scope : LeafNames) (a b : Condition) (path : List ℕ)
     → leaf_faults scope (Or a b) path
-    ≡ leaf_faults scope a.value (at_key path (codes "lhs")) ++ leaf_faults scope b.value (at_key path (codes "rhs"))
+    ≡ leaf_faults scope a (at_key path (codes "lhs")) ++ leaf_faults scope b (at_key path (codes "rhs"))
 leaf-Or scope a b path = search (rules, the_lemmas)
 
 leaf-Not :
-    (scope : LeafNames) (a : Box Condition Global) (path : List ℕ)
-    → leaf_faults scope (Not a) path ≡ leaf_faults scope a.value (at_key path (codes "not"))
+    (scope : LeafNames) (a : Condition) (path : List ℕ)
+    → leaf_faults scope (Not a) path ≡ leaf_faults scope a (at_key path (codes "not"))
 leaf-Not scope a path = search (rules, the_lemmas)
 
 leaf-Time :
@@ -79,24 +81,45 @@ leaf-Time :
     ++ operand_faults scope (at_key (at_key path (codes "time")) (codes "phase")) phase
 leaf-Time scope unit phase duration path = search (rules, the_lemmas)
 
--- the box of a part, as the forms of a condition hold it
-abbrev boxed : Box (Unit {0}) Global → Condition → Box Condition Global
-boxed place part = record { ptr = place.ptr; value = part; alloc = place.alloc }
+knows-Compare :
+    (scope : LeafNames) (op : Op) (a b : Operand)
+    → knows scope (Compare op a b) ≡ knows_operand scope a && knows_operand scope b
+knows-Compare scope op a b = search (rules, the_lemmas)
+
+knows-And : (scope : LeafNames) (a b : Condition) → knows scope (And a b) ≡ knows scope a && knows scope b
+knows-And scope a b = search (rules, the_lemmas)
+
+knows-Or : (scope : LeafNames) (a b : Condition) → knows scope (Or a b) ≡ knows scope a && knows scope b
+knows-Or scope a b = search (rules, the_lemmas)
+
+knows-Not : (scope : LeafNames) (a : Condition) → knows scope (Not a) ≡ knows scope a
+knows-Not scope a = search (rules, the_lemmas)
+
+knows-Time :
+    (scope : LeafNames) (unit : List ℕ) (phase : Operand) (duration : ℤ)
+    → knows scope (Time unit phase duration) ≡ is_among unit scope.units && knows_operand scope phase
+knows-Time scope unit phase duration = search (rules, the_lemmas)
 
 pub condition_known :
     (scope : LeafNames) (condition : Condition) (path : List ℕ)
     → leaf_faults scope condition path ≡ []
     → knows scope condition ≡ true
+unfolding shape-the_row-Condition-0 hidden-the_row-Condition-0 hidden
 condition_known scope (Compare op a b) path none =
     let parts = sym (leaf-Compare scope op a b path) ∙ none in
-    both _ _ (operand_known scope _ a (left-none _ _ parts)) (operand_known scope _ b (right-none _ _ parts))
-condition_known scope (And' p a q b) path none =
-    let parts = sym (leaf-And scope (boxed p a) (boxed q b) path) ∙ none in
-    both _ _ (condition_known scope a _ (left-none _ _ parts)) (condition_known scope b _ (right-none _ _ parts))
-condition_known scope (Or' p a q b) path none =
-    let parts = sym (leaf-Or scope (boxed p a) (boxed q b) path) ∙ none in
-    both _ _ (condition_known scope a _ (left-none _ _ parts)) (condition_known scope b _ (right-none _ _ parts))
-condition_known scope (Not' p a) path none = condition_known scope a _ (sym (leaf-Not scope (boxed p a) path) ∙ none)
+    knows-Compare scope op a b
+    ∙ both _ _ (operand_known scope _ a (left-none _ _ parts)) (operand_known scope _ b (right-none _ _ parts))
+condition_known scope (And' _ (more_of-Condition a end_of-Condition) _ (more_of-Condition b end_of-Condition)) path none =
+    let parts = sym (leaf-And scope a b path) ∙ none in
+    knows-And scope a b
+    ∙ both _ _ (condition_known scope a _ (left-none _ _ parts)) (condition_known scope b _ (right-none _ _ parts))
+condition_known scope (Or' _ (more_of-Condition a end_of-Condition) _ (more_of-Condition b end_of-Condition)) path none =
+    let parts = sym (leaf-Or scope a b path) ∙ none in
+    knows-Or scope a b
+    ∙ both _ _ (condition_known scope a _ (left-none _ _ parts)) (condition_known scope b _ (right-none _ _ parts))
+condition_known scope (Not' _ (more_of-Condition a end_of-Condition)) path none =
+    knows-Not scope a ∙ condition_known scope a _ (sym (leaf-Not scope a path) ∙ none)
 condition_known scope (Time unit phase duration) path none =
     let parts = sym (leaf-Time scope unit phase duration path) ∙ none in
-    both _ _ (not_false _ (test_fails _ _ _ _ (left-none _ _ parts))) (operand_known scope _ phase (right-none _ _ parts))
+    knows-Time scope unit phase duration
+    ∙ both _ _ (not_false _ (test_fails _ _ _ _ (left-none _ _ parts))) (operand_known scope _ phase (right-none _ _ parts))

@@ -3,7 +3,7 @@ use Rattle.std.proofs.Common.{◌≡◌, ℕ, ◌<◌, List, [], ◌∷◌, ◌+
 use Rattle.std.proofs.Math.Nat.{lt_irrefl, lt_trans}
 use Rattle.flame_spec.specs.ModelOrder.{first_left}
 use Rattle.flame_spec.specs.Layers.{layer}
-use Rattle.flame_spec.specs.OrderLaws.{IsChain, IsRound, AreFunctions}
+use Rattle.flame_laws.specs.OrderLaws.{IsChain, IsRound, AreFunctions}
 use Rattle.flame_spec.proofs.Orders.{Relation}
 use Rattle.flame_spec.proofs.Heights.{layer_rises}
 

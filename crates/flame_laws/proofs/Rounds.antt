@@ -7,7 +7,7 @@ use Rattle.std.proofs.lemmas.List.{append_assoc, append-nil, reverse-append, tak
 use Rattle.std.proofs.lemmas.List.Sums.{passes_at_first, sum_by-cons}
 use Rattle.flame_spec.specs.Below.{is_in, times, HasNoTwice}
 use Rattle.flame_spec.specs.ModelOrder.{order, first_left, step_back, from_there, repeated_part, walk_back, least_of, begun_at, begun_with_least, cycle_from, cycle}
-use Rattle.flame_spec.specs.OrderLaws.{IsChain, IsRound, IsCycle}
+use Rattle.flame_laws.specs.OrderLaws.{IsChain, IsRound, IsCycle}
 use Rattle.flame_spec.proofs.FirstBelow.{first_is_first, one, times-append, times_push, once_push}
 use Rattle.flame_spec.proofs.Orders.{Relation, remaining, remaining_push, remaining_all, left_steps_back}
 

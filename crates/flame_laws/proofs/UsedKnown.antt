@@ -14,9 +14,9 @@ use Rattle.flame_spec.specs.UnitFaults.{units_faults}
 use Rattle.flame_spec.specs.MessageFaults.{constant_faults, messages_faults}
 use Rattle.flame_spec.specs.FunctionFaults.{condition_scope, sort_faults, input_faults, inputs_faults, outputs_faults, title_faults, function_faults}
 use Rattle.flame_spec.specs.NameFaults.{agent_faults, agents_faults, type_names, names_of_functions, environment_faults, name_faults}
-use Rattle.flame_spec.specs.UsedNames.{knows, IsInputKnown, IsFunctionKnown, UsedNamesAreDeclared}
-use Rattle.flame_spec.proofs.Found.{left-none, right-none}
-use Rattle.flame_spec.proofs.NameKnowledge.{each_none, test_fails, not_false, condition_known}
+use Rattle.flame_laws.specs.UsedNames.{knows, IsInputKnown, IsFunctionKnown, UsedNamesAreDeclared}
+use Rattle.flame_laws.proofs.Found.{left-none, right-none}
+use Rattle.flame_laws.proofs.NameKnowledge.{each_none, test_fails, not_false, condition_known}
 
 xmodel : List ℕ
 xmodel = at_key root (codes "xmodel")

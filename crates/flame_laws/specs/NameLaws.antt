@@ -7,7 +7,7 @@ use Rattle.flame_spec.specs.KnownNames.{unit_names, message_names}
 use Rattle.flame_spec.specs.TimeUnits.{unit_length}
 use Rattle.flame_spec.specs.NameFaults.{type_names, name_faults}
 use Rattle.flame_spec.specs.WellFormed.{is_positive_int, is_well_formed_unit}
-use Rattle.flame_spec.specs.DistinctNames.{AreDistinct}
+use Rattle.flame_laws.specs.DistinctNames.{AreDistinct}
 
 -- the constants differ, in capitals too
 abbrev pub ConstantsDiffer : Type 0

@@ -1,7 +1,7 @@
 -- Names that conditions, inputs and outputs use: in models without name faults each is declared. [own]
 use Rattle.std.specs.Prelude.{◌≡◌, ℕ, List, [], Bool, true, false, ◌&&◌, Some, slice_get}
-use Rattle.flame_spec.specs.declared.conditions.Condition.{Condition}
-use Rattle.flame_spec.specs.declared.conditions.Condition.TheVariants.{Compare, And', Or', Not', Time}
+use Rattle.flame_spec.specs.declared.conditions.Condition.{Condition, fold-Condition}
+use Rattle.flame_spec.specs.declared.conditions.Condition.TheOpen.{Condition-F}
 use Rattle.flame_spec.specs.declared.conditions.Operand.{Operand}
 use Rattle.flame_spec.specs.declared.conditions.Operand.TheVariants.{Number, Agent, Message}
 use Rattle.flame_spec.specs.declared.models.Model.{Model}
@@ -20,13 +20,17 @@ knows_operand scope (Number number) = true
 knows_operand scope (Agent name) = is_among name scope.memory
 knows_operand scope (Message name) = is_among name scope.message
 
+-- each variable and each unit of a form is one that can be read there, where its parts tell whether theirs are
+abbrev pub knows_step : LeafNames → Condition-F Bool → Bool
+knows_step scope (Condition-F.Compare op a b) = knows_operand scope a && knows_operand scope b
+knows_step scope (Condition-F.And left right) = left && right
+knows_step scope (Condition-F.Or left right) = left && right
+knows_step scope (Condition-F.Not part) = part
+knows_step scope (Condition-F.Time unit phase duration) = is_among unit scope.units && knows_operand scope phase
+
 -- each variable and each unit of the condition is one that can be read there
 abbrev pub knows : LeafNames → Condition → Bool
-knows scope (Compare op a b) = knows_operand scope a && knows_operand scope b
-knows scope (And' _ a _ b) = knows scope a && knows scope b
-knows scope (Or' _ a _ b) = knows scope a && knows scope b
-knows scope (Not' _ a) = knows scope a
-knows scope (Time unit phase duration) = is_among unit scope.units && knows_operand scope phase
+knows scope = fold-Condition Bool (knows_step scope)
 
 -- the message that an input reads is declared, and so are the names in its filter and its sort; no random order is
 -- asked for

@@ -1,8 +1,7 @@
 -- Conditions, choices and views of some small models, worked by hand. [own]
 use Rattle.std.specs.Prelude.{◌≡◌, ℕ, ℤ, pos, List, [], ◌∷◌, codes, Bool, true, false, Option, Some, None, map}
 use Rattle.flame_ops.specs.declared.integers.Op.TheVariants.{Eq, Ge}
-use Rattle.flame_spec.specs.declared.conditions.Condition.{Condition}
-use Rattle.flame_spec.specs.declared.conditions.Condition.TheVariants.{Compare, Time}
+use Rattle.flame_spec.specs.declared.conditions.Condition.{Condition, Compare, Time}
 use Rattle.flame_spec.specs.declared.conditions.Operand.TheVariants.{Number, Agent, Message}
 use Rattle.flame_spec.specs.declared.models.Model.{Model}
 use Rattle.flame_spec.specs.declared.models.Variable.{Variable}

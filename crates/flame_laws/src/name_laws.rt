@@ -1,6 +1,6 @@
 //! Laws of models without name faults. A law is its contract: it computes nothing.
 
-ghost use Rattle.flame_spec.specs.NameLaws.{ConstantsDiffer, UnitsDiffer, MessagesDiffer, TypesDiffer, LengthsAreKnown};
+ghost use Rattle.flame_laws.specs.NameLaws.{ConstantsDiffer, UnitsDiffer, MessagesDiffer, TypesDiffer, LengthsAreKnown};
 
 /// In a model without name faults the constants and the messages differ, in capitals too, the time units differ from
 /// each other and from `iteration`, and the agent types differ.

@@ -1,8 +1,8 @@
 //! Laws of model order, cycles, layers and start states. A law is its contract: it computes nothing.
 
-ghost use Rattle.flame_spec.specs.OrderCases.{WriterRunsFirst, CyclesAreMet, StartsAreFound};
-ghost use Rattle.flame_spec.specs.OrderLaws.{OrderListsFunctions, OrderListsNoneTwice, OrderRespectsBefore, OrderTakesFirst, OrderIsWhole, LeftOverStepsBack, LeftOverHasCycle, RoundLeavesOver, LayersAreAbove, LayersRise, LayersHaveNoGap};
-ghost use Rattle.flame_spec.specs.StateLaws.{StartsAreNotEntered, TypesHaveStarts};
+ghost use Rattle.flame_laws.specs.OrderCases.{WriterRunsFirst, CyclesAreMet, StartsAreFound};
+ghost use Rattle.flame_laws.specs.OrderLaws.{OrderListsFunctions, OrderListsNoneTwice, OrderRespectsBefore, OrderTakesFirst, OrderIsWhole, LeftOverStepsBack, LeftOverHasCycle, RoundLeavesOver, LayersAreAbove, LayersRise, LayersHaveNoGap};
+ghost use Rattle.flame_laws.specs.StateLaws.{StartsAreNotEntered, TypesHaveStarts};
 
 /// Model order lists functions of the model, none twice, each after all that stand before it, and of those that could
 /// come next always the first in document order. It lists all of them exactly where none is left over, and a function

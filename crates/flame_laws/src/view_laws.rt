@@ -1,7 +1,7 @@
 //! Laws of conditions, choices and views. A law is its contract: it computes nothing.
 
 ghost use Rattle.flame_spec.specs.ViewLaws.{TimeRepeats, ChoiceIsFirst, FirstIsChosen, NoChoiceWhereNone, TakersKeepCounts, ViewKeepsCounts, ViewAscends, ViewGoesByKey, ViewTiesByContent, ViewIsTheOne, PlainViewIsBoard};
-ghost use Rattle.flame_spec.specs.ViewCases.{SortedByKey, FilteredByMemory, HoldsInWeek, FirstOfTwo, NoneOfOne, NextWithoutCondition};
+ghost use Rattle.flame_laws.specs.ViewCases.{SortedByKey, FilteredByMemory, HoldsInWeek, FirstOfTwo, NoneOfOne, NextWithoutCondition};
 
 /// Whether a time condition holds is the same again after each period of its unit.
 pub fn time_conditions()
@@ -29,7 +29,7 @@ pub fn views()
 {}
 
 /// Small models, worked by hand.
-pub fn cases()
+pub fn view_cases()
     ensures sorted { SortedByKey }
     ensures filtered { FilteredByMemory }
     ensures week { HoldsInWeek }

@@ -2,8 +2,8 @@ use Rattle.std.proofs.Common.{map}
 use Rattle.flame_ops.specs.Ascii.{capitals}
 use Rattle.flame_spec.specs.KnownNames.{unit_names, message_names}
 use Rattle.flame_spec.specs.NameFaults.{type_names}
-use Rattle.flame_spec.proofs.Distinct.{distinct, constants_differ, units_differ, messages_differ, types_differ}
-use Rattle.flame_spec.proofs.name_laws.names_differ.Goals as goal
+use Rattle.flame_laws.proofs.Distinct.{distinct, constants_differ, units_differ, messages_differ, types_differ}
+use Rattle.flame_laws.proofs.name_laws.names_differ.Goals as goal
 
 pub returns-clause-constants : goal.returns-clause-constants
 returns-clause-constants c = λ model none.

@@ -1,7 +1,7 @@
 -- The walk back comes round; along a round layers would rise for ever.
-use Rattle.flame_spec.proofs.Rounds.{left_has_cycle}
-use Rattle.flame_spec.proofs.RisingRounds.{round_leaves_over}
-use Rattle.flame_spec.proofs.order_laws.cycles.Goals as goal
+use Rattle.flame_laws.proofs.Rounds.{left_has_cycle}
+use Rattle.flame_laws.proofs.RisingRounds.{round_leaves_over}
+use Rattle.flame_laws.proofs.order_laws.cycles.Goals as goal
 
 pub returns-clause-has_cycle : goal.returns-clause-has_cycle
 returns-clause-has_cycle c = left_has_cycle

@@ -1,6 +1,6 @@
 -- Layers are heights above what stands before.
 use Rattle.flame_spec.proofs.Heights.{layer_above, layer_rises, layer_has_below}
-use Rattle.flame_spec.proofs.order_laws.layers.Goals as goal
+use Rattle.flame_laws.proofs.order_laws.layers.Goals as goal
 
 pub returns-clause-above : goal.returns-clause-above
 returns-clause-above c = layer_above

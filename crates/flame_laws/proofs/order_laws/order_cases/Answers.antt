@@ -1,6 +1,6 @@
 -- The definitions compute.
 use Rattle.std.proofs.Common.{refl}
-use Rattle.flame_spec.proofs.order_laws.order_cases.Goals as goal
+use Rattle.flame_laws.proofs.order_laws.order_cases.Goals as goal
 
 pub returns-clause-order : goal.returns-clause-order
 returns-clause-order c = (refl, refl)

@@ -3,7 +3,7 @@ use Rattle.flame_spec.proofs.Orders.{order_is_order, order_takes, ready_taken, l
 use Rattle.flame_spec.specs.ModelOrder.{order}
 use Rattle.std.proofs.Common.{take}
 use Rattle.std.specs.Prelude.{slice_index}
-use Rattle.flame_spec.proofs.order_laws.orders.Goals as goal
+use Rattle.flame_laws.proofs.order_laws.orders.Goals as goal
 
 pub returns-clause-functions : goal.returns-clause-functions
 returns-clause-functions c = λ n before place l. (order_is_order n before).below place l

@@ -1,7 +1,7 @@
 -- A filter keeps the states that pass, and the first function of a type in model order leaves one of them.
 use Rattle.flame_spec.proofs.Starts.{start_parts, start_from}
 use Rattle.flame_spec.proofs.Beginnings.{types_start}
-use Rattle.flame_spec.proofs.order_laws.start_states_of_types.Goals as goal
+use Rattle.flame_laws.proofs.order_laws.start_states_of_types.Goals as goal
 
 pub returns-clause-entered : goal.returns-clause-entered
 returns-clause-entered c = λ functions state. (start_parts functions state, start_from functions state)

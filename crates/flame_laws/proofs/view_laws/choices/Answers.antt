@@ -1,5 +1,5 @@
-use Rattle.flame_spec.proofs.Choosing.{choice_is_first, first_is_chosen, no_choice_where_none, takers_keep_counts}
-use Rattle.flame_spec.proofs.view_laws.choices.Goals as goal
+use Rattle.flame_laws.proofs.Choosing.{choice_is_first, first_is_chosen, no_choice_where_none, takers_keep_counts}
+use Rattle.flame_laws.proofs.view_laws.choices.Goals as goal
 
 pub returns-clause-chosen : goal.returns-clause-chosen
 returns-clause-chosen c = choice_is_first

@@ -1,10 +1,10 @@
 -- The cases compute, but for what the trees of files are seen as.
 use Rattle.std.proofs.Common.{◌≡◌, [], refl, rules}
 use Rattle.flame_spec.specs.declared.conditions.Condition.{the_lemmas}
-use Rattle.flame_spec.specs.AcceptedCases.{lone_source}
+use Rattle.flame_laws.specs.AcceptedCases.{lone_source}
 use Rattle.flame_spec.specs.CheckFaults.{check_faults}
 use Rattle.flame_spec.proofs.SeenForms.{expression-Number, statement-Return}
-use Rattle.flame_spec.proofs.accepted_laws.cases.Goals as goal
+use Rattle.flame_laws.proofs.accepted_laws.accepted_cases.Goals as goal
 
 lone_checked : check_faults lone_source.model lone_source.units ≡ []
 lone_checked = simp (statement-Return, expression-Number) refl

@@ -5,7 +5,7 @@ use Rattle.std.proofs.lemmas.Fmt.{decimal_digit}
 use Rattle.flame_spec.specs.declared.faults.NameFault.{NameFault}
 use Rattle.flame_spec.specs.declared.faults.NameKind.TheVariants.{Clash, UnknownUnit, LongUnit}
 use Rattle.flame_spec.specs.Refusals.{name_fault}
-use Rattle.flame_spec.proofs.used_laws.cases.Goals as goal
+use Rattle.flame_laws.proofs.used_laws.used_names_cases.Goals as goal
 
 abbrev clash_at : List ℕ → List NameFault
 clash_at zero =

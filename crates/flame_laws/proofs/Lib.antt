@@ -1,0 +1,11 @@
+pub mod Rounds
+pub mod Found
+pub mod RisingRounds
+pub mod FirstPlace
+pub mod Repeating
+pub mod Choosing
+pub mod NameKnowledge
+pub mod UsedKnown
+pub mod Distinct
+pub mod Measures
+pub mod Truths

@@ -1,0 +1,15 @@
+//! Laws and worked cases of what models and function files mean. A law is the contract of a function that computes
+//! nothing, so that an edit of a law proves this crate alone anew.
+#![tactic(auto)]
+
+mod accepted_laws;
+mod name_laws;
+mod order_laws;
+mod used_laws;
+mod view_laws;
+
+pub use accepted_laws::accepted_cases;
+pub use name_laws::{lengths_are_known, names_differ};
+pub use order_laws::{cycles, layers, order_cases, orders, start_states_of_types};
+pub use used_laws::{used_names, used_names_cases};
+pub use view_laws::{choices, time_conditions, view_cases, views};
