@@ -9,3 +9,11 @@ pub mod UsedKnown
 pub mod Distinct
 pub mod Measures
 pub mod Truths
+pub mod NoFaults
+pub mod CheckedBodies
+pub mod LookedUp
+pub mod Sights
+pub mod Calls
+pub mod Loops
+pub mod FilesOfFaults
+pub mod Names

@@ -8,4 +8,7 @@ pub mod OrderLaws
 pub mod StateLaws
 pub mod OrderCases
 pub mod ViewCases
+pub mod Parts
+pub mod CheckLaws
+pub mod HelperLaws
 pub mod AcceptedCases
