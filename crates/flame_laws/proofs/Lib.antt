@@ -17,3 +17,5 @@ pub mod Calls
 pub mod Loops
 pub mod FilesOfFaults
 pub mod Names
+pub mod CallRounds
+pub mod Helpers

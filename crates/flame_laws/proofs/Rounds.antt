@@ -19,7 +19,7 @@ module _ (before : ℕ → ℕ → Bool) where
   chain_left (x ∷ []) ys c = tt
   chain_left (x ∷ y ∷ xs) ys c = (c.0, chain_left (y ∷ xs) ys c.1)
 
-  tail : (x : ℕ) (xs : List ℕ) → IsChain before (x ∷ xs) → IsChain before xs
+  pub tail : (x : ℕ) (xs : List ℕ) → IsChain before (x ∷ xs) → IsChain before xs
   tail x [] c = tt
   tail x (y ∷ ys) c = c.1
 
@@ -73,13 +73,13 @@ pub record AreOnce (n : ℕ) (xs : List ℕ) : Type 0 where
   pub once : HasNoTwice xs
   pub below : (x : ℕ) → 1 ≤ times x xs → x < n
 
-fewer_once : (n : ℕ) (xs ys : List ℕ) → ((x : ℕ) → times x ys ≤ times x xs) → AreOnce n xs → AreOnce n ys
+pub fewer_once : (n : ℕ) (xs ys : List ℕ) → ((x : ℕ) → times x ys ≤ times x xs) → AreOnce n xs → AreOnce n ys
 fewer_once n xs ys h old = record {
   once = λ x. omega (arith, h x, old.once x);
   below = λ x l. old.below x (omega (arith, h x));
 }
 
-times-reverse : (x : ℕ) (xs : List ℕ) → times x (reverse xs) ≡ times x xs
+pub times-reverse : (x : ℕ) (xs : List ℕ) → times x (reverse xs) ≡ times x xs
 times-reverse x [] = refl
 times-reverse x (y ∷ xs) =
     ap (times x) (reverse-append (y ∷ []) xs) ∙ times_push x y (reverse xs) ∙ ap (λ k. k + one (y == x)) (times-reverse x xs)
@@ -94,14 +94,14 @@ times-begun_at x f xs =
     let both : times x (drop p xs ++ take p xs) ≡ times x (drop p xs) + times x (take p xs) = times-append x (drop p xs) (take p xs) in
     omega (arith, both, times_parts x p xs)
 
-times-begun : (x : ℕ) (xs : List ℕ) → times x (begun_with_least xs) ≡ times x xs
+pub times-begun : (x : ℕ) (xs : List ℕ) → times x (begun_with_least xs) ≡ times x xs
 times-begun x [] = refl
 times-begun x (y ∷ xs) = times-begun_at x (least_of y xs) (y ∷ xs)
 
 times_cons : (x y : ℕ) (xs : List ℕ) → times x (y ∷ xs) ≡ one (y == x) + times x xs
 times_cons x y xs = sum_by-cons (λ z. cond (z == x) 1 0) y xs
 
-at_least_one : (xs : List ℕ) (i : ℕ) → i < length xs → 1 ≤ times (get_or xs i 0) xs
+pub at_least_one : (xs : List ℕ) (i : ℕ) → i < length xs → 1 ≤ times (get_or xs i 0) xs
 at_least_one [] i h = absurd (omega arith)
 at_least_one (x ∷ xs) zero h = let here : one (x == x) ≡ 1 = ap one (eq-eqb x x refl) in omega (arith, here, times_cons x x xs)
 at_least_one (x ∷ xs) (suc i) h = omega (arith, at_least_one xs i (omega arith), times_cons (get_or xs i 0) x xs)
@@ -157,7 +157,7 @@ begun_head f xs h =
     let l = place_within f xs h in
     ap (λ ys. get_or (ys ++ take p xs) 0 0) (drop_more xs p 0 l) ∙ eqb-true (get_or xs p 0) f (passes_at_first (λ g. g == f) xs 0 l)
 
-begun_least : (xs : List ℕ) (place : ℕ) → place < length (begun_with_least xs) → get_or (begun_with_least xs) 0 0 ≤ get_or (begun_with_least xs) place 0
+pub begun_least : (xs : List ℕ) (place : ℕ) → place < length (begun_with_least xs) → get_or (begun_with_least xs) 0 0 ≤ get_or (begun_with_least xs) place 0
 begun_least [] place h = absurd (omega arith)
 begun_least (x ∷ xs) place h =
     let m = least_of x xs in
@@ -228,7 +228,7 @@ left_back n before = record {
   step = λ g l h. let s = left_steps_back n before g l (not-true _ h) in (s.0, (s.1.0, s.1.1, ap not s.1.2, s.1.3));
 }
 
-nothing_once : (n : ℕ) → AreOnce n []
+pub nothing_once : (n : ℕ) → AreOnce n []
 nothing_once n = record {
   once = λ x. let none : times x [] ≡ 0 = refl in omega (arith, none);
   below = λ x h. let none : times x [] ≡ 0 = refl in absurd (omega (arith, none));

@@ -1,15 +1,16 @@
 -- What holds of helpers in function files without check faults. [own]
-use Rattle.std.specs.Prelude.{◌≡◌, ◌↔◌, ℕ, ◌<◌, ◌≤◌, Bool, true, List, [], ◌∷◌, length, codes, Contains, ◌⊎◌, None, IsTrue}
+use Rattle.std.specs.Prelude.{◌≡◌, ℕ, ◌<◌, ◌≤◌, Bool, true, List, [], ◌∷◌, length, codes, Contains, Some, None, IsTrue}
 use Rattle.flame_spec.specs.declared.models.Model.{Model}
 use Rattle.flame_spec.specs.declared.trees.Unit as file
+use Rattle.flame_spec.specs.ModelOrder.{first_left}
 use Rattle.flame_ops.specs.Ascii.{capitals}
 use Rattle.flame_spec.specs.Trees.{Expression, name, get, field, field_at, Expressions, Assigned, call, Statements, loop_over}
 use Rattle.flame_spec.specs.Trees.{at as element}
 use Rattle.flame_spec.specs.Definitions.{helpers}
 use Rattle.flame_spec.specs.Scopes.{Context, Sight, is_local}
-use Rattle.flame_spec.specs.HelperFaults.{is_called_by, call_height}
+use Rattle.flame_spec.specs.HelperFaults.{is_called_by, call_cycle, call_height}
 use Rattle.flame_spec.specs.CheckFaults.{check_faults}
-use Rattle.flame_laws.specs.OrderLaws.{IsChain, IsRound, AreFunctions}
+use Rattle.flame_laws.specs.OrderLaws.{IsChain, IsRound, IsCycle, AreFunctions}
 use Rattle.flame_laws.specs.Parts.{Part, value, assigning, doing}
 use Rattle.flame_laws.specs.CheckLaws.{Everywhere, IsHelperCall}
 
@@ -79,6 +80,14 @@ HelpersOpenNoLoop =
 -- the helper of number g has a call of that of number h, of the helpers of these files
 abbrev pub calls_in : Model → List file.Unit → ℕ → ℕ → Bool
 calls_in model units g h = is_called_by model (helpers model units) h g
+
+-- where a helper is left over there is a cycle from caller to called helper, each once, begun with the first one in source
+-- order
+abbrev pub CallsComeRound : Type 0
+CallsComeRound =
+    (n : ℕ) (before : ℕ → ℕ → Bool) (g : ℕ)
+    → first_left n before ≡ Some g
+    → IsCycle n (λ caller called. before called caller) (call_cycle n before)
 
 -- helpers call each other in no round
 abbrev pub HelpersCallInNoRound : Type 0
