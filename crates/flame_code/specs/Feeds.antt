@@ -1,47 +1,60 @@
--- The messages that a function reads: the rows of each input, and a place in each.
-use Rattle.std.specs.Prelude.{ℕ, zero, suc, ◌+◌, ℤ, List, [], Bool, nat_lt, length}
-use Rattle.std.specs.Prelude.{Option, Some, None, option_and_then, slice_get, slice_set, slice_index, if◌then◌else◌}
+-- The messages that a function reads: for each of its inputs the rows, in order, and how many of them have come.
+use Rattle.std.specs.Prelude.{ℕ, zero, suc, ◌+◌, ℤ, List, Bool, false, nat_lt, length}
+use Rattle.std.specs.Prelude.{Option, None, option_and_then, slice_get, slice_set, if◌then◌else◌}
+use Rattle.std.specs.Option.{option_map_or}
 
--- the rows of each input, and how many of them have come
-pub record Feeds : Type 0 where
-  pub rows : List (List (List ℤ))
-  pub places : List ℕ
+-- ---- one input
 
--- a list, or none
-abbrev pub rows_or_none : Option (List (List ℤ)) → List (List ℤ)
-rows_or_none None = []
-rows_or_none (Some rows) = rows
+-- the rows of an input in order, and how many of them have come [libmboard]
+pub record Fed : Type 0 where
+  pub rows : List (List ℤ)
+  pub come : ℕ
 
--- the rows of an input
-abbrev pub rows_of : ℕ → Feeds → List (List ℤ)
-rows_of input feeds = rows_or_none (slice_get feeds.rows input)
+-- these rows, of which none has come [libmboard]
+abbrev pub not_begun : List (List ℤ) → Fed
+not_begun rows = record { rows = rows; come = 0 }
 
--- how many rows of an input have come
-abbrev pub place_of : ℕ → Feeds → ℕ
-place_of input feeds = slice_index feeds.places input
+-- the same rows, of which so many have come [own]
+abbrev pub with_come : ℕ → Fed → Fed
+with_come come fed = record { rows = fed.rows; come = come }
 
--- the same rows, with so many of one input having come
-abbrev pub with_place : ℕ → ℕ → Feeds → Feeds
-with_place input place feeds = record { rows = feeds.rows; places = slice_set feeds.places input place }
+-- a row is still to come [libmboard]
+abbrev pub has_more : Fed → Bool
+has_more fed = nat_lt fed.come (length fed.rows)
 
--- before the first row of an input
-abbrev pub at_start : ℕ → Feeds → Feeds
-at_start input feeds = with_place input 0 feeds
+-- with one more row that has come, or as it was where none is to come [libmboard]
+abbrev pub with_more : Fed → Fed
+with_more fed = if has_more fed then with_come (fed.come + 1) fed else fed
 
--- a row of the input is still to come
-abbrev pub has_next : ℕ → Feeds → Bool
-has_next input feeds = nat_lt (place_of input feeds) (length (rows_of input feeds))
+-- the last of the first so many rows [own]
+abbrev pub last_of : ℕ → List (List ℤ) → Option (List ℤ)
+last_of zero rows = None
+last_of (suc place) rows = slice_get rows place
 
--- at the next row of an input, or where it was when there is none
-abbrev pub at_next : ℕ → Feeds → Feeds
-at_next input feeds = if has_next input feeds then with_place input (place_of input feeds + 1) feeds else feeds
+-- the row that came last [libmboard]
+abbrev pub last_come : Fed → Option (List ℤ)
+last_come fed = last_of fed.come fed.rows
 
--- the row that came last, of those of which so many have come
-abbrev pub last_come : ℕ → List (List ℤ) → Option (List ℤ)
-last_come zero rows = None
-last_come (suc place) rows = slice_get rows place
+-- ---- the input of a number
 
--- the number in a column of the row of an input that came last
-abbrev pub field : ℕ → ℕ → Feeds → Option ℤ
+-- the same inputs, of which the one of this number is changed [own]
+abbrev pub with_input : (Fed → Fed) → ℕ → List Fed → List Fed
+with_input change input feeds =
+    option_map_or (λ fed. slice_set feeds input (change fed)) (slice_get feeds input) feeds
+
+-- before the first row of the input [libmboard]
+abbrev pub at_start : ℕ → List Fed → List Fed
+at_start input feeds = with_input (with_come 0) input feeds
+
+-- a row of the input is still to come [libmboard]
+abbrev pub has_next : ℕ → List Fed → Bool
+has_next input feeds = option_map_or has_more (slice_get feeds input) false
+
+-- at the next row of the input, or where it was when there is none [libmboard]
+abbrev pub at_next : ℕ → List Fed → List Fed
+at_next input feeds = with_input with_more input feeds
+
+-- the number in a column of the row of the input that came last [FLAME User Manual]
+abbrev pub field : ℕ → ℕ → List Fed → Option ℤ
 field input variable feeds =
-    option_and_then (λ row. slice_get row variable) (last_come (place_of input feeds) (rows_of input feeds))
+    option_and_then (λ row. slice_get row variable) (option_and_then last_come (slice_get feeds input))

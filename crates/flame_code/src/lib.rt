@@ -1,4 +1,6 @@
 //! What the code of transition functions runs on.
 #![tactic(auto)]
 
-pub mod feed;
+mod feeds;
+
+pub use feeds::Feed;

@@ -1,12 +1,18 @@
-//! Conditions of functions and filters of inputs, read once and then answered by columns.
+//! Conditions of functions, filters of inputs and keys of sorts, read once and then answered by columns.
 #![tactic(auto)]
 
-pub mod cond;
-pub mod filter;
+mod conditions;
+mod filters;
+mod forms;
+mod keys;
 mod names;
-pub mod period;
+mod numbers;
+mod periods;
 mod reading;
-pub mod sort;
-pub mod test;
 #[cfg(test)]
 mod tests;
+
+pub use conditions::Cond;
+pub use filters::Filter;
+pub use keys::SortBy;
+pub use numbers::number_at;

@@ -5,7 +5,7 @@ ghost use Rattle.flame_spec.specs.Columns.{column, width, width_of};
 ghost use Rattle.flame_spec.specs.TimeUnits.{unit_length};
 ghost use Rattle.flame_spec.specs.Conditions.{is_length};
 
-use crate::period::Period;
+use crate::periods::Period;
 use flame_rows::Text;
 use flame_spec::{TimeUnit, Variable};
 

@@ -6,10 +6,9 @@ ghost use Rattle.flame_spec.specs.Conditions.{IsReadable};
 ghost use Rattle.flame_cond.specs.Tests.{names, SaysOperand, SaysTruth};
 
 use crate::names::{column, period};
-use crate::test::{Term, Test};
-use flame_rows::NoMemory;
-use flame_spec::{Condition, Operand};
-use flame_spec::{TimeUnit, Variable};
+use crate::forms::{Term, Test};
+use flame_rows::{NoMemory, Part};
+use flame_spec::{Condition, Operand, TimeUnit, Variable};
 use std::alloc::Global;
 
 /// What is compared, by its column.
@@ -45,16 +44,16 @@ pub fn test(
         Condition::And(a, b) => {
             let left = test(alloc, a, memory, message, units)?;
             let right = test(alloc, b, memory, message, units)?;
-            Ok(Test::And(Box::new(alloc, left)?, Box::new(alloc, right)?))
+            Ok(Test::And(Part::of(alloc, left)?, Part::of(alloc, right)?))
         }
         Condition::Or(a, b) => {
             let left = test(alloc, a, memory, message, units)?;
             let right = test(alloc, b, memory, message, units)?;
-            Ok(Test::Or(Box::new(alloc, left)?, Box::new(alloc, right)?))
+            Ok(Test::Or(Part::of(alloc, left)?, Part::of(alloc, right)?))
         }
         Condition::Not(a) => {
             let inner = test(alloc, a, memory, message, units)?;
-            Ok(Test::Not(Box::new(alloc, inner)?))
+            Ok(Test::Not(Part::of(alloc, inner)?))
         }
         Condition::Time(unit, phase, duration) => Ok(Test::Time(
             period(units, unit),

@@ -1,6 +1,8 @@
 //! Boards that no message joins any more.
 #![tactic(auto)]
 
-pub mod frozen;
+mod boards;
 #[cfg(test)]
 mod tests;
+
+pub use boards::Frozen;

@@ -1,8 +1,7 @@
 //! Frozen boards, on values worked by hand.
 
-use crate::frozen::Frozen;
-use flame_rows::Bag;
-use flame_rows::Row;
+use crate::boards::Frozen;
+use flame_rows::{Bag, Row};
 use std::test::Fail;
 
 #[test]

@@ -6,9 +6,9 @@ use Rattle.flame_spec.specs.declared.models.AgentType.{AgentType}
 use Rattle.flame_spec.specs.declared.models.MessageType.{MessageType}
 use Rattle.flame_spec.specs.declared.models.Sort.{Sort}
 use Rattle.flame_spec.specs.Views.{is_read, key_of, view}
-use Rattle.flame_cond.specs.declared.sort.SortBy.{SortBy}
-use Rattle.flame_cond.specs.declared.test.Test.{Test}
-use Rattle.flame_cond.specs.Keys.{key_by}
+use Rattle.flame_cond.specs.declared.keys.SortBy.{SortBy}
+use Rattle.flame_cond.specs.declared.forms.Test.{Test}
+use Rattle.flame_cond.specs.Said.{key_by}
 use Rattle.flame_view.specs.Compiled.{is_read_by, IsFilterOf, IsKeyOf, ViewIsAsWritten}
 
 is_read-as_written : (agent : AgentType) (message : MessageType) (condition : Option Condition) (filter : Option Test) (memory : List ℤ)

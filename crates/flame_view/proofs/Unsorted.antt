@@ -7,7 +7,7 @@ use Rattle.flame_rows.specs.Order.{row_order}
 use Rattle.flame_rows.specs.Sorted.{IsBelowAll, IsAscending}
 use Rattle.flame_rows.proofs.BagLaws.{ascending-IsAscending}
 use Rattle.flame_spec.proofs.Viewed.{plain_view_is_board}
-use Rattle.flame_cond.specs.declared.test.Test.{Test}
+use Rattle.flame_cond.specs.declared.forms.Test.{Test}
 use Rattle.flame_view.specs.Compiled.{is_read_by, picked_by, view_by}
 
 module _ (p : List ℤ → Bool) where

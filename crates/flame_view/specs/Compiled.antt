@@ -5,11 +5,10 @@ use Rattle.flame_spec.specs.declared.conditions.Condition.{Condition}
 use Rattle.flame_spec.specs.declared.models.AgentType.{AgentType}
 use Rattle.flame_spec.specs.declared.models.MessageType.{MessageType}
 use Rattle.flame_spec.specs.declared.models.Sort.{Sort}
-use Rattle.flame_spec.specs.Views.{view, view_of, key_of}
-use Rattle.flame_cond.specs.declared.sort.SortBy.{SortBy}
-use Rattle.flame_cond.specs.declared.test.Test.{Test}
-use Rattle.flame_cond.specs.Tests.{passes, SaysFilter}
-use Rattle.flame_cond.specs.Keys.{key_by}
+use Rattle.flame_spec.specs.Views.{view, view_of}
+use Rattle.flame_cond.specs.declared.keys.SortBy.{SortBy}
+use Rattle.flame_cond.specs.declared.forms.Test.{Test}
+use Rattle.flame_cond.specs.Said.{passes, key_by, SaysFilter, SaysKey}
 
 -- which rows pass with this memory: without a filter all
 abbrev pub is_read_by : Option Test → List ℤ → List ℤ → Bool
@@ -35,7 +34,7 @@ IsFilterOf _ _ agent message = ⊥
 -- a key was read from the sort that is written, or there is neither
 abbrev pub IsKeyOf : Option SortBy → Option Sort → MessageType → Type 0
 IsKeyOf None None message = Unit {0}
-IsKeyOf (Some by) (Some sort) message = key_by by ≡ key_of message sort
+IsKeyOf (Some by) (Some sort) message = SaysKey by sort message
 IsKeyOf _ _ message = ⊥
 
 -- under a filter and a key that were read from what is written, the view by columns is the view by names

@@ -1,7 +1,7 @@
 use Rattle.std.proofs.Common.{◌<◌, ◌≤◌, length, arith, sym, ap, ◌∙◌}
 use Rattle.flame_code.specs.Feeds.{at_next, has_next}
 use Rattle.flame_view.proofs.Moving.{has_cursor, has_next-none, at_next-there, at_next-none}
-use Rattle.flame_view.proofs.views.ViewsFeed.advance.Goals as goal
+use Rattle.flame_view.proofs.inputs.ViewsFeed.advance.Goals as goal
 
 pub returns-then-cursor-len-clause-moved : goal.returns-then-cursor-len-clause-moved
 returns-then-cursor-len-clause-moved c =

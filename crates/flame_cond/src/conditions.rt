@@ -2,15 +2,12 @@
 
 ghost use Rattle.std.specs.Prelude.{◌≡◌, IfOk};
 ghost use Rattle.flame_spec.specs.Conditions.{IsReadable, agent_scope};
-ghost use Rattle.flame_cond.specs.Tests.{holds, SaysCondition};
+ghost use Rattle.flame_cond.specs.Said.{holds, SaysCondition};
 
+use crate::forms::Test;
 use crate::reading::test;
-use crate::test::Test;
-use flame_rows::NoMemory;
-use flame_rows::Row;
-use flame_rows::Seq;
-use flame_spec::Condition;
-use flame_spec::{AgentType, TimeUnit};
+use flame_rows::{NoMemory, Row, Seq};
+use flame_spec::{AgentType, Condition, TimeUnit};
 use std::alloc::Global;
 use std::marker::Model;
 
@@ -22,8 +19,8 @@ pub struct Cond {
 
 impl Model for Cond {
     ghost use Rattle.std.specs.Coded.{codes};
-    ghost use Rattle.flame_cond.specs.declared.test.Test.{Test};
-    ghost use Rattle.flame_cond.specs.contracts.test.Test as e;
+    ghost use Rattle.flame_cond.specs.declared.forms.Test.{Test};
+    ghost use Rattle.flame_cond.specs.contracts.forms.Test as e;
 
     ghost Value = { Test };
 

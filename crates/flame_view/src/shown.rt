@@ -4,15 +4,13 @@ ghost use Rattle.std.specs.Prelude.{◌≡◌, ◌<◌, length, map, slice_get, 
 ghost use Rattle.std.specs.Option.{option_copied};
 ghost use Rattle.flame_rows.specs.Sorted.{sorted_by};
 ghost use Rattle.flame_spec.specs.Views.{view_order};
-ghost use Rattle.flame_cond.specs.Keys.{key_by};
+ghost use Rattle.flame_cond.specs.Said.{key_by};
 ghost use Rattle.flame_view.specs.Compiled.{picked_by, view_by};
 
 use crate::order::compare;
-use flame_cond::filter::Filter;
-use flame_cond::sort::SortBy;
-use flame_index::frozen::Frozen;
-use flame_rows::NoMemory;
-use flame_rows::Row;
+use flame_cond::{Filter, SortBy};
+use flame_index::Frozen;
+use flame_rows::{NoMemory, Row};
 use std::alloc::Global;
 use std::cmp::Ordering;
 use std::marker::Model;
@@ -35,7 +33,7 @@ pub struct View<'a> {
 
 impl<'a> Model for View<'a> {
     ghost use Rattle.std.specs.Prelude.{List, ℤ};
-    ghost use Rattle.flame_view.specs.Shown.{rows_of_view};
+    ghost use Rattle.flame_view.specs.ViewRows.{rows_of_view};
 
     ghost Value = { List (List ℤ) };
 

@@ -1,10 +1,10 @@
 //! The views of all inputs of a function.
 
-ghost use Rattle.std.specs.Prelude.{◌≡◌, ◌+◌, ◌<◌, [], ◌∷◌, ◌++◌, length, nat_lt, slice_get, IsSome, Some, OnOk, OnErr, if◌then◌else◌};
-ghost use Rattle.flame_code.specs.Feeds.{at_start, has_next, at_next, field, last_come};
+ghost use Rattle.std.specs.Prelude.{◌≡◌, ◌<◌, [], ◌∷◌, ◌++◌, length, IsSome, Some, OnOk, OnErr};
+ghost use Rattle.flame_code.specs.Feeds.{at_start, has_next, at_next, field, not_begun};
 
-use crate::view::View;
-use flame_code::feed::Feed;
+use crate::shown::View;
+use flame_code::Feed;
 use flame_rows::NoMemory;
 use std::alloc::Global;
 use std::marker::Model;
@@ -23,10 +23,11 @@ pub struct Views<'a> {
 }
 
 impl<'a> Model for Views<'a> {
-    ghost use Rattle.flame_code.specs.Feeds.{Feeds};
+    ghost use Rattle.std.specs.Prelude.{List};
+    ghost use Rattle.flame_code.specs.Feeds.{Fed};
     ghost use Rattle.flame_view.specs.Cursors.{feeds_of};
 
-    ghost Value = { Feeds };
+    ghost Value = { List Fed };
 
     ghost view = { λ a. feeds_of a.cursors.items };
 }
@@ -34,8 +35,7 @@ impl<'a> Model for Views<'a> {
 impl<'a> Views<'a> {
     /// No view yet.
     pub fn new(alloc: Global) -> Views<'a>
-        ensures rows { result.rows ≡ [] }
-        ensures places { result.places ≡ [] }
+        ensures { result ≡ [] }
     {
         Views {
             cursors: Vec::new(alloc),
@@ -44,8 +44,7 @@ impl<'a> Views<'a> {
 
     /// Adds the view of the next input, before its first row.
     pub fn push(&mut self, view: View<'a>) -> Result<(), NoMemory>
-        ensures rows { OnOk result (self.new.rows ≡ self.old.rows ++ view.entry ∷ []) }
-        ensures places { OnOk result (self.new.places ≡ self.old.places ++ 0 ∷ []) }
+        ensures ok { OnOk result (self.new ≡ self.old ++ not_begun view.entry ∷ []) }
         ensures err { OnErr result (self.new ≡ self.old) }
     {
         self.cursors.push(Cursor { view, passed: 0 })?;

@@ -4,7 +4,7 @@ use Rattle.flame_rows.specs.Order.{row_order}
 use Rattle.flame_rows.specs.Sorted.{IsAscending}
 use Rattle.flame_view.specs.Compiled.{view_by}
 use Rattle.flame_view.proofs.Unsorted.{picked_is_view, board_is_view, option_copied-None}
-use Rattle.flame_view.proofs.view.View.new.Goals as goal
+use Rattle.flame_view.proofs.shown.View.new.Goals as goal
 
 pub returns-then-is_none : goal.returns-then-is_none
 returns-then-is_none c =

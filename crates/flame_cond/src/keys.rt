@@ -1,9 +1,8 @@
 //! Keys that the rows of an input are sorted by.
 
-ghost use Rattle.std.specs.Prelude.{◌≡◌, ◌<◌, ◌^◌};
+ghost use Rattle.std.specs.Prelude.{◌<◌, ◌^◌};
 ghost use Rattle.flame_spec.specs.Columns.{width};
-ghost use Rattle.flame_spec.specs.Views.{key_of};
-ghost use Rattle.flame_cond.specs.Keys.{key_by};
+ghost use Rattle.flame_cond.specs.Said.{SaysKey};
 
 use crate::names::column;
 use flame_spec::{MessageType, Sort};
@@ -21,7 +20,7 @@ impl SortBy {
     /// Reads the sort of an input of this message.
     pub fn of(sort: &Sort, message: &MessageType) -> SortBy
         requires { width message.now.variables < 2 ^ 32 }
-        ensures { key_by result ≡ key_of message.now sort.now }
+        ensures { SaysKey result sort.now message.now }
     {
         SortBy {
             variable: column(message.variables.items(), sort.key.as_str()),

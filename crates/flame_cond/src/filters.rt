@@ -2,14 +2,12 @@
 
 ghost use Rattle.std.specs.Prelude.{◌≡◌, IfOk};
 ghost use Rattle.flame_spec.specs.Conditions.{IsReadable, input_scope};
-ghost use Rattle.flame_cond.specs.Tests.{passes, SaysFilter};
+ghost use Rattle.flame_cond.specs.Said.{passes, SaysFilter};
 
+use crate::forms::Test;
 use crate::reading::test;
-use crate::test::Test;
-use flame_rows::NoMemory;
-use flame_rows::Row;
-use flame_spec::Condition;
-use flame_spec::{AgentType, MessageType};
+use flame_rows::{NoMemory, Row};
+use flame_spec::{AgentType, Condition, MessageType};
 use std::alloc::Global;
 use std::marker::Model;
 
@@ -21,8 +19,8 @@ pub struct Filter {
 
 impl Model for Filter {
     ghost use Rattle.std.specs.Coded.{codes};
-    ghost use Rattle.flame_cond.specs.declared.test.Test.{Test};
-    ghost use Rattle.flame_cond.specs.contracts.test.Test as e;
+    ghost use Rattle.flame_cond.specs.declared.forms.Test.{Test};
+    ghost use Rattle.flame_cond.specs.contracts.forms.Test as e;
 
     ghost Value = { Test };
 

@@ -1,12 +1,14 @@
-//! Tests of rows by columns.
+//! Forms of conditions by columns.
 
 ghost use Rattle.std.specs.Prelude.{◌≡◌, ℤ, pos, ◌+ℤ◌, ◌≤ℤ◌, ◌&&◌, int_le, int_lt};
 ghost use Rattle.std.specs.Int.{int_rem_euclid};
-ghost use Rattle.flame_spec.specs.Conditions.{number_at, compares, in_time};
+ghost use Rattle.flame_spec.specs.Conditions.{compares, in_time};
 ghost use Rattle.flame_cond.specs.Tests.{moment, term_value, answer};
 
-use crate::period::Period;
+use crate::numbers::number_at;
+use crate::periods::Period;
 use flame_ops::integers::Op;
+use flame_rows::Part;
 
 /// What a test compares.
 #[derive(Clone, Copy, Debug)]
@@ -25,29 +27,22 @@ pub enum Test {
     /// A comparison.
     Compare(Op, Term, Term),
     /// Both hold.
-    And(Box<Test>, Box<Test>),
+    And(Part<Test>, Part<Test>),
     /// One of the two holds, or both.
-    Or(Box<Test>, Box<Test>),
+    Or(Part<Test>, Part<Test>),
     /// The other does not hold.
-    Not(Box<Test>),
+    Not(Part<Test>),
     /// A time condition: the length of its unit, the phase, and the duration.
     Time(Period, Term, i32),
 }
 
-/// The number in the column, or 0 past the end of the row.
-fn number(row: &[i32], column: u32) -> i32
-    ensures { result ≡ number_at row.now column }
-{
-    row.get(column as usize).copied().unwrap_or(0)
-}
-
 fn value(term: Term, memory: &[i32], row: &[i32]) -> i32
-    ensures { result ≡ term_value term memory.now row.now }
+    ensures { (iteration : ℤ) → result ≡ term_value term (moment memory.now row.now iteration) }
 {
     match term {
         Term::Number(number) => number,
-        Term::Memory(column) => number(memory, column),
-        Term::Row(column) => number(row, column),
+        Term::Memory(column) => number_at(memory, column),
+        Term::Row(column) => number_at(row, column),
     }
 }
 

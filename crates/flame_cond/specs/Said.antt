@@ -1,0 +1,39 @@
+-- The promise: what was read holds, passes and sorts exactly as what is written does.
+use Rattle.std.specs.Prelude.{◌≡◌, ℤ, pos, List, [], Bool}
+use Rattle.flame_spec.specs.declared.conditions.Condition.{Condition}
+use Rattle.flame_spec.specs.declared.models.TimeUnit.{TimeUnit}
+use Rattle.flame_spec.specs.declared.models.AgentType.{AgentType}
+use Rattle.flame_spec.specs.declared.models.MessageType.{MessageType}
+use Rattle.flame_spec.specs.declared.models.Sort.{Sort}
+use Rattle.flame_spec.specs.Conditions.{condition_holds, filter_passes}
+use Rattle.flame_spec.specs.Views.{Key, key_of}
+use Rattle.flame_cond.specs.declared.forms.Test.{Test}
+use Rattle.flame_cond.specs.declared.keys.SortBy.{SortBy}
+use Rattle.flame_cond.specs.Tests.{moment, answer}
+
+-- whether the condition that was read holds of a memory in an iteration [FLAME User Manual]
+abbrev pub holds : Test → List ℤ → ℤ → Bool
+holds test memory iteration = answer test (moment memory [] iteration)
+
+-- whether a row passes the filter that was read, with a memory [XMML]
+abbrev pub passes : Test → List ℤ → List ℤ → Bool
+passes test memory row = answer test (moment memory row (pos 0))
+
+-- the key that was read: its column and its direction [libmboard]
+abbrev pub key_by : SortBy → Key
+key_by by = record { column = by.variable; descending = by.descending }
+
+-- what was read says what is written, of every memory in every iteration [own]
+abbrev pub SaysCondition : Test → Condition → AgentType → List TimeUnit → Type 0
+SaysCondition test condition agent units =
+    (memory : List ℤ) (iteration : ℤ)
+    → holds test memory iteration ≡ condition_holds agent units condition memory iteration
+
+-- what was read says what is written, of every memory and every row [own]
+abbrev pub SaysFilter : Test → Condition → AgentType → MessageType → Type 0
+SaysFilter test condition agent message =
+    (memory row : List ℤ) → passes test memory row ≡ filter_passes agent message condition memory row
+
+-- what was read is the key of the sort that is written [own]
+abbrev pub SaysKey : SortBy → Sort → MessageType → Type 0
+SaysKey by sort message = key_by by ≡ key_of message sort
