@@ -1,3 +1,5 @@
+pub mod FrameLemmas
+pub mod ScriptLemmas
 mod AnswerLemmas
 mod PutLemmas
 mod RaisedLemmas

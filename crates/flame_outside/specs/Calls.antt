@@ -1,5 +1,5 @@
 -- Calls that are numbered from 0, some of which are made to fail by their number.
-use Rattle.std.specs.Prelude.{ℕ, ◌+◌, ◌-◌, ◌^◌, Bool, ◌&&◌, ◌==◌, nat_lt, List, if◌then◌else◌}
+use Rattle.std.specs.Prelude.{ℕ, ◌+◌, ◌-◌, ◌^◌, Bool, ◌&&◌, ◌==◌, nat_lt, List, length, if◌then◌else◌}
 use Rattle.std.specs.List.{list_any}
 
 -- the numbers of the calls that fail, and how many calls were counted
@@ -14,6 +14,10 @@ last_number = 2 ^ 64 - 1
 -- whether the next call fails: its number is listed, and the counting has not stopped
 abbrev pub fails_next : Calls → Bool
 fails_next calls = nat_lt calls.counted last_number && list_any (λ number. number == calls.counted) calls.failing
+
+-- no call fails, ever
+abbrev pub never_fails : Calls → Bool
+never_fails calls = length calls.failing == 0
 
 -- one more call was made
 abbrev pub counted_on : Calls → Calls

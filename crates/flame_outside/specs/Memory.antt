@@ -1,8 +1,9 @@
 -- A depot and a sink in memory, and what each call makes of them.
-use Rattle.std.specs.Prelude.{ℕ, ◌+◌, ◌/◌, List, [], ◌++◌, length, take, sum_by}
+use Rattle.std.specs.Prelude.{ℕ, ◌+◌, ◌/◌, List, [], ◌++◌, length, take, sum_by, Some}
 use Rattle.std.specs.FinMap as map
 use Rattle.flame_outside.specs.Files.{Files}
-use Rattle.flame_outside.specs.Calls.{Calls, counted_on}
+use Rattle.flame_outside.specs.Devices.{SeenDepot, SeenSink}
+use Rattle.flame_outside.specs.Calls.{Calls, never_fails, counted_on}
 
 -- the first half, rounded down
 abbrev pub first_half : List ℕ → List ℕ
@@ -15,6 +16,15 @@ pub record DepotInMemory : Type 0 where
   pub read_faults : ℕ
   pub put_faults : ℕ
 
+-- what is seen of it: all its files and counts
+abbrev pub seen_depot : DepotInMemory → SeenDepot
+seen_depot depot = record {
+  files = Some depot.files;
+  read_faults = depot.read_faults;
+  put_faults = depot.put_faults;
+  calm = never_fails depot.calls;
+}
+
 -- no file and no call so far
 abbrev pub new_depot : List ℕ → DepotInMemory
 new_depot failing = record {
@@ -25,8 +35,8 @@ new_depot failing = record {
 }
 
 -- these bytes are the file of that name
-abbrev pub with_file : DepotInMemory → List ℕ → List ℕ → DepotInMemory
-with_file depot name bytes = record depot { files = map.insert depot.files name bytes }
+abbrev pub depot_with_file : DepotInMemory → List ℕ → List ℕ → DepotInMemory
+depot_with_file depot name bytes = record depot { files = map.insert depot.files name bytes }
 
 -- a call was made
 abbrev pub after_call : DepotInMemory → DepotInMemory
@@ -38,7 +48,7 @@ after_failed_read depot = record depot { calls = counted_on depot.calls; read_fa
 
 -- a put was made
 abbrev pub after_put : DepotInMemory → List ℕ → List ℕ → DepotInMemory
-after_put depot name bytes = after_call (with_file depot name bytes)
+after_put depot name bytes = after_call (depot_with_file depot name bytes)
 
 -- a put was made, and it failed: the first half of the bytes is the file
 abbrev pub after_failed_put : DepotInMemory → List ℕ → List ℕ → DepotInMemory
@@ -57,6 +67,10 @@ pub record SinkInMemory : Type 0 where
   pub written : List ℕ
   pub calls : Calls
   pub faults : ℕ
+
+-- what is seen of it: all its bytes and the count
+abbrev pub seen_sink : SinkInMemory → SeenSink
+seen_sink sink = record { written = Some sink.written; faults = sink.faults; calm = never_fails sink.calls }
 
 -- no byte and no call so far
 abbrev pub new_sink : List ℕ → SinkInMemory

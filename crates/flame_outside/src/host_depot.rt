@@ -80,15 +80,9 @@ fn write_file<T: Files + AllocGlobal>(rt: &T, name: &str, bytes: &[u8]) -> Resul
 }
 
 impl<'a, T: Files + AllocGlobal> Depot for HostDepot<'a, T> {
-    ghost use Rattle.std.specs.Prelude.{None};
+    ghost use Rattle.flame_outside.specs.Host.{seen_files};
 
-    ghost files = { λ _. None };
-
-    ghost read_faults = { λ depot. depot.reads };
-
-    ghost put_faults = { λ depot. depot.puts };
-
-    ghost never_fails = { λ _. ⊥ };
+    ghost seen = { seen_files };
 
     fn read(&mut self, name: &str, most: usize) -> Result<Got, ReadFail>
         ensures most { IfOk result (λ got. IfSome (bytes_of got) (λ bytes. length bytes ≤ most)) }

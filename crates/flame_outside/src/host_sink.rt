@@ -69,13 +69,9 @@ fn print_text<T: Eprint>(rt: &T, bytes: &[u8]) -> Result<(), WriteFail> {
 }
 
 impl<'a, T: Print + Eprint> Sink for HostSink<'a, T> {
-    ghost use Rattle.std.specs.Prelude.{None};
+    ghost use Rattle.flame_outside.specs.Host.{seen_stream};
 
-    ghost written = { λ _. None };
-
-    ghost faults = { λ faults. faults };
-
-    ghost never_fails = { λ _. ⊥ };
+    ghost seen = { seen_stream };
 
     fn write(&mut self, bytes: &[u8]) -> Result<(), WriteFail>
         ensures ok { OnOk result (self.new ≡ self.old) }

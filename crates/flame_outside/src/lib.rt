@@ -2,14 +2,23 @@
 #![tactic(auto)]
 
 mod calls;
-pub mod depot;
-pub mod gate;
-pub mod host_depot;
-pub mod host_sink;
-pub mod mem_depot;
-pub mod mem_sink;
+mod depot;
+mod gate;
+mod host_depot;
+mod host_sink;
+pub mod laws;
+mod mem_depot;
+mod mem_sink;
 mod named_files;
-pub mod sink;
+mod sink;
 #[cfg(test)]
 mod tests;
 mod transfer;
+
+pub use depot::{Depot, Got, PutFail, ReadFail};
+pub use gate::{Gate, OpenGate};
+pub use host_depot::HostDepot;
+pub use host_sink::HostSink;
+pub use mem_depot::MemDepot;
+pub use mem_sink::MemSink;
+pub use sink::{Sink, WriteFail};

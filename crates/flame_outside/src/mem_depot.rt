@@ -4,7 +4,7 @@ ghost use Rattle.std.specs.Prelude.{◌≡◌, ◌↔◌, IsTrue, IsFalse, IfOk,
 ghost use Rattle.std.specs.FinMap as map;
 ghost use Rattle.flame_outside.specs.Told.{bytes_of};
 ghost use Rattle.flame_outside.specs.Calls.{fails_next};
-ghost use Rattle.flame_outside.specs.Memory.{new_depot, with_file, after_call, after_failed_read, after_put, after_failed_put, total_of};
+ghost use Rattle.flame_outside.specs.Memory.{new_depot, depot_with_file, after_call, after_failed_read, after_put, after_failed_put, total_of};
 
 use crate::calls::NumberedCalls;
 use crate::depot::{Depot, Got, PutFail, ReadFail};
@@ -27,7 +27,7 @@ pub struct MemDepot {
 impl Model for MemDepot {
     ghost use Rattle.std.specs.Prelude.{◌+◌, ◌≤◌};
     ghost use Rattle.flame_outside.specs.Memory.{DepotInMemory};
-    ghost use Rattle.flame_outside.specs.Codes.{depot_code};
+    ghost use Rattle.flame_outside.specs.MemoryCodes.{depot_code};
 
     ghost Value = { DepotInMemory };
 
@@ -58,7 +58,7 @@ impl MemDepot {
 
     /// Makes these bytes the file of that name. It is not counted as a call.
     pub fn set(&mut self, name: &str, bytes: &[u8]) -> Result<(), NoMemory>
-        ensures ok { OnOk result (self.new ≡ with_file self.old name.now bytes.now) }
+        ensures ok { OnOk result (self.new ≡ depot_with_file self.old name.now bytes.now) }
         ensures err { OnErr result (self.new ≡ self.old) }
     {
         self.files.set(name, bytes)
@@ -80,15 +80,9 @@ impl MemDepot {
 }
 
 impl Depot for MemDepot {
-    ghost use Rattle.std.specs.Prelude.{◌≡◌, Some, []};
+    ghost use Rattle.flame_outside.specs.Memory.{seen_depot};
 
-    ghost files = { λ depot. Some depot.files };
-
-    ghost read_faults = { λ depot. depot.read_faults };
-
-    ghost put_faults = { λ depot. depot.put_faults };
-
-    ghost never_fails = { λ depot. depot.calls.failing ≡ [] };
+    ghost seen = { seen_depot };
 
     fn read(&mut self, name: &str, most: usize) -> Result<Got, ReadFail>
         ensures found { IfOk result (λ got. bytes_of got ≡ option_map (take most) (map.get self.old.files name.now)) }

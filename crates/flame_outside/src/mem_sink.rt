@@ -22,7 +22,7 @@ pub struct MemSink {
 impl Model for MemSink {
     ghost use Rattle.std.specs.Prelude.{◌≤◌};
     ghost use Rattle.flame_outside.specs.Memory.{SinkInMemory};
-    ghost use Rattle.flame_outside.specs.Codes.{sink_code};
+    ghost use Rattle.flame_outside.specs.MemoryCodes.{sink_code};
 
     ghost Value = { SinkInMemory };
 
@@ -54,13 +54,9 @@ impl MemSink {
 }
 
 impl Sink for MemSink {
-    ghost use Rattle.std.specs.Prelude.{◌≡◌, Some, []};
+    ghost use Rattle.flame_outside.specs.Memory.{seen_sink};
 
-    ghost written = { λ sink. Some sink.written };
-
-    ghost faults = { λ sink. sink.faults };
-
-    ghost never_fails = { λ sink. sink.calls.failing ≡ [] };
+    ghost seen = { seen_sink };
 
     fn write(&mut self, bytes: &[u8]) -> Result<(), WriteFail>
         ensures ok { OnOk result (self.new ≡ after_write self.old bytes.now) }

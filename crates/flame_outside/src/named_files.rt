@@ -21,7 +21,7 @@ pub struct NamedFiles {
 
 impl Model for NamedFiles {
     ghost use Rattle.flame_outside.specs.Files.{Files};
-    ghost use Rattle.flame_outside.specs.Codes.{files_code};
+    ghost use Rattle.flame_outside.specs.MemoryCodes.{files_code};
     ghost use Rattle.flame_outside.specs.Stored.{stored};
 
     ghost Value = { Files };

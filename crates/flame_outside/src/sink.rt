@@ -1,8 +1,10 @@
 //! Printed bytes.
 
-ghost use Rattle.std.specs.Prelude.{◌≡◌, ◌≢◌, ◌≤◌, ◌++◌, ℕ, List, Option, OnOk, option_map};
-ghost use Rattle.flame_outside.specs.Rose.{Rose};
-ghost use Rattle.flame_outside.specs.Bytes.{GrowsByFront};
+ghost use Rattle.std.specs.Prelude.{◌≡◌, OnOk};
+ghost use Rattle.flame_outside.specs.Devices.{SeenSink};
+ghost use Rattle.flame_outside.specs.Printed.{Prints, PrintsFront};
+ghost use Rattle.flame_outside.specs.Frames.{Grows};
+ghost use Rattle.flame_outside.specs.Failures.{WriteFailed};
 ghost use Rattle.flame_outside.specs.declared.sink.WriteFail.TheVariants as write_fail;
 
 use flame_rows::NoMemory;
@@ -29,29 +31,19 @@ impl From<NoMemory> for WriteFail {
 
 /// A place for bytes, one after another.
 pub trait Sink {
-    /// The bytes so far, where it tells them.
-    ghost written: { Self → Option (List ℕ) };
-
-    /// How many writes have failed. It never falls.
-    ghost faults: { Self → ℕ };
-
-    /// That no write will fail.
-    ghost never_fails: { Self → Type 0 };
+    /// What is seen of it: the bytes so far, where it tells them, how many writes have failed, and whether none will
+    /// fail. The count never falls.
+    ghost seen: { Self → SeenSink };
 
     /// Appends all bytes. A write that failed has appended a front of them.
     fn write(&mut self, bytes: &[u8]) -> Result<(), WriteFail>
-        ensures ok { OnOk result (written self.new ≡ option_map (λ told. told ++ bytes.now) (written self.old)) }
-        ensures failed { result ≡ Err WriteFail.Failed → Rose (faults self.old) (faults self.new) }
-        ensures front { result ≡ Err WriteFail.Failed → GrowsByFront bytes.now (written self.old) (written self.new) }
+        ensures ok { OnOk result (Prints bytes.now (seen self.old) (seen self.new)) }
+        ensures failed { result ≡ Err WriteFail.Failed → WriteFailed (seen self.old) (seen self.new) }
+        ensures front { result ≡ Err WriteFail.Failed → PrintsFront bytes.now (seen self.old) (seen self.new) }
 
         // Want of memory changes nothing.
-        ensures memory { result ≡ Err WriteFail.NoMemory → written self.new ≡ written self.old }
-        ensures memory_count { result ≡ Err WriteFail.NoMemory → faults self.new ≡ faults self.old }
+        ensures memory { result ≡ Err WriteFail.NoMemory → seen self.new ≡ seen self.old }
 
-        ensures count { faults self.old ≤ faults self.new }
-
-        // A sink that never fails.
-        ensures never_failed { never_fails self.old → result ≢ Err WriteFail.Failed }
-        ensures never_rises { never_fails self.old → faults self.new ≡ faults self.old }
-        ensures never_ends { never_fails self.old → never_fails self.new };
+        // Whatever it answers.
+        ensures grows { Grows (seen self.old) (seen self.new) };
 }

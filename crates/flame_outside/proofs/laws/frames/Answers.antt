@@ -1,0 +1,17 @@
+use Rattle.flame_outside.proofs.FrameLemmas.{nothing_done, parts_join, frames_go_on, failures_stay, calm_fails_not}
+use Rattle.flame_outside.proofs.laws.frames.Goals as goal
+
+pub returns-clause-nothing : goal.returns-clause-nothing
+returns-clause-nothing c = nothing_done
+
+pub returns-clause-join : goal.returns-clause-join
+returns-clause-join c = parts_join
+
+pub returns-clause-go_on : goal.returns-clause-go_on
+returns-clause-go_on c = frames_go_on
+
+pub returns-clause-failures : goal.returns-clause-failures
+returns-clause-failures c = failures_stay
+
+pub returns-clause-calm : goal.returns-clause-calm
+returns-clause-calm c = calm_fails_not

@@ -1,0 +1,29 @@
+//! Laws of what stays over some calls, and of scripts. A law is its contract: it computes nothing.
+
+ghost use Rattle.flame_outside.specs.FrameLaws.{NothingDone, PartsJoin, FramesGoOn, FailuresStay, CalmFailsNot};
+ghost use Rattle.flame_outside.specs.ScriptLaws.{NoActs, OneMoreAct, LoneActs, WholeScripts, ScriptsJoin, ReadsStandAside, CalmScripts};
+
+/// What is said of some calls holds where none is made, and of two parts together. A failure in a part is one in the
+/// whole, and nothing fails on a device that never fails.
+pub fn frames()
+    ensures nothing { NothingDone }
+    ensures join { PartsJoin }
+    ensures go_on { FramesGoOn }
+    ensures failures { FailuresStay }
+    ensures calm { CalmFailsNot }
+{}
+
+/// How a script comes to stand: act by act, and part by part.
+pub fn scripts()
+    ensures no_acts { NoActs }
+    ensures lone { LoneActs }
+    ensures one_more { OneMoreAct }
+    ensures whole { WholeScripts }
+    ensures join { ScriptsJoin }
+{}
+
+/// Reads leave a script as it stands, and no act of it fails on devices that never fail.
+pub fn quiet_scripts()
+    ensures reads { ReadsStandAside }
+    ensures calm { CalmScripts }
+{}
