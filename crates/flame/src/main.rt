@@ -1,10 +1,8 @@
 //! Runs agent models from the command line.
 #![tactic(auto)]
 
-use flame_outside::gate::OpenGate;
-use flame_outside::host_depot::HostDepot;
-use flame_outside::host_sink::HostSink;
-use flame_top::top::flame;
+use flame_outside::{HostDepot, HostSink, OpenGate};
+use flame_top::flame;
 use std::process::ExitCode;
 use std::{env, io};
 

@@ -1,13 +1,14 @@
 -- Frames begin with nothing done and join, and what failed in a part failed in the whole.
-use Rattle.std.proofs.Common.{◌≡◌, ◌≤◌, ℕ, List, [], ◌++◌, Option, Some, None, Bool, true, false, refl, sym, ap, ◌∙◌, arith, le_refl, append_assoc, append-nil, true≢false}
+use Rattle.std.proofs.Common.{◌≡◌, ◌≤◌, ℕ, List, [], ◌++◌, length, Option, Some, None, Bool, true, false, refl, sym, ap, ◌∙◌, arith, le_refl, append_assoc, append-nil, true≢false}
 use Rattle.std.specs.Prelude.{IsTrue, IsFalse}
+use Rattle.std.proofs.lemmas.List.{take_all}
 use Rattle.flame_outside.specs.Rose.{Rose_within}
 use Rattle.flame_outside.specs.Devices.{SeenDepot, SeenSink}
-use Rattle.flame_outside.specs.Printed.{with_bytes}
+use Rattle.flame_outside.specs.Printed.{with_bytes, Prints, PrintsFront}
 use Rattle.flame_outside.specs.Frames.{NeverFall, StaysCalm, OnlyReads, OnlyPuts, Grows}
 use Rattle.flame_outside.specs.Failures.{ReadFailed, PutFailed, WriteFailed}
 use Rattle.flame_outside.specs.Scripts.{Outside, outside, GoesOn}
-use Rattle.flame_outside.specs.FrameLaws.{NothingDone, PartsJoin, FramesGoOn, FailuresStay, CalmFailsNot}
+use Rattle.flame_outside.specs.FrameLaws.{WholeIsAFront, NothingDone, PartsJoin, FramesGoOn, FailuresStay, CalmFailsNot}
 
 -- ---- printed bytes
 
@@ -18,6 +19,15 @@ with_bytes-none (Some bytes) = ap Some (append-nil bytes)
 pub with_bytes-both : (x y : List ℕ) (written : Option (List ℕ)) → with_bytes y (with_bytes x written) ≡ with_bytes (x ++ y) written
 with_bytes-both x y None = refl
 with_bytes-both x y (Some bytes) = ap Some (append_assoc bytes x y)
+
+-- all of the bytes are a front of them
+pub prints_front : (bytes : List ℕ) (old new : SeenSink) → Prints bytes old new → PrintsFront bytes old new
+prints_front bytes old new prints = record {
+  count = length bytes;
+  appended =
+      prints
+      ∙ ap (λ front. with_bytes front old.written) (sym (take_all (length bytes) bytes (le_refl (length bytes))));
+}
 
 -- ---- nothing done
 
@@ -44,6 +54,9 @@ falls_same old = record { reads = le_refl old.read_faults; puts = le_refl old.pu
 
 pub goes_on_same : (old : Outside) → GoesOn old old
 goes_on_same old = record { counts = falls_same old.depot; calm = calm_same old.depot; output = grows_same old.output }
+
+pub whole_is_a_front : WholeIsAFront
+whole_is_a_front = prints_front
 
 pub nothing_done : NothingDone
 nothing_done = record { reads = reads_same; puts = puts_same; writes = grows_same; all = goes_on_same }
@@ -136,6 +149,10 @@ read_last old mid new counts calm failed = record {
   rose = Rose_within old.read_faults mid.read_faults new.read_faults new.read_faults counts.reads (le_refl new.read_faults) failed.rose;
   not_calm = not_calm_before old.calm mid.calm calm.stays failed.not_calm;
 }
+
+-- a read that failed behind reads
+pub read_behind : (old mid new : SeenDepot) → OnlyReads old mid → ReadFailed mid new → ReadFailed old new
+read_behind old mid new only = read_last old mid new (reads_fall old mid only) only.calm
 
 pub put_last : (old mid new : SeenDepot) → NeverFall old mid → StaysCalm old mid → PutFailed mid new → PutFailed old new
 put_last old mid new counts calm failed = record {

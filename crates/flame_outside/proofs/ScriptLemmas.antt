@@ -3,12 +3,12 @@ use Rattle.std.proofs.Common.{◌≡◌, ◌+◌, ◌≤◌, ◌⊎◌, ℕ, zer
 use Rattle.std.specs.Prelude.{IsTrue}
 use Rattle.std.proofs.Math.Seq.{take-append-add, drop-append-add}
 use Rattle.std.proofs.lemmas.List.{take-append-le, drop-append-le, take_all, drop_all}
-use Rattle.flame_outside.specs.Files.{Files, OthersStay}
+use Rattle.flame_outside.specs.Files.{Files, with_file, OthersStay}
 use Rattle.flame_outside.specs.Devices.{SeenDepot, SeenSink}
-use Rattle.flame_outside.specs.Printed.{PrintsFront}
+use Rattle.flame_outside.specs.Printed.{Prints, PrintsFront}
 use Rattle.flame_outside.specs.Frames.{OnlyReads}
 use Rattle.flame_outside.specs.Failures.{PutFailed, WriteFailed}
-use Rattle.flame_outside.specs.Scripts.{Act, puts, prints, Outside, outside, Told, told, after_act, after_acts, StandsWhole, BreaksOff, StandsAt, Failed, FailsAt, GoesOn}
+use Rattle.flame_outside.specs.Scripts.{Act, puts, prints, puts_in, Outside, outside, Told, told, after_act, after_acts, StandsWhole, BreaksOff, StandsAt, Failed, FailsAt, GoesOn}
 use Rattle.flame_outside.specs.ScriptLaws.{NoActs, OneMoreAct, LoneActs, WholeScripts, ScriptsJoin, ReadsStandAside, CalmScripts}
 use Rattle.flame_outside.proofs.FrameLemmas.{put_last, put_first, write_last, write_first, reads_go_on, goes_on_same}
 
@@ -128,6 +128,18 @@ one_more_act = record {
 abbrev both : Option Files → Option (List ℕ) → Told
 both files written = record { files = files; written = written }
 
+pub put_stands :
+    (name bytes : List ℕ) (old new : SeenDepot) (out : SeenSink)
+    → new.files ≡ with_file name bytes old.files
+    → StandsWhole (puts name bytes ∷ []) (outside old out) (outside new out)
+put_stands name bytes old new out is = ap (λ files. both files out.written) is
+
+pub print_stands :
+    (text : List ℕ) (depot : SeenDepot) (old new : SeenSink)
+    → Prints text old new
+    → StandsWhole (prints text ∷ []) (outside depot old) (outside depot new)
+print_stands text depot old new is = ap (λ written. both depot.files written) is
+
 pub failed_put :
     (name bytes : List ℕ) (acts : List Act) (old new : SeenDepot) (out : SeenSink)
     → PutFailed old new
@@ -150,8 +162,8 @@ failed_print text acts depot old new failed front = record {
 
 pub lone_acts : LoneActs
 lone_acts = record {
-  put = λ name bytes old new out is. ap (λ files. both files out.written) is;
-  print = λ text depot old new is. ap (λ written. both depot.files written) is;
+  put = put_stands;
+  print = print_stands;
   failed_put = λ name bytes acts old new out failed others. (
     failed_put name bytes acts old new out failed others,
     record { rest = acts; next = refl; failed = failed },
@@ -188,12 +200,12 @@ first_stand acts done old new few whole = record { few = few; stands = inl whole
 all_taken : (acts : List Act) → take (length acts) acts ≡ acts
 all_taken acts = take_all (length acts) acts (le_refl (length acts))
 
-all_stand : (acts : List Act) (old new : Outside) → StandsWhole acts old new → StandsAt acts (length acts) old new
+pub all_stand : (acts : List Act) (old new : Outside) → StandsWhole acts old new → StandsAt acts (length acts) old new
 all_stand acts old new whole =
     first_stand acts (length acts) old new (le_refl (length acts))
     (whole ∙ ap (λ taken. after_acts taken (told old)) (sym (all_taken acts)))
 
-stands_all : (acts : List Act) (old new : Outside) → StandsAt acts (length acts) old new → StandsWhole acts old new
+pub stands_all : (acts : List Act) (old new : Outside) → StandsAt acts (length acts) old new → StandsWhole acts old new
 stands_all acts old new s =
     whole s.stands ∙ ap (λ taken. after_acts taken (told old)) (all_taken acts)
   where
@@ -279,8 +291,14 @@ second_fails acts more done act old mid new on f = record {
   failed = failed_later act old mid new on f.failed;
 }
 
+pub puts_in-append : (acts more : List Act) → puts_in (acts ++ more) ≡ puts_in acts + puts_in more
+puts_in-append [] more = omega arith
+puts_in-append (puts name bytes ∷ acts) more = let rest = puts_in-append acts more in omega (arith, rest)
+puts_in-append (prints text ∷ acts) more = puts_in-append acts more
+
 pub scripts_join : ScriptsJoin
 scripts_join = record {
+  puts = puts_in-append;
   whole = whole_join;
   first = first_of_two;
   first_fails = first_fails;

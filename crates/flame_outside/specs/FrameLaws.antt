@@ -1,9 +1,14 @@
 -- What holds of frames: they begin with nothing done, they join, and a failure in a part is one in the whole.
-use Rattle.std.specs.Prelude.{IsTrue}
+use Rattle.std.specs.Prelude.{ℕ, List, IsTrue}
 use Rattle.flame_outside.specs.Devices.{SeenDepot, SeenSink}
+use Rattle.flame_outside.specs.Printed.{Prints, PrintsFront}
 use Rattle.flame_outside.specs.Frames.{NeverFall, StaysCalm, OnlyReads, OnlyPuts, Grows}
 use Rattle.flame_outside.specs.Failures.{ReadFailed, PutFailed, WriteFailed}
 use Rattle.flame_outside.specs.Scripts.{Outside, outside, GoesOn}
+
+-- what was printed whole was printed by a front [own]
+abbrev pub WholeIsAFront : Type 0
+WholeIsAFront = (bytes : List ℕ) (old new : SeenSink) → Prints bytes old new → PrintsFront bytes old new
 
 -- where nothing is done, each frame holds [own]
 pub record NothingDone : Type 0 where

@@ -5,7 +5,7 @@ use Rattle.flame_outside.specs.Devices.{SeenDepot, SeenSink}
 use Rattle.flame_outside.specs.Printed.{Prints, PrintsFront}
 use Rattle.flame_outside.specs.Frames.{OnlyReads}
 use Rattle.flame_outside.specs.Failures.{PutFailed, WriteFailed}
-use Rattle.flame_outside.specs.Scripts.{Act, puts, prints, Outside, outside, told, StandsWhole, StandsAt, FailsAt, GoesOn}
+use Rattle.flame_outside.specs.Scripts.{Act, puts, prints, puts_in, Outside, outside, told, StandsWhole, StandsAt, FailsAt, GoesOn}
 
 -- where nothing is told to have changed, no act of the script stands; of a script of no acts nothing else can stand [own]
 pub record NoActs : Type 0 where
@@ -61,6 +61,7 @@ pub record WholeScripts : Type 0 where
 
 -- two scripts after one another: what stands of the first alone, or of the second behind the whole first [own]
 pub record ScriptsJoin : Type 0 where
+  pub puts : (acts more : List Act) → puts_in (acts ++ more) ≡ puts_in acts + puts_in more
   pub whole :
       (acts more : List Act) (old mid new : Outside)
       → StandsWhole acts old mid

@@ -1,5 +1,5 @@
 -- A script: what a run does to the outside, act by act, and what stands of it where it ends, at its end or early.
-use Rattle.std.specs.Prelude.{◌≡◌, ◌≤◌, ◌⊎◌, ℕ, List, [], ◌∷◌, length, take, drop, Option}
+use Rattle.std.specs.Prelude.{◌≡◌, ◌≤◌, ◌⊎◌, ℕ, suc, List, [], ◌∷◌, length, take, drop, Option}
 use Rattle.flame_outside.specs.Files.{Files, with_file, OthersStay}
 use Rattle.flame_outside.specs.Devices.{SeenDepot, SeenSink}
 use Rattle.flame_outside.specs.Printed.{with_bytes}
@@ -10,6 +10,12 @@ use Rattle.flame_outside.specs.Failures.{PutFailed, WriteFailed}
 pub data Act : Type 0 where
   puts : (name bytes : List ℕ) → Act
   prints : (text : List ℕ) → Act
+
+-- how many of these acts are puts [own]
+abbrev pub puts_in : List Act → ℕ
+puts_in [] = 0
+puts_in (puts name bytes ∷ acts) = suc (puts_in acts)
+puts_in (prints text ∷ acts) = puts_in acts
 
 -- what a script acts on: a depot and an output [own]
 pub record Outside : Type 0 where

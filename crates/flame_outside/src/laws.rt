@@ -1,11 +1,12 @@
 //! Laws of what stays over some calls, and of scripts. A law is its contract: it computes nothing.
 
-ghost use Rattle.flame_outside.specs.FrameLaws.{NothingDone, PartsJoin, FramesGoOn, FailuresStay, CalmFailsNot};
+ghost use Rattle.flame_outside.specs.FrameLaws.{WholeIsAFront, NothingDone, PartsJoin, FramesGoOn, FailuresStay, CalmFailsNot};
 ghost use Rattle.flame_outside.specs.ScriptLaws.{NoActs, OneMoreAct, LoneActs, WholeScripts, ScriptsJoin, ReadsStandAside, CalmScripts};
 
 /// What is said of some calls holds where none is made, and of two parts together. A failure in a part is one in the
 /// whole, and nothing fails on a device that never fails.
 pub fn frames()
+    ensures front { WholeIsAFront }
     ensures nothing { NothingDone }
     ensures join { PartsJoin }
     ensures go_on { FramesGoOn }

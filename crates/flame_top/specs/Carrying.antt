@@ -1,10 +1,11 @@
 -- What the ending of an order tells, and what it takes to come to it.
-use Rattle.std.specs.Prelude.{◌≡◌, ℕ, List, Option, Some, None}
+use Rattle.std.specs.Prelude.{Option, Some, None}
 use Rattle.flame_outside.specs.Files.{Files}
-use Rattle.flame_top.specs.declared.early.Early.{Early}
-use Rattle.flame_top.specs.declared.early.Early.TheVariants.{Words, Missing, NotJson, NotBuilt}
+use Rattle.flame_outside.specs.Failures.{ReadFailed, PutFailed, WriteFailed}
+use Rattle.flame_outside.specs.Scripts.{Outside}
+use Rattle.flame_top.specs.declared.early.Early.TheVariants.{Words}
 use Rattle.flame_top.specs.declared.ending.Ending.{Ending}
-use Rattle.flame_top.specs.declared.ending.Ending.TheVariants.{Done, Refused, Faulted, ReadFault, FileFault, OutputFault, NoMemory}
+use Rattle.flame_top.specs.declared.ending.Ending.TheVariants.{Refused, ReadFault, FileFault, OutputFault}
 use Rattle.flame_top.specs.Orders.{Run}
 use Rattle.flame_top.specs.Loading.{IsReached}
 
@@ -14,12 +15,12 @@ IsDriven (Refused early) = ⊥
 IsDriven (ReadFault name) = ⊥
 IsDriven ending = Unit {0}
 
--- a failed read, put or write is answered only where its count rose
-abbrev pub IsCaused : Ending → Type 0 → Type 0 → Type 0 → Type 0
-IsCaused (ReadFault name) reads puts writes = reads
-IsCaused (FileFault name) reads puts writes = puts
-IsCaused OutputFault reads puts writes = writes
-IsCaused ending reads puts writes = Unit {0}
+-- a device is blamed only where it failed
+abbrev pub IsCaused : Ending → Outside → Outside → Type 0
+IsCaused (ReadFault name) old new = ReadFailed old.depot new.depot
+IsCaused (FileFault name) old new = PutFailed old.depot new.depot
+IsCaused OutputFault old new = WriteFailed old.output new.output
+IsCaused ending old new = Unit {0}
 
 abbrev pub RefusesWords : Ending → Type 0
 RefusesWords (Refused Words) = Unit {0}

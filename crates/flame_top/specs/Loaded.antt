@@ -1,9 +1,9 @@
 -- What loading answers: the inputs, the refusal of one, or why an input could not be told.
 use Rattle.std.specs.Prelude.{◌≡◌, List, ℕ, Result, Ok, Err}
 use Rattle.flame_top.specs.declared.early.Early.{Early}
-use Rattle.flame_top.specs.declared.early.Early.TheVariants.{Words, Missing, NotJson, NotBuilt}
+use Rattle.flame_top.specs.declared.early.Early.TheVariants.{Words}
 use Rattle.flame_top.specs.declared.ending.Ending.{Ending}
-use Rattle.flame_top.specs.declared.ending.Ending.TheVariants.{Done, Refused, Faulted, ReadFault, FileFault, OutputFault, NoMemory}
+use Rattle.flame_top.specs.declared.ending.Ending.TheVariants.{Refused, ReadFault, NoMemory}
 
 -- a refusal of an input, not of the words
 abbrev pub RefusesInput : Early → Type 0

@@ -1,7 +1,6 @@
 -- The report of a command line over some files: what is written, printed and answered.
-use Rattle.std.specs.Prelude.{ℕ, List, [], ◌∷◌, ◌++◌, map, codes, Option, Some, None, Result, Ok, Err, String, string_bytes}
+use Rattle.std.specs.Prelude.{ℕ, List, ◌++◌, map, codes, Option, Some, None, Result, Ok, Err, String, string_bytes}
 use Rattle.std.specs.declared.alloc.Global.{Global}
-use Rattle.std.specs.FinMap.{insert}
 use Rattle.flame_outside.specs.Files.{Files}
 use Rattle.flame_top.specs.NarrowRuns.{Report, ended, run}
 use Rattle.flame_top.specs.declared.early.Early.{Early}
@@ -37,8 +36,3 @@ order_report told (Some order) = run_report order (inputs_of told order)
 
 abbrev pub report : List (String Global) → Files → Report
 report words told = order_report told (order_of (map string_bytes words))
-
--- the files, with some set one after another
-abbrev pub set_all : List (List ℕ × List ℕ) → Files → Files
-set_all [] told = told
-set_all (file ∷ files) told = set_all files (insert told file.0 file.1)

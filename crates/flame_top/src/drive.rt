@@ -1,27 +1,26 @@
 //! A run, iteration by iteration.
 
-ghost use Rattle.std.specs.Prelude.{◌≡◌, ◌≤◌, ◌<◌, ◌+◌, ◌++◌, ℤ, List, IfOk, IfErr, OnOk, option_map, Ok};
-ghost use Rattle.std.specs.FinMap as map;
-ghost use Rattle.flame_outside.specs.Rose.{Rose};
-ghost use Rattle.flame_outside.specs.Files.{OthersStay};
-ghost use Rattle.flame_outside.specs.Bytes.{GrowsByFront};
+ghost use Rattle.std.specs.Prelude.{◌≡◌, ◌≤◌, ◌+◌, ℤ, List, IfOk, IfErr, OnOk, Ok};
+ghost use Rattle.flame_outside.specs.Files.{with_file, OthersStay};
+ghost use Rattle.flame_outside.specs.Printed.{Prints};
+ghost use Rattle.flame_outside.specs.Frames.{OnlyPuts, Grows};
+ghost use Rattle.flame_outside.specs.Scripts.{outside, StandsWhole};
 ghost use Rattle.flame_top.specs.NarrowMeaning.{iteration};
 ghost use Rattle.flame_top.specs.RunTexts.{file_name, file_text, line_text};
-ghost use Rattle.flame_top.specs.NarrowRuns.{Report, after_turn, run};
-ghost use Rattle.flame_top.specs.Standing.{IsFileFault, IsOutputFault, Stands, seen};
+ghost use Rattle.flame_top.specs.NarrowRuns.{Report, turn_acts, after_turn, run};
+ghost use Rattle.flame_top.specs.Standing.{Stands};
 ghost use Rattle.flame_top.specs.Carrying.{IsDriven};
 ghost use Rattle.flame_top.specs.Turns.{StopsRun, StopsPut, StopsLine};
 
 use crate::ending::{Carried, Ending};
 use crate::meaning::iteration;
+use crate::model::NarrowModel;
+use crate::source::Sum;
+use crate::start::Start;
 use crate::texts;
-use flame_outside::depot::{Depot, PutFail};
-use flame_outside::sink::{Sink, WriteFail};
+use flame_outside::{Depot, PutFail, Sink, WriteFail};
 use flame_rows::Bag;
 use flame_rows::Text;
-use crate::model::NarrowModel;
-use crate::start::Start;
-use crate::source::Sum;
 use std::alloc::Global;
 
 /// What a run goes by: the model, the assignments of its function, and what the names of its files begin with.
@@ -55,19 +54,12 @@ fn put_file<D: Depot>(
     agents: &Bag,
     depot: &mut D,
 ) -> Result<(), Ending>
-    ensures ok { OnOk result (D.files depot.new ≡ option_map (λ told.
-        map.insert told (file_name plan.entry.out.now itno) (file_text plan.entry.model.now itno agents.now))
-        (D.files depot.old)) }
-    ensures stops { IfErr result (StopsPut (file_name plan.entry.out.now itno)
-        (Rose (D.put_faults depot.old) (D.put_faults depot.new))
-        (D.files depot.new ≡ D.files depot.old)) }
-
-    ensures others_stay { OthersStay (file_name plan.entry.out.now itno) (D.files depot.old) (D.files depot.new) }
-    ensures count { D.put_faults depot.old ≤ D.put_faults depot.new }
-    ensures reads_stay { D.read_faults depot.new ≡ D.read_faults depot.old }
-    ensures calm { D.never_fails depot.old → IfErr result (λ ending. ¬ IsFileFault ending) }
-    ensures calm_count { D.never_fails depot.old → D.put_faults depot.new ≡ D.put_faults depot.old }
-    ensures stays_calm { D.never_fails depot.old → D.never_fails depot.new }
+    ensures ok { OnOk result ((D.seen depot.new).files ≡ with_file (file_name plan.entry.out.now itno)
+        (file_text plan.entry.model.now itno agents.now) (D.seen depot.old).files) }
+    ensures stops { IfErr result
+        (StopsPut (file_name plan.entry.out.now itno) (D.seen depot.old) (D.seen depot.new)) }
+    ensures others { OthersStay (file_name plan.entry.out.now itno) (D.seen depot.old).files (D.seen depot.new).files }
+    ensures puts { OnlyPuts (D.seen depot.old) (D.seen depot.new) }
 {
     let name = texts::file_name(alloc, plan.out, itno)?;
     let text = texts::file(alloc, plan.model, itno, agents.rows())?;
@@ -80,16 +72,9 @@ fn put_file<D: Depot>(
 
 /// Prints the line of an iteration.
 fn print_line<S: Sink>(alloc: Global, itno: u32, agents: &Bag, out: &mut S) -> Result<(), Ending>
-    ensures ok { OnOk result (S.written out.new
-        ≡ option_map (λ told. told ++ line_text itno agents.now) (S.written out.old)) }
-    ensures stops { IfErr result (StopsLine
-        (Rose (S.faults out.old) (S.faults out.new)
-        × GrowsByFront (line_text itno agents.now) (S.written out.old) (S.written out.new))
-        (S.written out.new ≡ S.written out.old)) }
-    ensures count { S.faults out.old ≤ S.faults out.new }
-    ensures calm { S.never_fails out.old → IfErr result (λ ending. ¬ IsOutputFault ending) }
-    ensures calm_count { S.never_fails out.old → S.faults out.new ≡ S.faults out.old }
-    ensures stays_calm { S.never_fails out.old → S.never_fails out.new }
+    ensures ok { OnOk result (Prints (line_text itno agents.now) (S.seen out.old) (S.seen out.new)) }
+    ensures stops { IfErr result (StopsLine (line_text itno agents.now) (S.seen out.old) (S.seen out.new)) }
+    ensures grows { Grows (S.seen out.old) (S.seen out.new) }
 {
     let line = texts::line(alloc, itno, agents.rows())?;
     match out.write(line.as_bytes()) {
@@ -109,26 +94,16 @@ fn turn<D: Depot, S: Sink>(
     out: &mut S,
 ) -> Result<Bag, Carried>
     ensures next { IfOk result (λ next. iteration plan.entry.sums.now agents.now ≡ Ok next) }
-    ensures file { IfOk result (λ next. D.files depot.new ≡ option_map (λ told.
-        map.insert told (file_name plan.entry.out.now itno) (file_text plan.entry.model.now itno next))
-        (D.files depot.old)) }
-    ensures line { IfOk result (λ next.
-        S.written out.new ≡ option_map (λ told. told ++ line_text itno next) (S.written out.old)) }
+    ensures whole { IfOk result (λ next. StandsWhole
+        (turn_acts plan.entry.model.now plan.entry.out.now itno next)
+        (outside (D.seen depot.old) (S.seen out.old)) (outside (D.seen depot.new) (S.seen out.new))) }
     ensures stops { IfErr result (λ carried. (rest : List (List ℤ) → Report) → Stands carried.ending carried.files
         (after_turn plan.entry.model.now plan.entry.out.now itno (iteration plan.entry.sums.now agents.now) rest)
-        (seen (D.files depot.old) (S.written out.old) (D.put_faults depot.old) (S.faults out.old))
-        (seen (D.files depot.new) (S.written out.new) (D.put_faults depot.new) (S.faults out.new))) }
+        (outside (D.seen depot.old) (S.seen out.old)) (outside (D.seen depot.new) (S.seen out.new))) }
     ensures few { IfErr result (λ carried. carried.files ≤ 1) }
     ensures driven { IfErr result (λ carried. IsDriven carried.ending) }
-    ensures put_count { D.put_faults depot.old ≤ D.put_faults depot.new }
-    ensures output_count { S.faults out.old ≤ S.faults out.new }
-    ensures reads_stay { D.read_faults depot.new ≡ D.read_faults depot.old }
-    ensures puts_calm { D.never_fails depot.old → IfErr result (λ carried. ¬ IsFileFault carried.ending) }
-    ensures puts_calm_count { D.never_fails depot.old → D.put_faults depot.new ≡ D.put_faults depot.old }
-    ensures puts_stay_calm { D.never_fails depot.old → D.never_fails depot.new }
-    ensures writes_calm { S.never_fails out.old → IfErr result (λ carried. ¬ IsOutputFault carried.ending) }
-    ensures writes_calm_count { S.never_fails out.old → S.faults out.new ≡ S.faults out.old }
-    ensures writes_stay_calm { S.never_fails out.old → S.never_fails out.new }
+    ensures puts { OnlyPuts (D.seen depot.old) (D.seen depot.new) }
+    ensures grows { Grows (S.seen out.old) (S.seen out.new) }
 {
     let next = match next_agents(alloc, plan, itno, agents) {
         Ok(next) => next,
@@ -155,18 +130,10 @@ pub(crate) fn drive<D: Depot, S: Sink>(
     requires { start.itno + turns ≤ 2147483647 }
     ensures stands { Stands result.ending result.files
         (run plan.entry.model.now plan.entry.sums.now plan.entry.out.now turns start.itno start.agents)
-        (seen (D.files depot.old) (S.written out.old) (D.put_faults depot.old) (S.faults out.old))
-        (seen (D.files depot.new) (S.written out.new) (D.put_faults depot.new) (S.faults out.new)) }
+        (outside (D.seen depot.old) (S.seen out.old)) (outside (D.seen depot.new) (S.seen out.new)) }
     ensures driven { IsDriven result.ending }
-    ensures puts { D.put_faults depot.old ≤ D.put_faults depot.new }
-    ensures writes { S.faults out.old ≤ S.faults out.new }
-    ensures reads_stay { D.read_faults depot.new ≡ D.read_faults depot.old }
-    ensures puts_calm { D.never_fails depot.old → ¬ IsFileFault result.ending }
-    ensures puts_calm_count { D.never_fails depot.old → D.put_faults depot.new ≡ D.put_faults depot.old }
-    ensures puts_stay_calm { D.never_fails depot.old → D.never_fails depot.new }
-    ensures writes_calm { S.never_fails out.old → ¬ IsOutputFault result.ending }
-    ensures writes_calm_count { S.never_fails out.old → S.faults out.new ≡ S.faults out.old }
-    ensures writes_stay_calm { S.never_fails out.old → S.never_fails out.new }
+    ensures puts { OnlyPuts (D.seen depot.old) (D.seen depot.new) }
+    ensures grows { Grows (S.seen out.old) (S.seen out.new) }
 {
     let Start { itno, agents } = start;
     let mut agents = agents;

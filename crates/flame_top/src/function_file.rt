@@ -7,13 +7,13 @@ ghost use Rattle.flame_spec.specs.Names.{is_word_byte};
 ghost use Rattle.flame_top.specs.NarrowPieces.{pieces_of, tokens_from, tokens_of};
 ghost use Rattle.flame_top.specs.NarrowReading.{after_texts, has_leading_zero, is_numeral, number_after, number_of, operand_of, op_of, sign_of, links_of, sum_of, value_of, assignments_of, body_of, source_of};
 
+use crate::model::NarrowModel;
 use crate::names::is_word_byte;
+use crate::source::{Link, Operand, Sum};
 use crate::words::has_digits;
 use flame_ops::integers::Op;
 use flame_rows::NoMemory;
 use flame_rows::Seq;
-use crate::model::NarrowModel;
-use crate::source::{Link, Operand, Sum};
 use std::alloc::Global;
 use std::marker::Model;
 

@@ -3,22 +3,24 @@
 
 mod carry;
 mod drive;
-pub mod early;
-pub mod ending;
+mod early;
+mod ending;
 mod function_file;
 pub mod laws;
 mod load;
 mod meaning;
-pub mod model;
+mod model;
 mod names;
 mod narrow;
 mod population;
 mod readers;
-pub mod source;
-pub mod start;
+mod source;
+mod start;
 mod tell;
 #[cfg(test)]
 mod tests;
 mod texts;
-pub mod top;
+mod top;
 mod words;
+
+pub use top::{Ended, flame};

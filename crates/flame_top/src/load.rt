@@ -3,7 +3,8 @@
 ghost use Rattle.std.specs.Prelude.{◌≡◌, ◌≤◌, ◌+◌, ◌<◌, ◌^◌, length, Some, IfOk, IfErr};
 ghost use Rattle.serde_json.specs.View.{view};
 ghost use Rattle.flame_outside.specs.Files.{Files};
-ghost use Rattle.flame_outside.specs.Rose.{Rose};
+ghost use Rattle.flame_outside.specs.Frames.{OnlyReads};
+ghost use Rattle.flame_outside.specs.Failures.{ReadFailed};
 ghost use Rattle.flame_top.specs.JsonParts.{json_of};
 ghost use Rattle.flame_top.specs.declared.early.Early.TheVariants.{NotJson, NotBuilt};
 ghost use Rattle.flame_top.specs.Ordered.{order_view};
@@ -13,16 +14,16 @@ ghost use Rattle.flame_top.specs.Loaded.{Gives, StopsLoading, IsReadFault};
 use crate::early::Early;
 use crate::ending::Ending;
 use crate::function_file::source_of;
+use crate::model::NarrowModel;
 use crate::narrow::model_of;
 use crate::population::start_of;
+use crate::source::Sum;
+use crate::start::Start;
 use crate::words::Order;
-use flame_outside::depot::{Depot, Got, ReadFail};
+use flame_outside::{Depot, Got, ReadFail};
 use flame_rows::Blob;
 use flame_rows::Seq;
 use flame_rows::Text;
-use crate::model::NarrowModel;
-use crate::start::Start;
-use crate::source::Sum;
 use serde_json::Value;
 use std::alloc::Global;
 
@@ -50,20 +51,15 @@ pub(crate) fn load<D: Depot>(
     order: Order<'_>,
     depot: &mut D,
 ) -> Result<Inputs, Ending>
-    ensures gives { (told : Files) → D.files depot.old ≡ Some told → Gives (λ inputs. inputs)
+    ensures gives { (told : Files) → (D.seen depot.old).files ≡ Some told → Gives (λ inputs. inputs)
         (IsReached told (order_view order.entry)) result (inputs_of told (order_view order.entry)) }
     ensures last { IfOk result (λ inputs. inputs.start.itno + order.entry.turns ≤ 2147483647) }
 
     // Whatever the depot tells.
     ensures stops { IfErr result StopsLoading }
     ensures read_fault { IfErr result (λ ending. IsReadFault ending
-        → Rose (D.read_faults depot.old) (D.read_faults depot.new)) }
-    ensures files_stay { D.files depot.new ≡ D.files depot.old }
-    ensures puts_stay { D.put_faults depot.new ≡ D.put_faults depot.old }
-    ensures count { D.read_faults depot.old ≤ D.read_faults depot.new }
-    ensures calm { D.never_fails depot.old → IfErr result (λ ending. ¬ IsReadFault ending) }
-    ensures calm_count { D.never_fails depot.old → D.read_faults depot.new ≡ D.read_faults depot.old }
-    ensures stays_calm { D.never_fails depot.old → D.never_fails depot.new }
+        → ReadFailed (D.seen depot.old) (D.seen depot.new)) }
+    ensures reads { OnlyReads (D.seen depot.old) (D.seen depot.new) }
 {
     let model = model_in(alloc, depot, order.model)?;
     let sums = source_in(alloc, depot, &model)?;
@@ -73,17 +69,12 @@ pub(crate) fn load<D: Depot>(
 
 /// The model in the file of that name.
 fn model_in<D: Depot>(alloc: Global, depot: &mut D, name: &str) -> Result<NarrowModel, Ending>
-    ensures gives { (told : Files) → D.files depot.old ≡ Some told → Gives (λ model. model)
+    ensures gives { (told : Files) → (D.seen depot.old).files ≡ Some told → Gives (λ model. model)
         (λ file. file ≡ name.now) result (model_in told name.now) }
     ensures stops { IfErr result StopsLoading }
     ensures read_fault { IfErr result (λ ending. IsReadFault ending
-        → Rose (D.read_faults depot.old) (D.read_faults depot.new)) }
-    ensures files_stay { D.files depot.new ≡ D.files depot.old }
-    ensures puts_stay { D.put_faults depot.new ≡ D.put_faults depot.old }
-    ensures count { D.read_faults depot.old ≤ D.read_faults depot.new }
-    ensures calm { D.never_fails depot.old → IfErr result (λ ending. ¬ IsReadFault ending) }
-    ensures calm_count { D.never_fails depot.old → D.read_faults depot.new ≡ D.read_faults depot.old }
-    ensures stays_calm { D.never_fails depot.old → D.never_fails depot.new }
+        → ReadFailed (D.seen depot.old) (D.seen depot.new)) }
+    ensures reads { OnlyReads (D.seen depot.old) (D.seen depot.new) }
 {
     let value = value_in(alloc, depot, name, SOURCE_LIMIT)?;
     or_not_built(alloc, name, model_of(alloc, &value)?)
@@ -95,17 +86,12 @@ fn source_in<D: Depot>(
     depot: &mut D,
     model: &NarrowModel,
 ) -> Result<Seq<Sum>, Ending>
-    ensures gives { (told : Files) → D.files depot.old ≡ Some told → Gives (λ sums. sums)
+    ensures gives { (told : Files) → (D.seen depot.old).files ≡ Some told → Gives (λ sums. sums)
         (λ file. file ≡ model.now.file) result (source_in told model.now) }
     ensures stops { IfErr result StopsLoading }
     ensures read_fault { IfErr result (λ ending. IsReadFault ending
-        → Rose (D.read_faults depot.old) (D.read_faults depot.new)) }
-    ensures files_stay { D.files depot.new ≡ D.files depot.old }
-    ensures puts_stay { D.put_faults depot.new ≡ D.put_faults depot.old }
-    ensures count { D.read_faults depot.old ≤ D.read_faults depot.new }
-    ensures calm { D.never_fails depot.old → IfErr result (λ ending. ¬ IsReadFault ending) }
-    ensures calm_count { D.never_fails depot.old → D.read_faults depot.new ≡ D.read_faults depot.old }
-    ensures stays_calm { D.never_fails depot.old → D.never_fails depot.new }
+        → ReadFailed (D.seen depot.old) (D.seen depot.new)) }
+    ensures reads { OnlyReads (D.seen depot.old) (D.seen depot.new) }
 {
     let name = model.file.as_str();
     let bytes = file_in(alloc, depot, name, SOURCE_LIMIT)?;
@@ -120,18 +106,13 @@ fn start_in<D: Depot>(
     model: &NarrowModel,
     turns: u32,
 ) -> Result<Start, Ending>
-    ensures gives { (told : Files) → D.files depot.old ≡ Some told → Gives (λ start. start)
+    ensures gives { (told : Files) → (D.seen depot.old).files ≡ Some told → Gives (λ start. start)
         (λ file. file ≡ name.now) result (start_in told name.now model.now turns) }
     ensures last { IfOk result (λ start. start.itno + turns ≤ 2147483647) }
     ensures stops { IfErr result StopsLoading }
     ensures read_fault { IfErr result (λ ending. IsReadFault ending
-        → Rose (D.read_faults depot.old) (D.read_faults depot.new)) }
-    ensures files_stay { D.files depot.new ≡ D.files depot.old }
-    ensures puts_stay { D.put_faults depot.new ≡ D.put_faults depot.old }
-    ensures count { D.read_faults depot.old ≤ D.read_faults depot.new }
-    ensures calm { D.never_fails depot.old → IfErr result (λ ending. ¬ IsReadFault ending) }
-    ensures calm_count { D.never_fails depot.old → D.read_faults depot.new ≡ D.read_faults depot.old }
-    ensures stays_calm { D.never_fails depot.old → D.never_fails depot.new }
+        → ReadFailed (D.seen depot.old) (D.seen depot.new)) }
+    ensures reads { OnlyReads (D.seen depot.old) (D.seen depot.new) }
 {
     let value = value_in(alloc, depot, name, POPULATION_LIMIT)?;
     or_not_built(alloc, name, start_of(alloc, model, turns, &value)?)
@@ -145,17 +126,12 @@ fn value_in<D: Depot>(
     most: usize,
 ) -> Result<Value, Ending>
     requires { most < 2 ^ 32 }
-    ensures gives { (told : Files) → D.files depot.old ≡ Some told → Gives view
+    ensures gives { (told : Files) → (D.seen depot.old).files ≡ Some told → Gives view
         (λ file. file ≡ name.now) result (value_in told name.now most) }
     ensures stops { IfErr result StopsLoading }
     ensures read_fault { IfErr result (λ ending. IsReadFault ending
-        → Rose (D.read_faults depot.old) (D.read_faults depot.new)) }
-    ensures files_stay { D.files depot.new ≡ D.files depot.old }
-    ensures puts_stay { D.put_faults depot.new ≡ D.put_faults depot.old }
-    ensures count { D.read_faults depot.old ≤ D.read_faults depot.new }
-    ensures calm { D.never_fails depot.old → IfErr result (λ ending. ¬ IsReadFault ending) }
-    ensures calm_count { D.never_fails depot.old → D.read_faults depot.new ≡ D.read_faults depot.old }
-    ensures stays_calm { D.never_fails depot.old → D.never_fails depot.new }
+        → ReadFailed (D.seen depot.old) (D.seen depot.new)) }
+    ensures reads { OnlyReads (D.seen depot.old) (D.seen depot.new) }
 {
     let bytes = file_in(alloc, depot, name, most)?;
     parsed(alloc, name, bytes.bytes())
@@ -164,18 +140,13 @@ fn value_in<D: Depot>(
 /// The bytes of the file of that name, at most so many.
 fn file_in<D: Depot>(alloc: Global, depot: &mut D, name: &str, most: usize) -> Result<Blob, Ending>
     requires { most < 2 ^ 32 }
-    ensures gives { (told : Files) → D.files depot.old ≡ Some told → Gives (λ bytes. bytes)
+    ensures gives { (told : Files) → (D.seen depot.old).files ≡ Some told → Gives (λ bytes. bytes)
         (λ file. file ≡ name.now) result (file_in told name.now most) }
     ensures short { IfOk result (λ bytes. length bytes ≤ most) }
     ensures stops { IfErr result StopsLoading }
     ensures read_fault { IfErr result (λ ending. IsReadFault ending
-        → Rose (D.read_faults depot.old) (D.read_faults depot.new)) }
-    ensures files_stay { D.files depot.new ≡ D.files depot.old }
-    ensures puts_stay { D.put_faults depot.new ≡ D.put_faults depot.old }
-    ensures count { D.read_faults depot.old ≤ D.read_faults depot.new }
-    ensures calm { D.never_fails depot.old → IfErr result (λ ending. ¬ IsReadFault ending) }
-    ensures calm_count { D.never_fails depot.old → D.read_faults depot.new ≡ D.read_faults depot.old }
-    ensures stays_calm { D.never_fails depot.old → D.never_fails depot.new }
+        → ReadFailed (D.seen depot.old) (D.seen depot.new)) }
+    ensures reads { OnlyReads (D.seen depot.old) (D.seen depot.new) }
 {
     match depot.read(name, most + 1) {
         Ok(Got::Missing) => Err(Ending::Refused(Early::Missing(Text::of(alloc, name)?))),

@@ -8,11 +8,11 @@ ghost use Rattle.flame_spec.specs.Names.{is_filled, is_name, is_function_name};
 ghost use Rattle.flame_top.specs.NarrowModels.{variable_of, function_of, agent_of, file_of, parts_of, model_of};
 ghost use Rattle.flame_top.specs.Borrowed.{names_view};
 
+use crate::model::NarrowModel;
 use crate::names::{is_filled, is_function_name, is_name};
 use crate::readers::{is_sized, lone, sole_at, str_at};
 use flame_rows::NoMemory;
 use flame_rows::Text;
-use crate::model::NarrowModel;
 use serde_json::Value;
 use std::alloc::Global;
 

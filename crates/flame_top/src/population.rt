@@ -6,12 +6,12 @@ ghost use Rattle.serde_json.specs.Find.{get, as_array};
 ghost use Rattle.flame_spec.specs.Json.{items_list};
 ghost use Rattle.flame_top.specs.Populations.{int_of, memory_of, memories_of, itno_of, states_of, start_of};
 
+use crate::model::NarrowModel;
 use crate::readers::{is_sized, lone, str_at};
+use crate::start::Start;
 use flame_rows::NoMemory;
 use flame_rows::Bag;
 use flame_rows::Row;
-use crate::model::NarrowModel;
-use crate::start::Start;
 use serde_json::Value;
 use std::alloc::Global;
 

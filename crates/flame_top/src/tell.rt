@@ -1,8 +1,8 @@
 //! The status and the line on err that tell how an order ended.
 
 ghost use Rattle.std.specs.Prelude.{◌≡◌, ◌≤◌, ◌++◌, OnOk, OnErr, codes};
-ghost use Rattle.flame_outside.specs.Rose.{Rose};
-ghost use Rattle.flame_outside.specs.Bytes.{GrowsByFront};
+ghost use Rattle.flame_outside.specs.Printed.{PrintsFront};
+ghost use Rattle.flame_outside.specs.Frames.{Grows};
 ghost use Rattle.flame_top.specs.Endings.{status_of, line_of, no_memory_text};
 ghost use Rattle.flame_top.specs.Reports.{refusal_text};
 ghost use Rattle.flame_top.specs.Telling.{Tells, Answers};
@@ -10,7 +10,7 @@ ghost use Rattle.flame_top.specs.Telling.{Tells, Answers};
 use crate::early::Early;
 use crate::ending::{Carried, Ending};
 use crate::top::Ended;
-use flame_outside::sink::{Sink, WriteFail};
+use flame_outside::{Sink, WriteFail};
 use flame_rows::NoMemory;
 use flame_rows::Text;
 use std::alloc::Global;
@@ -35,12 +35,9 @@ fn status_of(ending: &Ending) -> u8
 
 /// Writes a line by one write. A write that failed leaves the answer as it is.
 fn write_line<S: Sink>(line: &str, err: &mut S) -> Result<(), NoMemory>
-    ensures tells { OnOk result (Tells line.now (Rose (S.faults err.old) (S.faults err.new))
-        (S.written err.old) (S.written err.new)) }
-    ensures untold { OnErr result (S.written err.new ≡ S.written err.old) }
-    ensures count { S.faults err.old ≤ S.faults err.new }
-    ensures calm { S.never_fails err.old → S.faults err.new ≡ S.faults err.old }
-    ensures stays_calm { S.never_fails err.old → S.never_fails err.new }
+    ensures tells { OnOk result (Tells line.now (S.seen err.old) (S.seen err.new)) }
+    ensures untold { OnErr result (S.seen err.new ≡ S.seen err.old) }
+    ensures grows { Grows (S.seen err.old) (S.seen err.new) }
 {
     match err.write(line.as_bytes()) {
         Ok(()) => Ok(()),
@@ -51,12 +48,9 @@ fn write_line<S: Sink>(line: &str, err: &mut S) -> Result<(), NoMemory>
 
 /// Writes what there is to say of a file.
 fn write_about<S: Sink>(alloc: Global, what: &str, name: &Text, err: &mut S) -> Result<(), NoMemory>
-    ensures tells { OnOk result (Tells (what.now ++ name.now ++ codes "\n")
-        (Rose (S.faults err.old) (S.faults err.new)) (S.written err.old) (S.written err.new)) }
-    ensures untold { OnErr result (S.written err.new ≡ S.written err.old) }
-    ensures count { S.faults err.old ≤ S.faults err.new }
-    ensures calm { S.never_fails err.old → S.faults err.new ≡ S.faults err.old }
-    ensures stays_calm { S.never_fails err.old → S.never_fails err.new }
+    ensures tells { OnOk result (Tells (what.now ++ name.now ++ codes "\n") (S.seen err.old) (S.seen err.new)) }
+    ensures untold { OnErr result (S.seen err.new ≡ S.seen err.old) }
+    ensures grows { Grows (S.seen err.old) (S.seen err.new) }
 {
     let name = name.as_str();
     let line = format!(in alloc; "{what}{name}\n")?;
@@ -65,12 +59,9 @@ fn write_about<S: Sink>(alloc: Global, what: &str, name: &Text, err: &mut S) -> 
 
 /// Writes the line of a refusal. Err leaves err as it was.
 fn write_refusal<S: Sink>(alloc: Global, early: &Early, err: &mut S) -> Result<(), NoMemory>
-    ensures tells { OnOk result (Tells (refusal_text early.now) (Rose (S.faults err.old) (S.faults err.new))
-        (S.written err.old) (S.written err.new)) }
-    ensures untold { OnErr result (S.written err.new ≡ S.written err.old) }
-    ensures count { S.faults err.old ≤ S.faults err.new }
-    ensures calm { S.never_fails err.old → S.faults err.new ≡ S.faults err.old }
-    ensures stays_calm { S.never_fails err.old → S.never_fails err.new }
+    ensures tells { OnOk result (Tells (refusal_text early.now) (S.seen err.old) (S.seen err.new)) }
+    ensures untold { OnErr result (S.seen err.new ≡ S.seen err.old) }
+    ensures grows { Grows (S.seen err.old) (S.seen err.new) }
 {
     match early {
         Early::Words => write_line("not built: words\n", err),
@@ -82,12 +73,9 @@ fn write_refusal<S: Sink>(alloc: Global, early: &Early, err: &mut S) -> Result<(
 
 /// Writes the line of an ending. Err leaves err as it was.
 fn write_ending<S: Sink>(alloc: Global, ending: &Ending, err: &mut S) -> Result<(), NoMemory>
-    ensures tells { OnOk result (Tells (line_of ending.now) (Rose (S.faults err.old) (S.faults err.new))
-        (S.written err.old) (S.written err.new)) }
-    ensures untold { OnErr result (S.written err.new ≡ S.written err.old) }
-    ensures count { S.faults err.old ≤ S.faults err.new }
-    ensures calm { S.never_fails err.old → S.faults err.new ≡ S.faults err.old }
-    ensures stays_calm { S.never_fails err.old → S.never_fails err.new }
+    ensures tells { OnOk result (Tells (line_of ending.now) (S.seen err.old) (S.seen err.new)) }
+    ensures untold { OnErr result (S.seen err.new ≡ S.seen err.old) }
+    ensures grows { Grows (S.seen err.old) (S.seen err.new) }
 {
     match ending {
         Ending::Done => Ok(()),
@@ -102,10 +90,8 @@ fn write_ending<S: Sink>(alloc: Global, ending: &Ending, err: &mut S) -> Result<
 
 /// Tries once to write that memory was not found, where that is not what was tried before.
 fn write_no_memory<S: Sink>(tried: &Ending, err: &mut S)
-    ensures front { GrowsByFront no_memory_text (S.written err.old) (S.written err.new) }
-    ensures count { S.faults err.old ≤ S.faults err.new }
-    ensures calm { S.never_fails err.old → S.faults err.new ≡ S.faults err.old }
-    ensures stays_calm { S.never_fails err.old → S.never_fails err.new }
+    ensures front { PrintsFront no_memory_text (S.seen err.old) (S.seen err.new) }
+    ensures grows { Grows (S.seen err.old) (S.seen err.new) }
 {
     if matches!(tried, Ending::NoMemory) {
         return;
@@ -115,12 +101,9 @@ fn write_no_memory<S: Sink>(tried: &Ending, err: &mut S)
 
 /// Tells how an order ended. Where memory is not found for its line, that is told.
 pub(crate) fn tell<S: Sink>(alloc: Global, carried: Carried, err: &mut S) -> Ended
-    ensures answers { Answers carried.ending result.status (Rose (S.faults err.old) (S.faults err.new))
-        (S.written err.old) (S.written err.new) }
+    ensures answers { Answers carried.ending result.status (S.seen err.old) (S.seen err.new) }
     ensures files { result.files ≡ carried.files }
-    ensures count { S.faults err.old ≤ S.faults err.new }
-    ensures calm { S.never_fails err.old → S.faults err.new ≡ S.faults err.old }
-    ensures stays_calm { S.never_fails err.old → S.never_fails err.new }
+    ensures grows { Grows (S.seen err.old) (S.seen err.new) }
 {
     let Carried { ending, files } = carried;
     match write_ending(alloc, &ending, err) {

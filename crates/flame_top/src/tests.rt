@@ -7,9 +7,7 @@ mod refusals;
 mod runs;
 
 use crate::top::{Ended, flame};
-use flame_outside::gate::OpenGate;
-use flame_outside::mem_depot::MemDepot;
-use flame_outside::mem_sink::MemSink;
+use flame_outside::{MemDepot, MemSink, OpenGate};
 use std::alloc::Global;
 use std::fmt::Write;
 use std::sync::Wait;

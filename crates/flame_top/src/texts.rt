@@ -4,11 +4,11 @@ ghost use Rattle.std.specs.Prelude.{◌≡◌, ◌++◌, IfOk, OnOk, string_byte
 ghost use Rattle.flame_top.specs.RunTexts.{agent_text, agents_text, file_text, file_name, line_text, cause_text, reason_text, fault_text};
 
 use crate::meaning::held;
+use crate::model::NarrowModel;
 use flame_ops::integers::Cause;
 use flame_rows::NoMemory;
 use flame_rows::Row;
 use flame_spec::Fault;
-use crate::model::NarrowModel;
 use itoa::Buffer;
 use std::alloc::Global;
 use std::fmt::Write;

@@ -3,8 +3,7 @@
 
 use super::{Devices, expected, strings};
 use crate::top::{Ended, flame};
-use flame_outside::gate::OpenGate;
-use flame_outside::sink::{Sink, WriteFail};
+use flame_outside::{OpenGate, Sink, WriteFail};
 use std::alloc::Global;
 use std::process::Abort;
 use std::sync::Wait;

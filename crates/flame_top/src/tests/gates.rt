@@ -2,7 +2,7 @@
 
 use super::{Devices, strings};
 use crate::top::{Ended, flame};
-use flame_outside::gate::Gate;
+use flame_outside::Gate;
 use std::sync::Wait;
 use std::sync::atomic::AtomicU32;
 use std::sync::atomic::Ordering::SeqCst;

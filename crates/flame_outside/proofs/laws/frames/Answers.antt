@@ -1,4 +1,4 @@
-use Rattle.flame_outside.proofs.FrameLemmas.{nothing_done, parts_join, frames_go_on, failures_stay, calm_fails_not}
+use Rattle.flame_outside.proofs.FrameLemmas.{whole_is_a_front, nothing_done, parts_join, frames_go_on, failures_stay, calm_fails_not}
 use Rattle.flame_outside.proofs.laws.frames.Goals as goal
 
 pub returns-clause-nothing : goal.returns-clause-nothing
@@ -15,3 +15,6 @@ returns-clause-failures c = failures_stay
 
 pub returns-clause-calm : goal.returns-clause-calm
 returns-clause-calm c = calm_fails_not
+
+pub returns-clause-front : goal.returns-clause-front
+returns-clause-front c = whole_is_a_front

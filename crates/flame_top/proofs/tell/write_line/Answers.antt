@@ -1,9 +1,12 @@
-use Rattle.std.proofs.Common.{◌≡◌, ◌++◌, List, ℕ, option_map, ap, ◌∙◌, length}
+use Rattle.std.proofs.Common.{ℕ, List, ap, ◌∙◌}
+use Rattle.flame_outside.specs.Printed.{with_bytes, Prints}
+use Rattle.flame_outside.proofs.FrameLemmas.{prints_front}
 use Rattle.flame_top.proofs.tell.write_line.Goals as goal
-use Rattle.flame_top.proofs.Composition.{grows_whole}
 
 pub returns-in-Ok-clause-tells : goal.returns-in-Ok-clause-tells
 returns-in-Ok-clause-tells g c =
-    let line = c.as_bytes.ensures.value in
-    let whole = c.in-Ok.ensures.ok ∙ ap (λ (text : List ℕ). option_map (λ told. told ++ text) (g.S.Sink.written c.args.err.now)) line in
-    record { front = grows_whole c.args.line.now _ _ whole; whole = λ calm. whole }
+    let old = g.S.Sink.seen c.args.err.now in
+    let new = g.S.Sink.seen c.write.new.self in
+    let whole : Prints c.args.line.now old new
+    = c.in-Ok.ensures.ok ∙ ap (λ (bytes : List ℕ). with_bytes bytes old.written) c.as_bytes.ensures.value in
+    record { front = prints_front c.args.line.now old new whole; whole = λ calm. whole }

@@ -1,4 +1,4 @@
-use Rattle.std.proofs.Common.{◌≡◌, ℕ, ℤ, ◌+◌, ◌<◌, List, [], ◌∷◌, ◌++◌, drop, length, get_or, ap, sym, ◌∙◌, arith, append_assoc, string_bytes}
+use Rattle.std.proofs.Common.{◌≡◌, ℕ, ℤ, ◌+◌, ◌<◌, List, [], ◌∷◌, ◌++◌, drop, length, ap, sym, ◌∙◌, arith, append_assoc, string_bytes}
 use Rattle.std.proofs.lemmas.List.{at_drop_more}
 use Rattle.flame_top.specs.RunTexts.{agent_text, more_agents}
 use Rattle.flame_top.proofs.texts.agents.Goals as goal
