@@ -1,5 +1,5 @@
 -- Calls of helpers that come round, and how deep they go.
-use Rattle.std.proofs.Common.{◌≡◌, ℕ, zero, suc, ◌+◌, ◌<◌, ◌≤◌, Bool, true, false, List, [], ◌∷◌, ◌++◌, length, reverse, Option, Some, None, refl, ap, sym, ◌∙◌, subst, arith}
+use Rattle.std.proofs.Common.{◌≡◌, ℕ, zero, suc, ◌+◌, ◌<◌, ◌≤◌, true, List, [], ◌∷◌, ◌++◌, length, reverse, Option, Some, None, refl, ap, sym, ◌∙◌, subst, arith}
 use Rattle.std.specs.Prelude.{slice_get, nat_lt, not}
 use Rattle.std.proofs.lemmas.Bool.{ltb-false}
 use Rattle.std.proofs.lemmas.List.{reverse-append}
@@ -7,19 +7,18 @@ use Rattle.flame_spec.specs.declared.models.Model.{Model}
 use Rattle.flame_spec.specs.declared.faults.CheckKind.{CheckKind}
 use Rattle.flame_spec.specs.declared.faults.CheckKind.TheVariants.{Recursive, DeepCalls}
 use Rattle.flame_spec.specs.declared.trees.Unit as file
-use Rattle.flame_spec.specs.Below.{is_in, times}
+use Rattle.flame_spec.specs.Below.{is_in}
 use Rattle.flame_spec.specs.Definitions.{Definition, helpers}
-use Rattle.flame_spec.specs.Layers.{layer}
 use Rattle.flame_spec.specs.ModelOrder.{order, first_left, step_back, walk_back, begun_with_least, from_there}
 use Rattle.flame_spec.specs.HelperFaults.{is_called_by, call_cycle, call_cycle_from, call_height, name_in, cycle_text, fault_at}
-use Rattle.flame_spec.specs.HelperFaults.{recursive_at, recursive_faults, first_deep, deep_at, deep_faults, deepest_calls}
+use Rattle.flame_spec.specs.HelperFaults.{recursive_at, first_deep, deep_at, deepest_calls}
 use Rattle.flame_spec.specs.CheckFaults.{check_faults}
 use Rattle.flame_spec.proofs.FirstBelow.{first_is_first, none_fails}
 use Rattle.flame_spec.proofs.Orders.{Relation, remaining_all}
 use Rattle.flame_spec.proofs.Heights.{layer_rises}
 use Rattle.flame_laws.specs.OrderLaws.{IsChain, IsRound, IsCycle, AreFunctions}
 use Rattle.flame_laws.specs.HelperLaws.{calls_in}
-use Rattle.flame_laws.proofs.Rounds.{chain_left, chain_right, tail, chain_join, begun_round, AreOnce, fewer_once, times-reverse}
+use Rattle.flame_laws.proofs.Rounds.{chain_join, begun_round, AreOnce, fewer_once, times-reverse}
 use Rattle.flame_laws.proofs.Rounds.{times-begun, at_least_one, begun_least, walk_round, left_back, nothing_once}
 use Rattle.flame_laws.proofs.RisingRounds.{round_leaves_over}
 use Rattle.flame_laws.proofs.CheckedBodies.{none_of_all}

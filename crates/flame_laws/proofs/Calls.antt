@@ -1,13 +1,11 @@
 -- What calls without faults are.
-use Rattle.std.proofs.Common.{◌≡◌, ℕ, ◌==◌, Bool, true, false, not, List, [], ◌++◌, length, codes, Contains, Option, Some, None, refl, ap, sym, ◌∙◌, subst, arith}
-use Rattle.std.specs.Prelude.{is_some}
+use Rattle.std.proofs.Common.{◌≡◌, ℕ, ◌==◌, true, false, List, [], ◌++◌, codes, Contains, Option, Some, None, refl, ap, sym, ◌∙◌, subst, arith}
 use Rattle.std.specs.Str.{bytes_eq}
 use Rattle.std.proofs.lemmas.Bool.{not-false}
 use Rattle.flame_spec.specs.declared.models.Variable.{Variable}
 use Rattle.flame_spec.specs.declared.models.MessageType.{MessageType}
 use Rattle.flame_spec.specs.declared.models.AgentType.{AgentType}
-use Rattle.flame_spec.specs.declared.faults.CheckKind.TheVariants.{UnknownCall, WrongCount, NotOutput, NeedsIndex}
-use Rattle.flame_spec.specs.Columns.{is_array}
+use Rattle.flame_spec.specs.declared.faults.CheckKind.TheVariants.{WrongCount, NotOutput, NeedsIndex}
 use Rattle.flame_spec.specs.KnownNames.{is_among}
 use Rattle.flame_spec.specs.Functions.{Place}
 use Rattle.flame_spec.specs.Definitions.{Definition, helper_named}

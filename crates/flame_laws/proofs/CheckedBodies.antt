@@ -15,9 +15,9 @@ use Rattle.flame_spec.specs.declared.faults.CheckFault.{CheckFault}
 use Rattle.flame_spec.specs.declared.trees.Parameter.{Parameter}
 use Rattle.flame_spec.specs.Definitions.{Definition, definitions, is_idle, is_for, is_transition, has_none, is_helper, helpers, body_of}
 use Rattle.flame_spec.specs.Scopes.{Context, Sight, at_entry}
-use Rattle.flame_spec.specs.HelperFaults.{helper_context, recursive_faults, deep_faults}
+use Rattle.flame_spec.specs.HelperFaults.{recursive_faults, deep_faults}
 use Rattle.flame_spec.specs.CheckFaults.{twice_where, twice_faults, is_run_by, with_parameters_where, with_parameters_faults, missing_where}
-use Rattle.flame_spec.specs.CheckFaults.{missing_faults, context, definition_faults, body_faults, bodies_faults, check_faults}
+use Rattle.flame_spec.specs.CheckFaults.{missing_faults, definition_faults, body_faults, bodies_faults, check_faults}
 use Rattle.flame_laws.specs.Parts.{Part, defining, StandsIn}
 use Rattle.flame_laws.specs.CheckLaws.{IsBodyOf, IsChecked, for_function, for_helper}
 use Rattle.flame_laws.proofs.Found.{left-none, right-none, Contains-cases, Contains-head, Contains-later, flat_map-none, list_any-at}

@@ -16,17 +16,17 @@ use Rattle.flame_spec.specs.declared.faults.CheckKind.TheVariants.{MissingFuncti
 use Rattle.flame_spec.specs.Lists.{each_from}
 use Rattle.flame_spec.specs.KnownNames.{is_among}
 use Rattle.flame_spec.specs.Functions.{Place, functions}
-use Rattle.flame_spec.specs.LookUps.{message_read, message_looped, memory_got}
+use Rattle.flame_spec.specs.LookUps.{message_read, message_looped}
 use Rattle.flame_spec.specs.Trees.{Expression, number, name, field, get, field_at, signed, chain, all_of, any_of}
 use Rattle.flame_spec.specs.Trees.{at as element}
 use Rattle.flame_spec.specs.Trees.{Expressions, no_parts, part, Links, no_links, link, Stored, plain, called, Indexed}
 use Rattle.flame_spec.specs.Trees.{Declared, Assigned, Statement, empty, declare, assign, call, block, branch, while, for}
 use Rattle.flame_spec.specs.Trees.{do_while, loop_over, return, break, continue, Statements, no_more, also, Arms, no_arms, arm}
 use Rattle.flame_spec.specs.Scopes.{Context, Sight, at_entry, in_scope, in_loop, in_value_of, over_none, after_name, after}
-use Rattle.flame_spec.specs.Scopes.{after_all, after_parameters, messages_at, memory_at}
-use Rattle.flame_spec.specs.Definitions.{Definition, definition, definitions_of, definitions, is_idle, is_for, has_none}
-use Rattle.flame_spec.specs.Definitions.{is_helper, helpers_among, helpers, helper_named}
-use Rattle.flame_spec.specs.ExpressionFaults.{fault_where, row_faults_of, row_faults, get_faults, field_faults, field_at_faults}
+use Rattle.flame_spec.specs.Scopes.{after_all, after_parameters, messages_at}
+use Rattle.flame_spec.specs.Definitions.{Definition, definition, definitions_of, definitions, is_idle, is_for}
+use Rattle.flame_spec.specs.Definitions.{is_helper, helpers, helper_named}
+use Rattle.flame_spec.specs.ExpressionFaults.{fault_where, row_faults_of, row_faults, field_at_faults}
 use Rattle.flame_spec.specs.ExpressionFaults.{expression_faults, parts_faults, links_faults, optional_faults}
 use Rattle.flame_spec.specs.CallFaults.{Deed, called_by, deed_of, places_of, whole_faults, argument_faults, arguments_faults}
 use Rattle.flame_spec.specs.CallFaults.{deed_faults}

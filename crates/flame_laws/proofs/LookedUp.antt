@@ -1,11 +1,11 @@
 -- What look-ups find.
-use Rattle.std.proofs.Common.{◌≡◌, ℕ, ◌+◌, Bool, true, false, not, cond, List, [], ◌∷◌, ◌++◌, codes, Contains, Option, Some, None, refl, ap, sym, ◌∙◌, subst}
-use Rattle.std.specs.Prelude.{is_some, IsTrue}
+use Rattle.std.proofs.Common.{◌≡◌, ℕ, ◌+◌, Bool, true, false, cond, List, [], ◌∷◌, codes, Contains, Option, Some, None, refl, ap, sym, ◌∙◌, subst}
+use Rattle.std.specs.Prelude.{is_some}
 use Rattle.std.specs.Str.{bytes_eq}
 use Rattle.flame_spec.specs.declared.models.Variable.{Variable}
 use Rattle.flame_ops.specs.Ascii.{capitals}
-use Rattle.flame_spec.specs.Lists.{numbered_from, numbered_where}
-use Rattle.flame_spec.specs.Columns.{width_of, columned_from, columned_where}
+use Rattle.flame_spec.specs.Lists.{numbered_from}
+use Rattle.flame_spec.specs.Columns.{width_of, columned_from}
 use Rattle.flame_spec.specs.LookUps.{Given, in_memory, constant, iteration, is_iteration, memory_named, constant_named, given_by}
 use Rattle.flame_spec.specs.LookUps.{given_beside}
 use Rattle.flame_spec.specs.Scopes.{Context, memory_at, given_at}

@@ -1,5 +1,5 @@
 -- What loops and fields without faults are; the loops that are open stay open inside.
-use Rattle.std.proofs.Common.{◌≡◌, ◌≢◌, ℕ, Bool, true, false, not, List, [], ◌∷◌, ◌++◌, codes, Contains, Option, Some, None, refl, ap, sym, ◌∙◌, subst, arith}
+use Rattle.std.proofs.Common.{◌≡◌, ◌≢◌, ℕ, true, false, not, List, [], ◌∷◌, ◌++◌, codes, Contains, Option, Some, None, refl, ap, sym, ◌∙◌, subst, arith}
 use Rattle.std.specs.Prelude.{is_some, ◌==◌}
 use Rattle.std.specs.Str.{bytes_eq}
 use Rattle.std.proofs.lemmas.Bool.{not-false}
@@ -7,7 +7,7 @@ use Rattle.flame_ops.specs.Ascii.{capitals}
 use Rattle.flame_spec.specs.declared.models.Variable.{Variable}
 use Rattle.flame_spec.specs.declared.models.MessageType.{MessageType}
 use Rattle.flame_spec.specs.declared.models.Input.{Input}
-use Rattle.flame_spec.specs.declared.faults.CheckKind.TheVariants.{NotInput, NestedSame, LoopMismatch, OutsideLoop, UnknownName}
+use Rattle.flame_spec.specs.declared.faults.CheckKind.TheVariants.{NotInput, NestedSame, LoopMismatch, OutsideLoop}
 use Rattle.flame_spec.specs.declared.faults.CheckKind.TheVariants.{NotArray, NeedsIndex, WrongLength}
 use Rattle.flame_spec.specs.Columns.{variable_named, is_array}
 use Rattle.flame_spec.specs.Functions.{Place}
@@ -15,11 +15,11 @@ use Rattle.flame_spec.specs.LookUps.{message_read, message_looped, input_of}
 use Rattle.flame_spec.specs.Trees.{Expression, number, name, field, get, field_at, signed, chain, all_of, any_of}
 use Rattle.flame_spec.specs.Trees.{at as element}
 use Rattle.flame_spec.specs.Trees.{Declared, Statement, declare, loop_over, Statements, no_more, also}
-use Rattle.flame_spec.specs.Scopes.{Context, Loop, over_message, over_none, Sight, messages_at, given_at, in_scope, in_loop}
+use Rattle.flame_spec.specs.Scopes.{Context, Loop, over_message, over_none, Sight, messages_at, in_scope, in_loop}
 use Rattle.flame_spec.specs.Scopes.{after_name, after_items, after, after_all, is_open_over}
-use Rattle.flame_spec.specs.ExpressionFaults.{fault_where, is_found_array, member_faults, row_faults_of, row_faults, member_of}
+use Rattle.flame_spec.specs.ExpressionFaults.{is_found_array, member_faults, row_faults_of, row_faults, member_of}
 use Rattle.flame_spec.specs.ExpressionFaults.{member_read, field_faults, field_at_faults}
-use Rattle.flame_spec.specs.CallFaults.{length_found, length_given, length_of_argument, is_length, whole_faults, argument_faults}
+use Rattle.flame_spec.specs.CallFaults.{length_found, length_of_argument, is_length, whole_faults, argument_faults}
 use Rattle.flame_spec.specs.StatementFaults.{is_input, opened, start_faults, finish_faults, statement_faults, statements_faults}
 use Rattle.flame_laws.specs.Parts.{Part, doing, sequence, StandsIn, itself, element_index, field_index, under_signs}
 use Rattle.flame_laws.specs.Parts.{chain_begin, chain_more, all_part, any_part, first_value, later_value, first_operand}

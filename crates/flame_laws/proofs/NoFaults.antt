@@ -2,12 +2,11 @@
 use Rattle.std.proofs.Common.{◌≡◌, ℕ, Bool, true, false, List, [], ◌∷◌, ◌++◌, Option, Some, None, refl, ap, sym, ◌∙◌}
 use Rattle.flame_spec.specs.declared.faults.CheckFault.{CheckFault}
 use Rattle.flame_spec.specs.declared.faults.CheckKind.{CheckKind}
-use Rattle.flame_spec.specs.declared.models.Variable.{Variable}
 use Rattle.flame_spec.specs.declared.trees.Parameter.{Parameter}
 use Rattle.flame_spec.specs.Trees.{Expression, Expressions, no_parts, part, Stored, Indexed, Statements}
 use Rattle.flame_spec.specs.Definitions.{Definition, helper_named}
 use Rattle.flame_spec.specs.Scopes.{Context, Sight, after_name, after_parameters}
-use Rattle.flame_spec.specs.ExpressionFaults.{fault_where, expression_faults, parts_faults, links_faults, optional_faults}
+use Rattle.flame_spec.specs.ExpressionFaults.{fault_where, expression_faults, parts_faults, links_faults}
 use Rattle.flame_spec.specs.CallFaults.{Deed, called_by, deed_of, places_of, deed_faults, argument_faults, arguments_faults}
 use Rattle.flame_spec.specs.StatementFaults.{stored_faults, subscript_faults, assignment_faults, optional_stored_faults}
 use Rattle.flame_spec.specs.StatementFaults.{items_faults, parameters_faults, statement_faults, statements_faults, arms_faults}

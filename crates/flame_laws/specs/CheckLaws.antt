@@ -1,5 +1,5 @@
 -- What holds of check faults, and of function files without them. [own]
-use Rattle.std.specs.Prelude.{◌≡◌, ◌≢◌, ℕ, ◌<◌, List, [], ◌∷◌, ◌++◌, length, codes, count_by, Contains, ◌⊎◌, Option, Some, None, IsTrue, IsFalse}
+use Rattle.std.specs.Prelude.{◌≡◌, ◌≢◌, ℕ, ◌<◌, List, [], ◌∷◌, ◌++◌, length, codes, count_by, Contains, ◌⊎◌, Some, None, IsTrue, IsFalse}
 use Rattle.flame_spec.specs.declared.models.Model.{Model}
 use Rattle.flame_spec.specs.declared.models.Variable.{Variable}
 use Rattle.flame_spec.specs.declared.models.MessageType.{MessageType}
@@ -10,7 +10,6 @@ use Rattle.flame_spec.specs.declared.trees.Unit as file
 use Rattle.flame_spec.specs.declared.faults.CheckFault.{CheckFault}
 use Rattle.flame_spec.specs.declared.faults.CheckKind.TheVariants.{MissingFunction}
 use Rattle.flame_ops.specs.Ascii.{capitals}
-use Rattle.flame_spec.specs.Columns.{variable_named}
 use Rattle.flame_spec.specs.Functions.{Place, functions}
 use Rattle.flame_spec.specs.Trees.{Expression, name, get, field, field_at, Expressions, Indexed, Declared, Assigned, called}
 use Rattle.flame_spec.specs.Trees.{call, Statements, loop_over, break, continue}

@@ -1,5 +1,5 @@
 -- What holds of helpers in function files without check faults. [own]
-use Rattle.std.specs.Prelude.{◌≡◌, ℕ, ◌<◌, ◌≤◌, Bool, true, List, [], ◌∷◌, length, codes, Contains, Some, None, IsTrue}
+use Rattle.std.specs.Prelude.{◌≡◌, ℕ, ◌<◌, ◌≤◌, Bool, true, List, [], length, codes, Contains, Some, None, IsTrue}
 use Rattle.flame_spec.specs.declared.models.Model.{Model}
 use Rattle.flame_spec.specs.declared.trees.Unit as file
 use Rattle.flame_spec.specs.ModelOrder.{first_left}

@@ -11,4 +11,8 @@ pub mod ViewCases
 pub mod Parts
 pub mod CheckLaws
 pub mod HelperLaws
+pub mod SmallTrees
+pub mod CheckCases
+pub mod ArrayCases
+pub mod HelperCases
 pub mod AcceptedCases

@@ -4,6 +4,7 @@
 
 mod accepted_laws;
 mod check_laws;
+mod fault_cases;
 mod helper_laws;
 mod name_laws;
 mod order_laws;
@@ -14,6 +15,7 @@ pub use accepted_laws::accepted_cases;
 pub use check_laws::{
     check_faults_stand_in_files, checked_calls, checked_functions, checked_loops, checked_names,
 };
+pub use fault_cases::{array_cases, check_cases, helper_cases};
 pub use helper_laws::{helpers_end, helpers_stand_alone};
 pub use name_laws::{lengths_are_known, names_differ};
 pub use order_laws::{cycles, layers, order_cases, orders, start_states_of_types};
