@@ -1,12 +1,15 @@
-//! Files of cases: a case is a name and titled sections of lines; `----` stands between two cases.
+//! Files of cases: a case is a name and titled sections of bytes; `----` stands between two cases.
 
 use std::alloc::{AllocError, Global};
+use std::str;
 
-/// A section: its title, and its text.
+/// A section: its title, and its bytes.
 #[derive(Drop)]
 pub(crate) struct Section {
-    title: String,
-    text: String,
+    /// The title.
+    pub(crate) title: String,
+    /// The bytes.
+    pub(crate) bytes: Vec<u8>,
 }
 
 /// A case.
@@ -14,7 +17,8 @@ pub(crate) struct Section {
 pub(crate) struct Case {
     /// Its name.
     pub(crate) name: String,
-    sections: Vec<Section>,
+    /// Its sections in order.
+    pub(crate) sections: Vec<Section>,
 }
 
 impl Case {
@@ -25,37 +29,49 @@ impl Case {
         }
     }
 
-    /// The text of the first section of this title; empty where it has none.
-    pub(crate) fn section(&self, alloc: Global, title: &str) -> Result<String, AllocError> {
+    /// The bytes of the first section of this title; none where the case has no such section.
+    pub(crate) fn bytes(&self, title: &str) -> &[u8] {
         for section in &self.sections {
             if section.title.as_str() == title {
-                return section.text.clone();
+                return section.bytes.as_slice();
             }
         }
-        Ok(String::new(alloc))
+        &[]
     }
 
-    /// Goes on with a line of the file. A line after `|` is a line of the section, one after `>` its last, without its
-    /// line feed; an empty line is passed over; another line is the title of a section.
+    /// The text of the first section of this title; empty where there is none, or where it is no UTF-8.
+    pub(crate) fn text(&self, title: &str) -> &str {
+        str::from_utf8(self.bytes(title)).unwrap_or("")
+    }
+
+    /// Goes on with a line of the file. What follows `|` is a line of the section, what follows `>` its last one without a
+    /// line feed; what follows `%` are bytes, as pairs of hexadecimal digits. An empty line is passed over, and another
+    /// line is the title of a section.
     fn read(&mut self, alloc: Global, line: &str) -> Result<(), AllocError> {
         if let Some(name) = line.strip_prefix("case ") {
             self.name.push_str(name)?;
         } else if let Some(rest) = line.strip_prefix("|") {
-            self.add(rest, "\n")?;
+            self.add(rest.as_bytes(), b"\n".as_slice())?;
         } else if let Some(rest) = line.strip_prefix(">") {
-            self.add(rest, "")?;
+            self.add(rest.as_bytes(), &[])?;
+        } else if let Some(rest) = line.strip_prefix("%") {
+            for pair in rest.split(' ') {
+                if let Ok(byte) = u8::from_str_radix(pair, 16) {
+                    self.add(&[byte], &[])?;
+                }
+            }
         } else if !line.is_empty() {
             let title = String::from_str(alloc, line)?;
-            let text = String::new(alloc);
-            self.sections.push(Section { title, text })?;
+            let bytes = Vec::new(alloc);
+            self.sections.push(Section { title, bytes })?;
         }
         Ok(())
     }
 
-    fn add(&mut self, line: &str, end: &str) -> Result<(), AllocError> {
+    fn add(&mut self, bytes: &[u8], end: &[u8]) -> Result<(), AllocError> {
         if let Some(section) = self.sections.last_mut() {
-            section.text.push_str(line)?;
-            section.text.push_str(end)?;
+            section.bytes.extend_from_slice(bytes)?;
+            section.bytes.extend_from_slice(end)?;
         }
         Ok(())
     }

@@ -21,9 +21,8 @@ fn print_token(out: &mut String, token: &Token) -> Result<(), AllocError> {
 }
 
 pub(crate) fn answer(alloc: Global, case: &Case) -> Result<String, AllocError> {
-    let text = case.section(alloc, "text")?;
     let mut out = String::new(alloc);
-    let bytes = text.as_bytes();
+    let bytes = case.bytes("text");
     if bytes.len() > LONGEST {
         writeln!(out, "too large")?;
         return Ok(out);

@@ -27,11 +27,11 @@ struct Tally {
 /// One case of a kind: what is wanted and what comes. Tells whether they agree.
 fn agrees(rt: &(impl Print + AllocGlobal), file: &str, kind: Kind, case: &Case) -> io::Result<bool> {
     let came = answer(rt.alloc(), kind, case)?;
-    let wanted = case.section(rt.alloc(), "wants")?;
-    if came.as_str() == wanted.as_str() {
+    if came.as_bytes() == case.bytes("wants") {
         return Ok(true);
     }
     let name = case.name.as_str();
+    let wanted = case.text("wants");
     println!(rt; "{file}: {name} differs; wanted\n{wanted}came\n{came}")?;
     Ok(false)
 }
