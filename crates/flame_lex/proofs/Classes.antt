@@ -16,7 +16,8 @@ use Rattle.flame_lex.specs.declared.fault.LexFault.TheVariants.{BadByte, BadNumb
 use Rattle.flame_lex.specs.declared.fault.LexFault.TheVariants.{BadDefine}
 use Rattle.flame_lex.specs.ByteRuns.{is_blank, is_hash, first_is, begins}
 use Rattle.flame_lex.specs.LexPieces as pieces
-use Rattle.flame_lex.specs.LexPieces.{Form, blank, comment, line_comment, include_line, define_line, lexeme, begins_comment}
+use Rattle.flame_lex.specs.LexPieces.{Form, blank, comment, line_comment, include_line, define_line, lexeme}
+use Rattle.flame_lex.specs.LexPieces.{begins_comment}
 use Rattle.flame_lex.specs.LexPieces.{Here, IsNumeral, IsMark, IsLexeme}
 use Rattle.flame_lex.specs.LexFaults.{IsFault, IsNumeralAt, BeginsNothing}
 use Rattle.flame_lex.proofs.Prefixes.{begins_parts, begins_from}

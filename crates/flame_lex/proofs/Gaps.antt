@@ -13,7 +13,8 @@ use Rattle.flame_lex.specs.declared.define.Define.{Define}
 use Rattle.flame_lex.specs.declared.found.Found.TheVariants.{Gap, Defined}
 use Rattle.flame_lex.specs.ByteRuns.{is_hash, begins, first_is, stays_on_line}
 use Rattle.flame_lex.specs.DefineLines.{after_close, Defines}
-use Rattle.flame_lex.specs.LexPieces.{Here, comment, line_comment, include_line, define_line, include, define, IsDirective}
+use Rattle.flame_lex.specs.LexPieces.{Here, comment, line_comment, include_line, define_line, include, define}
+use Rattle.flame_lex.specs.LexPieces.{IsDirective}
 use Rattle.flame_lex.specs.LexSteps.{IsPiece}
 use Rattle.flame_lex.proofs.Prefixes.{begins_parts}
 use Rattle.flame_lex.proofs.Runs.{run_front}

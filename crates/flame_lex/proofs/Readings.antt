@@ -88,9 +88,11 @@ one_token_list bytes tokens more a b =
 
 pub one_fault_of : (bytes : List ℕ) (fault other : LexFault) → Faults bytes fault → Faults bytes other → fault ≡ other
 one_fault_of bytes fault other f g =
-    let cuts = one_cut nothing f.0 g.0 bytes f.1 g.1 f.2 (stops_behind bytes fault f) g.2 (stops_behind bytes other g) in
+    let cuts =
+    one_cut nothing f.0 g.0 bytes f.1 g.1 f.2 (stops_behind bytes fault f) g.2 (stops_behind bytes other g) in
     let before = past_all nothing g.0 in
-    let moved = subst (λ p. IsFault (here (past_all nothing p)) (length (past_all nothing p).bytes) f.1 fault) cuts.0 f.3 in
+    let moved =
+    subst (λ p. IsFault (here (past_all nothing p)) (length (past_all nothing p).bytes) f.1 fault) cuts.0 f.3 in
     one_fault (here before) (length before.bytes) g.1 fault other
     (subst (λ l. IsFault (here before) (length before.bytes) l fault) cuts.1 moved) g.3
 

@@ -13,7 +13,8 @@ first_step p b bytes n true e run =
 first_step p b bytes n false e run = record { all = refl; ends = e }
 
 -- as it is counted by the definition
-pub run_at : (p : ℕ → Bool) (bytes : List ℕ) → IsRun p (take (prefix_len p bytes) bytes) (drop (prefix_len p bytes) bytes)
+pub run_at : (p : ℕ → Bool) (bytes : List ℕ)
+    → IsRun p (take (prefix_len p bytes) bytes) (drop (prefix_len p bytes) bytes)
 run_at p [] = record { all = refl; ends = refl }
 run_at p (b ∷ bytes) = first_step p b bytes (prefix_len p bytes) (p b) refl (run_at p bytes)
 

@@ -141,7 +141,8 @@ one_form site include_line include_line text rest other behind e s t same =
     (refl, one_run stays_on_line text rest other behind s.1 t.1 same)
 one_form site (define_line said) (define_line more) text rest other behind e s t same =
     let texts = one_run stays_on_line text rest other behind s.1 t.1 same in
-    (ap define_line (one_define site.known said more other (subst (λ l. Defines site.known l said) texts s.2) t.2), texts)
+    let define = one_define site.known said more other (subst (λ l. Defines site.known l said) texts s.2) t.2 in
+    (ap define_line define, texts)
 one_form site include_line (define_line said) text rest other behind e s t same =
     absurd (one_directive (directive_word (text ++ rest)) s.0.spelled
     (subst (λ l. IsAt define l) (sym same) t.0.spelled))

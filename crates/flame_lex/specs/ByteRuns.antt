@@ -1,5 +1,6 @@
 -- Kinds of bytes, and runs of them.
-use Rattle.std.specs.Prelude.{◌≡◌, ℕ, ◌==◌, ◌||◌, Bool, true, false, not, List, [], ◌∷◌, nat_eq, length, take_while, drop}
+use Rattle.std.specs.Prelude.{◌≡◌, ℕ, ◌==◌, ◌||◌, Bool, true, false, not, List, [], ◌∷◌, nat_eq}
+use Rattle.std.specs.Prelude.{length, take_while, drop}
 use Rattle.std.specs.List.{list_all, starts_with}
 
 -- space, tab, LF, CR, VT, FF [C, 6.4]

@@ -1,5 +1,6 @@
 -- Where a cut cannot go on.
-use Rattle.std.specs.Prelude.{◌≡◌, ℕ, ◌<◌, true, false, ◌&&◌, List, ◌++◌, length, take_while, drop, codes, None, Contains}
+use Rattle.std.specs.Prelude.{◌≡◌, ℕ, ◌<◌, true, false, ◌&&◌, List, ◌++◌, length, take_while, drop, codes, None}
+use Rattle.std.specs.Prelude.{Contains}
 use Rattle.std.specs.Char.{is_ascii_digit}
 use Rattle.flame_ops.specs.Ascii.{begins_word}
 use Rattle.flame_ops.specs.Spellings.{NoneStands}

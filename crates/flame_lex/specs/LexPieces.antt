@@ -63,10 +63,11 @@ pub record IsDirective (here : Here) (number : ℕ) (bytes : List ℕ) : Type 0 
   pub hash : first_is is_hash bytes ≡ true
   pub spelled : slice_get directive_spellings number ≡ Some (directive_word bytes)
 
--- the numbers of the two directives [C, 6.10.2, 6.10.3]
+-- the number of `include` among the directives [C, 6.10.2]
 abbrev pub include : ℕ
 include = 0
 
+-- the number of `define` among the directives [C, 6.10.3]
 abbrev pub define : ℕ
 define = 1
 

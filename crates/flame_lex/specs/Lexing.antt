@@ -12,7 +12,8 @@ use Rattle.flame_lex.specs.declared.token.Kind.TheVariants.{Word, Number, Mark, 
 use Rattle.flame_lex.specs.declared.token.Token.{Token}
 use Rattle.flame_lex.specs.declared.fault.LexFault.{LexFault}
 use Rattle.flame_lex.specs.TextPlaces.{line_of, begins_line}
-use Rattle.flame_lex.specs.LexPieces.{Form, blank, comment, line_comment, include_line, define_line, lexeme, Here, Stands}
+use Rattle.flame_lex.specs.LexPieces.{Form, blank, comment, line_comment, include_line, define_line, lexeme}
+use Rattle.flame_lex.specs.LexPieces.{Here, Stands}
 use Rattle.flame_lex.specs.LexFaults.{IsFault}
 
 -- a piece of a text [own]

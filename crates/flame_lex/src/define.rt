@@ -1,6 +1,6 @@
 //! Define lines (C standard, 6.10.3: a macro without parameters, here of one number).
 
-ghost use Rattle.std.specs.Prelude.{◌≡◌, ◌<◌, ◌≤◌, true, false, Some, length, take_while, option_map, IfSome, MatchOption};
+ghost use Rattle.std.specs.Prelude.{◌≡◌, ◌<◌, true, false, length, take_while, option_map, IfSome, MatchOption};
 ghost use Rattle.std.specs.List.{list_all};
 ghost use Rattle.flame_ops.specs.Ascii.{begins_word, is_word_byte};
 ghost use Rattle.flame_lex.specs.ByteRuns.{is_space_or_tab, first_is, behind};

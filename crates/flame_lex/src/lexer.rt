@@ -18,10 +18,10 @@ use std::alloc::Global;
 
 /// The tokens of a text of at most 4,194,304 bytes, in order.
 ///
-/// The text is cut from the left into blanks, comments, include lines, define lines and lexemes, each the longest at its
-/// place; the tokens are the lexemes, where a word that an earlier define line names is the number of that line. A fault
-/// comes exactly where no cut covers the text, at the first place where the cut cannot go on. `NoMemory` is want of
-/// memory. Each byte is looked at a bounded number of times.
+/// The text is cut from the left into blanks, comments, include lines, define lines and lexemes, each the longest at
+/// its place; the tokens are the lexemes, where a word that an earlier define line names is the number of that line. A
+/// fault comes exactly where no cut covers the text, at the first place where the cut cannot go on. `NoMemory` is want
+/// of memory. Each byte is looked at a bounded number of times.
 pub fn lex(alloc: Global, bytes: &[u8]) -> Result<Seq<Token>, Fail<LexFault>>
     requires { length bytes.now ≤ 4194304 }
     ensures tokens { IfOk result (λ tokens. Lexes bytes.now tokens) }
