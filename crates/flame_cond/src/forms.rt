@@ -7,7 +7,7 @@ ghost use Rattle.flame_cond.specs.Tests.{moment, term_value, answer};
 
 use crate::numbers::number_at;
 use crate::periods::Period;
-use flame_ops::integers::Op;
+use flame_ops::Op;
 use flame_rows::Part;
 
 /// What a test compares.

@@ -8,7 +8,7 @@ ghost use Rattle.flame_spec.specs.Conditions.{has_lengths};
 use crate::conditions::Cond;
 use crate::filters::Filter;
 use crate::keys::SortBy;
-use flame_ops::integers::Op;
+use flame_ops::Op;
 use flame_rows::{NoMemory, Row, Seq, Text};
 use flame_spec::{AgentType, Condition, MessageType, Operand, Sort, Variable};
 use std::alloc::Global;

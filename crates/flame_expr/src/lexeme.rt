@@ -97,7 +97,7 @@ pub enum Lexeme {
     Continue,
 }
 
-/// The marks by their numbers in `flame_ops::words::operators`.
+/// The marks by their numbers in `flame_ops::operators`.
 pub const MARKS: [Lexeme; 29] = [
     Lexeme::Plus,
     Lexeme::Minus,
@@ -130,7 +130,7 @@ pub const MARKS: [Lexeme; 29] = [
     Lexeme::Arrow,
 ];
 
-/// The keywords by their numbers in `flame_ops::words::keywords`.
+/// The keywords by their numbers in `flame_ops::keywords`.
 pub const KEYWORDS: [Lexeme; 10] = [
     Lexeme::Int,
     Lexeme::Void,

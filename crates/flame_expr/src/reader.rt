@@ -18,7 +18,7 @@ use crate::cursor::{expect, lexeme_at, line_at, number_at, syntax, text_at};
 use crate::fault::Fail;
 use crate::lexeme::Lexeme;
 use flame_lex::token::Token;
-use flame_ops::integers::Op;
+use flame_ops::Op;
 use flame_rows::NoMemory;
 use flame_rows::Seq;
 use flame_spec::{Expr, Link, Sign, SignKind};

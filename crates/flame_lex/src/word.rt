@@ -7,7 +7,7 @@ ghost use Rattle.flame_ops.specs.Ascii.{is_word_byte};
 ghost use Rattle.flame_lex.specs.SourceWords.{IsLoopWord, IsWordKind};
 
 use crate::token::Kind;
-use flame_ops::table::Table;
+use flame_ops::Table;
 use flame_rows::{NoMemory, Text};
 use std::alloc::Global;
 

@@ -1,6 +1,6 @@
 use crate::fault::Fail;
 use crate::names::names;
-use flame_ops::integers::Op;
+use flame_ops::Op;
 use flame_rows::Seq;
 use flame_rows::Text;
 use flame_spec::{Condition, Operand};

@@ -2,13 +2,13 @@
 //! source.
 #![tactic(auto)]
 
-pub mod integers;
+mod integers;
 pub mod laws;
 mod spelling;
-pub mod table;
+mod table;
 #[cfg(test)]
 mod tests;
-pub mod words;
+mod words;
 
 pub use integers::{Cause, Op, apply, negate};
 pub use table::Table;

@@ -4,7 +4,7 @@ ghost use Rattle.std.specs.Prelude.{◌≡◌};
 ghost use Rattle.flame_parse.specs.Operators.{set_op, step_op, starts};
 
 use flame_expr::lexeme::Lexeme;
-use flame_ops::integers::Op;
+use flame_ops::Op;
 
 /// The operator before the `=`, where the lexeme is `=` or ends in it.
 pub(crate) fn set_operator(lexeme: Lexeme) -> Option<Option<Op>>

@@ -11,7 +11,7 @@ use crate::ending::Ending;
 use crate::expression::{at_line, value};
 use crate::scene::{Local, Open, Setting, State, newest};
 use crate::words::{Form, column_where};
-use flame_ops::integers::apply;
+use flame_ops::apply;
 use flame_rows::NoMemory;
 use flame_spec::Fault;
 use flame_spec::{Assign, Expr, Item};

@@ -6,7 +6,7 @@ ghost use Rattle.flame_sense.specs.Expressions.{at_line, holds, signed_by, signs
 ghost use Rattle.flame_sense.specs.Steps.{setting_of, state_of};
 
 use crate::scene::{Open, Setting, State};
-use flame_ops::integers::{Cause, apply, negate};
+use flame_ops::{Cause, apply, negate};
 use flame_spec::Fault;
 use flame_spec::{Expr, Link, Sign, SignKind};
 

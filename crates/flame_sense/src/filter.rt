@@ -9,7 +9,7 @@ ghost use Rattle.flame_spec.specs.Views.{is_read, key_of, key_order, view_order}
 
 use crate::scene::number_at;
 use crate::words::column_of;
-use flame_ops::integers::Op;
+use flame_ops::Op;
 use flame_rows::NoMemory;
 use flame_rows::Row;
 use flame_spec::{Condition, Operand};

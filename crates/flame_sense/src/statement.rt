@@ -16,7 +16,7 @@ use crate::call::call;
 use crate::ending::Ending;
 use crate::expression::value;
 use crate::scene::{Open, Setting, State};
-use flame_ops::integers::Cause;
+use flame_ops::Cause;
 use flame_rows::NoMemory;
 use flame_spec::Fault;
 use flame_spec::{Arm, Assign, Expr, Stmt};

@@ -1,6 +1,6 @@
 //! Conditions of functions and filters of inputs, as XMML has them.
 
-use flame_ops::integers::Op;
+use flame_ops::Op;
 use flame_rows::{Part, Text};
 
 /// A condition of a function, or a filter of an input.

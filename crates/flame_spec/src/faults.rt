@@ -1,6 +1,6 @@
 //! Faults of transition functions, of names in models, and of the bodies in function files.
 
-use flame_ops::integers::Cause;
+use flame_ops::Cause;
 use flame_rows::Text;
 
 /// Why an agent's run of its function has no outcome.

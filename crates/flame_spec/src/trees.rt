@@ -1,7 +1,7 @@
 //! The trees of function files: transition functions and helpers, as their grammar has them. Names stand as they are
 //! written, and lines count from 1. Brackets leave no trace.
 
-use flame_ops::integers::Op;
+use flame_ops::Op;
 use flame_rows::{Part, Seq, Text};
 
 /// A function file: its function definitions in order.

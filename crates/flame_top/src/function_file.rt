@@ -11,7 +11,7 @@ use crate::model::NarrowModel;
 use crate::names::is_word_byte;
 use crate::source::{Link, Operand, Sum};
 use crate::words::has_digits;
-use flame_ops::integers::Op;
+use flame_ops::Op;
 use flame_rows::NoMemory;
 use flame_rows::Seq;
 use std::alloc::Global;

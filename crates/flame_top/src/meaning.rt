@@ -4,7 +4,7 @@ ghost use Rattle.std.specs.Prelude.{◌≡◌, [], ◌∷◌, IfOk};
 ghost use Rattle.flame_top.specs.NarrowMeaning.{operand_value, sum_value, assigned, held, iteration};
 
 use crate::source::{Operand, Sum};
-use flame_ops::integers::apply;
+use flame_ops::apply;
 use flame_rows::NoMemory;
 use flame_rows::Bag;
 use flame_rows::Row;

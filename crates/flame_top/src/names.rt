@@ -7,7 +7,7 @@ ghost use Rattle.flame_ops.specs.Words.{keyword_spellings};
 ghost use Rattle.flame_spec.specs.Names.{is_filled, is_name, is_reserved, is_function_name};
 ghost use Rattle.flame_ops.specs.Ascii.{begins_word, is_word_byte};
 
-use flame_ops::words::keywords;
+use flame_ops::keywords;
 
 /// Whether the text has at least one byte.
 pub(crate) fn is_filled(text: &str) -> bool

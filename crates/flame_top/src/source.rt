@@ -1,6 +1,6 @@
 //! Function files that assign sums.
 
-use flame_ops::integers::Op;
+use flame_ops::Op;
 use flame_rows::Seq;
 
 /// A part of a sum.

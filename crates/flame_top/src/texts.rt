@@ -5,7 +5,7 @@ ghost use Rattle.flame_top.specs.RunTexts.{agent_text, agents_text, file_text, f
 
 use crate::meaning::held;
 use crate::model::NarrowModel;
-use flame_ops::integers::Cause;
+use flame_ops::Cause;
 use flame_rows::NoMemory;
 use flame_rows::Row;
 use flame_spec::Fault;

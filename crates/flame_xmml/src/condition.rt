@@ -18,7 +18,7 @@ use crate::operand::{operand_of, phase_of};
 use crate::parts::{fault, has, part, wanted};
 use crate::place::Place;
 use crate::words::{Connective, connective_of, name_of};
-use flame_ops::integers::Op;
+use flame_ops::Op;
 use flame_rows::Text;
 use flame_spec::{Condition, Operand};
 use serde_json::Value;

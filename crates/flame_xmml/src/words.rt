@@ -8,7 +8,7 @@ ghost use Rattle.flame_xmml.specs.Wants.{connective_of, connective_named};
 
 use crate::names::is_name;
 use crate::parts::members;
-use flame_ops::integers::Op;
+use flame_ops::Op;
 use serde_json::Value;
 
 /// What the text at `op` makes of two sides.

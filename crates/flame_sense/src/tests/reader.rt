@@ -2,7 +2,7 @@
 
 ghost use Rattle.std.specs.Prelude.{◌<◌};
 
-use flame_ops::integers::Op;
+use flame_ops::Op;
 use flame_rows::NoMemory;
 use flame_rows::Seq;
 use flame_rows::Text;

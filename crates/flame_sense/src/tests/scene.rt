@@ -2,7 +2,7 @@
 //!
 //! Messages are m, of k and v, and n, of v. Agents are A, of x and y, and B, of z. There is one constant, limit.
 
-use flame_ops::integers::Op;
+use flame_ops::Op;
 use flame_rows::NoMemory;
 use flame_rows::Bag;
 use flame_rows::Row;
