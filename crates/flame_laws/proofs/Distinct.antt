@@ -76,14 +76,14 @@ pub distinct : (names : List (List ℕ)) → LooksBack names → AreDistinct nam
 distinct names back = λ i k below inside e.
     apart (get_or names k []) names k (back.new k inside) i below (omega arith) e
 
-get_or-map : {X : Type 0} (f : X → List ℕ) (d : X) (xs : List X) (k : ℕ)
+pub get_or-map : {X : Type 0} (f : X → List ℕ) (d : X) (xs : List X) (k : ℕ)
     → f d ≡ []
     → get_or (map f xs) k [] ≡ f (get_or xs k d)
 get_or-map f d [] k h = sym h
 get_or-map f d (x ∷ xs) zero h = refl
 get_or-map f d (x ∷ xs) (suc k) h = get_or-map f d xs k h
 
-length-map : {X Y : Type 0} (f : X → Y) (xs : List X) → length (map f xs) ≡ length xs
+pub length-map : {X Y : Type 0} (f : X → Y) (xs : List X) → length (map f xs) ≡ length xs
 length-map f [] = refl
 length-map f (x ∷ xs) = ap suc (length-map f xs)
 
@@ -138,7 +138,7 @@ stands_apart earlier path name h = record {
       h);
 }
 
-is_apart : (names : List (List ℕ))
+pub is_apart : (names : List (List ℕ))
     → ((k : ℕ) → k < length names → StandsApart (get_or names k []) (take k names))
     → IsApart names
 is_apart names facts = record {

@@ -19,3 +19,5 @@ pub mod FilesOfFaults
 pub mod Names
 pub mod CallRounds
 pub mod Helpers
+pub mod Members
+pub mod Places

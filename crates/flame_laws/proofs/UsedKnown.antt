@@ -18,21 +18,20 @@ use Rattle.flame_laws.specs.UsedNames.{knows, IsInputKnown, IsFunctionKnown, Use
 use Rattle.flame_laws.proofs.Found.{left-none, right-none}
 use Rattle.flame_laws.proofs.NameKnowledge.{each_none, test_fails, not_false, condition_known}
 
-xmodel : List ℕ
+abbrev pub xmodel : List ℕ
 xmodel = at_key root (codes "xmodel")
 
-environment : List ℕ
+abbrev pub environment : List ℕ
 environment = at_key xmodel (codes "environment")
 
 -- no part of the model has faults
-record HasNone (model : Model) : Type 0 where
-  constants : constant_faults (at_key environment (codes "constants")) model.constants ≡ []
-  units : units_faults (at_key environment (codes "timeUnits")) model.units ≡ []
-  messages : messages_faults (at_key xmodel (codes "messages")) model.messages ≡ []
-  agents : agents_faults (declared_by model) (at_key xmodel (codes "agents")) model.agents ≡ []
+pub record HasNone (model : Model) : Type 0 where
+  pub constants : constant_faults (at_key environment (codes "constants")) model.constants ≡ []
+  pub units : units_faults (at_key environment (codes "timeUnits")) model.units ≡ []
+  pub messages : messages_faults (at_key xmodel (codes "messages")) model.messages ≡ []
+  pub agents : agents_faults (declared_by model) (at_key xmodel (codes "agents")) model.agents ≡ []
 
-parts_none : (model : Model) → name_faults model ≡ [] → HasNone model
-unfolding xmodel environment
+pub parts_none : (model : Model) → name_faults model ≡ [] → HasNone model
 parts_none model none = record {
   constants = left-none _ _ (left-none (environment_faults environment model) _ none);
   units =
@@ -44,7 +43,7 @@ parts_none model none = record {
       (right-none (environment_faults environment model) _ none);
 }
 
-agent_none :
+pub agent_none :
     (model : Model) (i : ℕ) (type : AgentType)
     → name_faults model ≡ []
     → slice_get model.agents i ≡ Some type
@@ -91,12 +90,12 @@ input_known declared memory earlier path input none =
     }
 
 -- no part of the function has faults
-record HasNoneIn (declared : DeclaredNames) (memory : List (List ℕ)) (path : List ℕ) (function : Function) : Type 0 where
-  condition : condition_faults (condition_scope declared memory) (at_key path (codes "condition")) function.condition ≡ []
-  inputs : inputs_faults declared memory (at_key path (codes "inputs")) function.inputs ≡ []
-  outputs : outputs_faults declared (at_key path (codes "outputs")) function.outputs ≡ []
+pub record HasNoneIn (declared : DeclaredNames) (memory : List (List ℕ)) (path : List ℕ) (function : Function) : Type 0 where
+  pub condition : condition_faults (condition_scope declared memory) (at_key path (codes "condition")) function.condition ≡ []
+  pub inputs : inputs_faults declared memory (at_key path (codes "inputs")) function.inputs ≡ []
+  pub outputs : outputs_faults declared (at_key path (codes "outputs")) function.outputs ≡ []
 
-function_none :
+pub function_none :
     (declared : DeclaredNames) (memory : List (List ℕ)) (is_taken : List ℕ → Bool) (earlier : List Function) (path : List ℕ)
     (function : Function)
     → function_faults declared memory is_taken earlier path function ≡ []

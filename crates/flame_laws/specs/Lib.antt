@@ -2,6 +2,7 @@
 pub mod SmallModels
 pub mod DistinctNames
 pub mod NameLaws
+pub mod MemberLaws
 pub mod UsedNames
 pub mod NameCases
 pub mod OrderLaws

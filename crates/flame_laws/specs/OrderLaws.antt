@@ -1,7 +1,7 @@
 -- What holds of model order, cycles and layers: of any n functions and any `before`. [own]
 use Rattle.std.specs.Prelude.{◌≡◌, ◌↔◌, ℕ, suc, ◌<◌, ◌≤◌, Bool, true, false, List, [], ◌∷◌, ◌++◌, Some, None, length, take, slice_index}
 use Rattle.flame_spec.specs.Below.{is_in, HasNoTwice}
-use Rattle.flame_spec.specs.ModelOrder.{next, order, first_left, step_back, cycle}
+use Rattle.flame_spec.specs.ModelOrder.{next, order, rank, first_left, step_back, cycle}
 use Rattle.flame_spec.specs.Layers.{above, layer}
 
 -- model order lists functions of the model
@@ -49,6 +49,40 @@ LeftOverStepsBack =
     × (is_in f (order n before) ≡ false)
     × (before f g ≡ true)
 
+-- ---- ranks
+
+-- what stands before a function of the order has the smaller rank
+abbrev pub RanksRise : Type 0
+RanksRise =
+    (n : ℕ) (before : ℕ → ℕ → Bool) (f g : ℕ)
+    → f < n
+    → is_in g (order n before) ≡ true
+    → before f g ≡ true
+    → rank n before f < rank n before g
+
+-- at the rank of a function of the order stands the function
+abbrev pub OrderHasAtRank : Type 0
+OrderHasAtRank =
+    (n : ℕ) (before : ℕ → ℕ → Bool) (f : ℕ)
+    → is_in f (order n before) ≡ true
+    → (rank n before f < length (order n before)) × (slice_index (order n before) (rank n before f) ≡ f)
+
+-- the rank of the function at a place is the place
+abbrev pub RankIsPlace : Type 0
+RankIsPlace =
+    (n : ℕ) (before : ℕ → ℕ → Bool) (place : ℕ)
+    → place < length (order n before)
+    → rank n before (slice_index (order n before) place) ≡ place
+
+-- the rank of a function that is left over is the length of the order
+abbrev pub LeftOverHasNoRank : Type 0
+LeftOverHasNoRank =
+    (n : ℕ) (before : ℕ → ℕ → Bool) (f : ℕ)
+    → is_in f (order n before) ≡ false
+    → rank n before f ≡ length (order n before)
+
+-- ---- cycles
+
 -- each stands before the next one
 abbrev pub IsChain : (ℕ → ℕ → Bool) → List ℕ → Type 0
 IsChain before [] = Unit {0}
@@ -89,6 +123,8 @@ RoundLeavesOver =
     → IsRound before functions
     → first_left n before ≡ None
     → ⊥
+
+-- ---- layers
 
 -- without a cycle the layer of each function is 0, or 1 more than the greatest layer of its predecessors
 abbrev pub LayersAreAbove : Type 0

@@ -2,7 +2,8 @@
 
 ghost use Rattle.flame_laws.specs.OrderCases.{WriterRunsFirst, CyclesAreMet, StartsAreFound};
 ghost use Rattle.flame_laws.specs.OrderLaws.{OrderListsFunctions, OrderListsNoneTwice, OrderRespectsBefore, OrderTakesFirst, OrderIsWhole, LeftOverStepsBack, LeftOverHasCycle, RoundLeavesOver, LayersAreAbove, LayersRise, LayersHaveNoGap};
-ghost use Rattle.flame_laws.specs.StateLaws.{StartsAreNotEntered, TypesHaveStarts};
+ghost use Rattle.flame_laws.specs.StateLaws.{StartsAreNotEntered, TypesHaveStarts, PlansHaveOneStart};
+ghost use Rattle.flame_laws.specs.OrderLaws.{RanksRise, OrderHasAtRank, RankIsPlace, LeftOverHasNoRank};
 
 /// Model order lists functions of the model, none twice, each after all that stand before it, and of those that could
 /// come next always the first in document order. It lists all of them exactly where none is left over, and a function
@@ -14,6 +15,15 @@ pub fn orders()
     ensures first { OrderTakesFirst }
     ensures whole { OrderIsWhole }
     ensures left { LeftOverStepsBack }
+{}
+
+/// What stands before a function has the smaller rank. The rank of a function is its place in the order, and at its rank
+/// stands the function; one that is left over has the length of the order for its rank.
+pub fn ranks()
+    ensures rise { RanksRise }
+    ensures at_rank { OrderHasAtRank }
+    ensures place { RankIsPlace }
+    ensures left { LeftOverHasNoRank }
 {}
 
 /// Where a function is left over, the cycle's members stand before one another in a round, each once, beginning with
@@ -32,10 +42,11 @@ pub fn layers()
 {}
 
 /// A start state of a type is one of its states that no function of the type enters, and each such state is one. In a
-/// model where no function is left over each type has one at least.
+/// model where no function is left over each type has one at least, and where besides no type has two, each has one.
 pub fn start_states_of_types()
     ensures entered { StartsAreNotEntered }
     ensures some { TypesHaveStarts }
+    ensures one { PlansHaveOneStart }
 {}
 
 /// Small models worked by hand: their orders, layers, cycles and start states.
