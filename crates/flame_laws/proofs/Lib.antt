@@ -21,3 +21,4 @@ pub mod CallRounds
 pub mod Helpers
 pub mod Members
 pub mod Places
+pub mod Periods

@@ -73,7 +73,7 @@ after_positive : (unit : TimeUnit) (o : Option ℤ)
 after_positive unit None p h s = h
 after_positive unit (Some z) p h s = product_positive unit.period z p h s
 
-unit_length-push : (units : List TimeUnit) (unit : TimeUnit) (name : List ℕ)
+pub unit_length-push : (units : List TimeUnit) (unit : TimeUnit) (name : List ℕ)
     → unit_length (units ++ unit ∷ []) name
     ≡ cond (bytes_eq name unit.name) (length_after units unit) (unit_length units name)
 unit_length-push units unit name =
@@ -116,7 +116,7 @@ all_of (u ∷ units) zero d h inside = and_left (is_well_formed_unit u) (list_al
 all_of (u ∷ units) (suc k) d h inside =
     all_of units k d (and_right (is_well_formed_unit u) (list_all is_well_formed_unit units) h) (omega arith)
 
-measured : (earlier : List TimeUnit) (path : List ℕ) (unit : TimeUnit)
+pub measured : (earlier : List TimeUnit) (path : List ℕ) (unit : TimeUnit)
     → measure_faults earlier path unit ≡ []
     → (is_among unit.unit (unit_names earlier) ≡ true) × (option_map_or is_long (length_after earlier unit) false ≡ false)
 measured earlier path unit h = by (is_among unit.unit (unit_names earlier)) refl h
@@ -166,18 +166,18 @@ known_take path units none well (suc n) inside =
     (sym (take-suc units n u at))
     (known_push (take n units) unit (known_take path units none well n (omega arith)) positive measure.0 measure.1)
 
-take_all : (units : List TimeUnit) → take (length units) units ≡ units
+pub take_all : (units : List TimeUnit) → take (length units) units ≡ units
 take_all [] = refl
 take_all (u ∷ units) = ap (λ us. u ∷ us) (take_all units)
 
-bytes_eq_same : (name : List ℕ) → bytes_eq name name ≡ true
+pub bytes_eq_same : (name : List ℕ) → bytes_eq name name ≡ true
 bytes_eq_same name = (bytes_eq-Decides name name).1 refl
 
-or_true : (a : Bool) → (a || true) ≡ true
+pub or_true : (a : Bool) → (a || true) ≡ true
 or_true true = refl
 or_true false = refl
 
-own : (units : List TimeUnit) (k : ℕ) (d : TimeUnit)
+pub own : (units : List TimeUnit) (k : ℕ) (d : TimeUnit)
     → k < length units → is_among (get_or units k d).name (map (λ u. u.name) units) ≡ true
 own [] k d inside = absurd (omega arith)
 own (u ∷ units) zero d inside = ap (λ b. b || is_among u.name (map (λ v. v.name) units)) (bytes_eq_same u.name)

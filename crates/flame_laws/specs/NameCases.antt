@@ -1,10 +1,11 @@
 -- Small models with name faults, worked by hand. [own]
-use Rattle.std.specs.Prelude.{◌≡◌, ℕ, ℤ, pos, List, [], ◌∷◌, codes, None}
+use Rattle.std.specs.Prelude.{◌≡◌, ℕ, ℤ, pos, List, [], ◌∷◌, codes, map, Some, None}
 use Rattle.flame_spec.specs.declared.models.Model.{Model}
 use Rattle.flame_spec.specs.declared.models.Variable.{Variable}
 use Rattle.flame_spec.specs.declared.models.TimeUnit.{TimeUnit}
 use Rattle.flame_spec.specs.declared.faults.NameKind.TheVariants.{Clash, UnknownUnit, LongUnit}
 use Rattle.flame_spec.specs.Refusals.{name_fault}
+use Rattle.flame_spec.specs.TimeUnits.{unit_length}
 use Rattle.flame_spec.specs.NameFaults.{name_faults}
 
 -- a variable of one number
@@ -51,3 +52,25 @@ UnitsAreMeasured =
     ≡ name_fault UnknownUnit (codes "/xmodel/environment/timeUnits/0/unit") (codes "hour")
     ∷ name_fault LongUnit (codes "/xmodel/environment/timeUnits/2/period") (codes "age")
     ∷ []
+
+-- an hour of 4 iterations, a day of 24 hours and a week of 7 days
+abbrev pub calendar : Model
+calendar = record {
+  constants = [];
+  files = [];
+  units =
+      unit (codes "hour") (codes "iteration") (pos 4)
+      ∷ unit (codes "day") (codes "hour") (pos 24)
+      ∷ unit (codes "week") (codes "day") (pos 7)
+      ∷ [];
+  messages = [];
+  agents = [];
+}
+
+-- a unit of a unit has as many iterations as the periods multiply to, and a name that is no unit has none
+abbrev pub CalendarIsMeasured : Type 0
+CalendarIsMeasured =
+    (name_faults calendar ≡ [])
+    × (map (unit_length calendar.units)
+    (codes "iteration" ∷ codes "hour" ∷ codes "day" ∷ codes "week" ∷ codes "year" ∷ [])
+    ≡ Some (pos 1) ∷ Some (pos 4) ∷ Some (pos 96) ∷ Some (pos 672) ∷ None ∷ [])

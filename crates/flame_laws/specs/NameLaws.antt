@@ -1,7 +1,8 @@
 -- What holds of models without name faults. [own]
-use Rattle.std.specs.Prelude.{◌≡◌, [], map, true, All, IsSomeAnd}
+use Rattle.std.specs.Prelude.{◌≡◌, ℕ, pos, ◌*ℤ◌, [], map, codes, true, All, IsSomeAnd, Some, option_map, slice_get}
 use Rattle.std.specs.List.{list_all}
 use Rattle.flame_spec.specs.declared.models.Model.{Model}
+use Rattle.flame_spec.specs.declared.models.TimeUnit.{TimeUnit}
 use Rattle.flame_ops.specs.Ascii.{capitals}
 use Rattle.flame_spec.specs.KnownNames.{unit_names, message_names}
 use Rattle.flame_spec.specs.TimeUnits.{unit_length}
@@ -40,3 +41,14 @@ LengthsAreKnown =
     → All
     (λ unit. IsSomeAnd (unit_length model.units unit.name) (λ length. is_positive_int length ≡ true))
     model.units
+
+-- `iteration` has one iteration, and each time unit its period times the length of the unit that it is measured in
+abbrev pub LengthsMultiply : Type 0
+LengthsMultiply =
+    (model : Model)
+    → name_faults model ≡ []
+    → (unit_length model.units (codes "iteration") ≡ Some (pos 1))
+    × ((i : ℕ) (unit : TimeUnit)
+    → slice_get model.units i ≡ Some unit
+    → unit_length model.units unit.name
+    ≡ option_map (λ length. unit.period *ℤ length) (unit_length model.units unit.unit))

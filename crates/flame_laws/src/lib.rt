@@ -17,7 +17,7 @@ pub use check_laws::{
 };
 pub use fault_cases::{array_cases, check_cases, helper_cases};
 pub use helper_laws::{helpers_end, helpers_stand_alone};
-pub use name_laws::{lengths_are_known, members_differ, names_differ};
+pub use name_laws::{members_differ, names_differ, unit_lengths};
 pub use order_laws::{cycles, layers, order_cases, orders, ranks, start_states_of_types};
 pub use used_laws::{used_names, used_names_cases};
 pub use view_laws::{choices, time_conditions, view_cases, views};

@@ -1,6 +1,6 @@
 //! Laws of models without name faults. A law is its contract: it computes nothing.
 
-ghost use Rattle.flame_laws.specs.NameLaws.{ConstantsDiffer, UnitsDiffer, MessagesDiffer, TypesDiffer, LengthsAreKnown};
+ghost use Rattle.flame_laws.specs.NameLaws.{ConstantsDiffer, UnitsDiffer, MessagesDiffer, TypesDiffer, LengthsAreKnown, LengthsMultiply};
 ghost use Rattle.flame_laws.specs.MemberLaws.{TypeVariablesDiffer, MessageVariablesDiffer, InputsDiffer, OutputsDiffer};
 ghost use Rattle.flame_laws.specs.MemberLaws.{FunctionsOfTypesDiffer, TransitionsDiffer};
 
@@ -26,7 +26,8 @@ pub fn members_differ()
 {}
 
 /// In a model without name faults whose time units are well formed, each unit has a length: from 1 to 2147483647
-/// iterations.
-pub fn lengths_are_known()
-    ensures { LengthsAreKnown }
+/// iterations. It is its period times the length of the unit that it is measured in, and `iteration` has one.
+pub fn unit_lengths()
+    ensures known { LengthsAreKnown }
+    ensures product { LengthsMultiply }
 {}
