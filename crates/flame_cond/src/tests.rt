@@ -1,6 +1,6 @@
 //! Each public call once, on a condition worked by hand. Tables of cases stand in the files of cases.
 
-ghost use Rattle.std.specs.Prelude.{◌<◌, ◌^◌, List, IsTrue, IfOk};
+ghost use Rattle.std.specs.Prelude.{◌<◌, ◌^◌, pos, int_le, List, All, IsTrue, IfOk};
 ghost use Rattle.flame_spec.specs.declared.models.TimeUnit.{TimeUnit};
 ghost use Rattle.flame_spec.specs.Columns.{width};
 ghost use Rattle.flame_spec.specs.Conditions.{has_lengths};
@@ -10,7 +10,7 @@ use crate::filters::Filter;
 use crate::keys::SortBy;
 use flame_ops::Op;
 use flame_rows::{NoMemory, Row, Seq, Text};
-use flame_spec::{AgentType, Condition, MessageType, Operand, Sort, Variable};
+use flame_spec::{AgentType, Condition, MessageType, Operand, Sort, TimeUnit, Variable};
 use std::alloc::Global;
 use std::test::Fail;
 
@@ -59,12 +59,18 @@ fn is_two(number: Operand) -> Condition
     Condition::Compare(Op::Eq, number, Operand::Number(2))
 }
 
+/// No time units.
+fn no_units(alloc: Global) -> Seq<TimeUnit>
+    ensures { All (λ unit. IsTrue (int_le (pos 1) unit.period)) result }
+{
+    Seq::of(Vec::new(alloc))
+}
+
 /// `a.y = 2`, of a function.
 fn cond(alloc: Global) -> Result<Cond, NoMemory> {
     let agent = agent(alloc)?;
     let written = is_two(Operand::Agent(Text::of(alloc, "y")?));
-    let units = Seq::of(Vec::new(alloc));
-    Cond::of(alloc, &written, &agent, &units)
+    Cond::of(alloc, &written, &agent, &no_units(alloc))
 }
 
 /// `a.y = 2`, of an input.

@@ -6,7 +6,7 @@ use Rattle.std.proofs.lemmas.List.{take_more, length-take-le}
 use Rattle.flame_spec.specs.Below.{is_in}
 use Rattle.flame_spec.proofs.FirstBelow.{is_in_push}
 use Rattle.flame_depend.specs.declared.place.Placed.{Placed}
-use Rattle.flame_depend.specs.Shown.{shown}
+use Rattle.flame_depend.specs.PlacedFunctions.{shown}
 
 module _ {X : Type 0} where
   pub slice_get-set_same : (xs : List X) (i : ℕ) (y : X) → i < length xs → slice_get (set xs i y) i ≡ Some y

@@ -10,7 +10,7 @@ use Rattle.flame_spec.specs.Below.{all_below, is_in}
 use Rattle.flame_spec.specs.Before.{both_stand, before_among}
 use Rattle.flame_spec.proofs.FirstBelow.{is_in-all_below}
 use Rattle.flame_depend.specs.Marks.{marked_where}
-use Rattle.flame_depend.specs.Tables.{Table, listed}
+use Rattle.flame_depend.specs.NameTables.{Table, listed}
 use Rattle.flame_depend.specs.Links.{adds_at, enters_at, listed_at, IsAdding, AreEntering, is_linked}
 use Rattle.flame_depend.proofs.Marking.{marked_new}
 

@@ -3,7 +3,7 @@ use Rattle.std.specs.Prelude.{ℕ, zero, suc, Bool, List, [], ◌++◌, map}
 use Rattle.flame_spec.specs.declared.models.Model.{Model}
 use Rattle.flame_spec.specs.Before.{before, function_count}
 use Rattle.flame_spec.specs.Below.{all_below}
-use Rattle.flame_depend.specs.declared.edge.Edge.{Edge}
+use Rattle.flame_depend.specs.declared.pairs.Edge.{Edge}
 
 -- from f to g
 abbrev pub edge : ℕ → ℕ → Edge

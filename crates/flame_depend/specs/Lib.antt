@@ -1,10 +1,13 @@
-pub mod Shown
+-- The promise: a plan is the model's order, layers and starts, and a fault is the model's.
+pub mod Plans
+-- What the edges are.
+pub mod Edges
+-- The words that only bodies and proofs use.
+pub mod PlacedFunctions
 pub mod Marks
-pub mod Tables
+pub mod NameTables
 pub mod Links
 pub mod Ready
 pub mod Graph
-pub mod Edges
 pub mod Heights
 pub mod Backs
-pub mod Plans

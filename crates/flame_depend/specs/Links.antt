@@ -5,7 +5,7 @@ use Rattle.std.specs.Str.{bytes_eq}
 use Rattle.flame_spec.specs.Functions.{Place}
 use Rattle.flame_spec.specs.Before.{adds}
 use Rattle.flame_spec.specs.Below.{all_below, is_in}
-use Rattle.flame_depend.specs.Tables.{Table, listed}
+use Rattle.flame_depend.specs.NameTables.{Table, listed}
 
 -- there is a function, and it adds the message
 abbrev pub adds_at : Option Place → List ℕ → Bool

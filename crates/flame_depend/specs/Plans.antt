@@ -5,11 +5,11 @@ use Rattle.flame_spec.specs.declared.models.AgentType.{AgentType}
 use Rattle.flame_spec.specs.States.{start_states, many_starts, many_from}
 use Rattle.flame_spec.specs.ModelOrder.{model_order, left_over, model_cycle}
 use Rattle.flame_spec.specs.Layers.{model_layers}
-use Rattle.flame_depend.specs.declared.plan.Plan.{Plan}
-use Rattle.flame_depend.specs.declared.fault.DependFault.{DependFault}
-use Rattle.flame_depend.specs.declared.fault.DependFault.TheVariants.{Cycle, Starts}
-use Rattle.flame_depend.specs.declared.fault.Fail.{Fail}
-use Rattle.flame_depend.specs.declared.fault.Fail.TheVariants.{Fault, NoMemory}
+use Rattle.flame_depend.specs.declared.plans.Plan.{Plan}
+use Rattle.flame_depend.specs.declared.faults.DependFault.{DependFault}
+use Rattle.flame_depend.specs.declared.faults.DependFault.TheVariants.{Cycle, Starts}
+use Rattle.flame_rows.specs.declared.fails.Fail.{Fail}
+use Rattle.flame_rows.specs.declared.fails.Fail.TheVariants.{Fault, NoMemory}
 use Rattle.flame_depend.specs.declared.starts.Found.{Found}
 use Rattle.flame_depend.specs.declared.starts.Found.TheVariants.{Lone, Many}
 
@@ -34,7 +34,7 @@ IsFault model (Cycle fault) = IsSome (left_over model) × (fault.functions ≡ m
 IsFault model (Starts fault) = (left_over model ≡ None) × (many_starts model ≡ Some (fault.agent, fault.states))
 
 -- the model has this fault, or memory was not found
-abbrev pub FailsBy : Model → Fail → Type 0
+abbrev pub FailsBy : Model → Fail DependFault → Type 0
 FailsBy model (Fault fault) = IsFault model fault
 FailsBy model NoMemory = Unit {0}
 

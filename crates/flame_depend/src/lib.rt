@@ -2,20 +2,22 @@
 //! states.
 #![tactic(auto)]
 
-pub mod counted;
 mod cycle;
-pub mod edge;
-pub mod edges;
-pub mod fault;
+mod faults;
 mod layers;
 mod links;
 mod order;
+mod pairs;
 mod place;
-pub mod plan;
-pub mod planner;
+mod planner;
+pub mod plans;
 mod ready;
 mod starts;
 mod table;
 mod targets;
 #[cfg(test)]
 mod tests;
+
+pub use faults::{CycleFault, DependFault, ManyStarts};
+pub use pairs::{Edge, edges};
+pub use planner::plan;

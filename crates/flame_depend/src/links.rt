@@ -5,16 +5,15 @@ ghost use Rattle.std.specs.List.{list_any};
 ghost use Rattle.std.specs.Str.{bytes_eq};
 ghost use Rattle.flame_spec.specs.Below.{is_in};
 ghost use Rattle.flame_spec.specs.Before.{before_among};
-ghost use Rattle.flame_depend.specs.Shown.{shown};
+ghost use Rattle.flame_depend.specs.PlacedFunctions.{shown};
 ghost use Rattle.flame_depend.specs.Marks.{marked_where};
-ghost use Rattle.flame_depend.specs.Tables.{listed};
+ghost use Rattle.flame_depend.specs.NameTables.{listed};
 ghost use Rattle.flame_depend.specs.Links.{IsAdding, AreEntering, AreOfTypes, AreSuccessors, is_linked};
 
 use crate::place::Placed;
 use crate::table::{Table, note, under};
 use crate::targets::Targets;
-use flame_rows::NoMemory;
-use flame_rows::Text;
+use flame_rows::{NoMemory, Text};
 use std::alloc::Global;
 use std::collections::HashMap;
 

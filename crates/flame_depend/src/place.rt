@@ -2,7 +2,7 @@
 
 ghost use Rattle.std.specs.Prelude.{◌≡◌, ◌++◌, IfOk, OnOk, map};
 ghost use Rattle.flame_spec.specs.Functions.{at_type, functions};
-ghost use Rattle.flame_depend.specs.Shown.{shown};
+ghost use Rattle.flame_depend.specs.PlacedFunctions.{shown};
 
 use flame_rows::NoMemory;
 use flame_spec::{AgentType, Function, Model};

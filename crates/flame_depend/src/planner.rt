@@ -1,21 +1,22 @@
 //! Planning.
 
-ghost use Rattle.std.specs.Prelude.{◌≡◌, ◌^◌, ◌<◌, None, IfOk, IfErr, length};
+ghost use Rattle.std.specs.Prelude.{◌≡◌, ◌^◌, ◌<◌, None, IsTrue, IfOk, IfErr, length};
 ghost use Rattle.flame_spec.specs.Before.{before, function_count};
+ghost use Rattle.flame_spec.specs.Counted.{is_counted};
 ghost use Rattle.flame_spec.specs.ModelOrder.{model_order, left_over};
 ghost use Rattle.flame_depend.specs.Links.{AreSuccessors};
 ghost use Rattle.flame_depend.specs.Plans.{IsPlan, FailsBy};
 
 use crate::cycle::{first_waiting, meet_cycle};
-use crate::fault::{CycleFault, DependFault, Fail};
+use crate::faults::{CycleFault, DependFault};
 use crate::layers::layer_functions;
 use crate::links::successors;
 use crate::order::put_in_order;
 use crate::place::place_all;
-use crate::plan::Plan;
+use crate::plans::Plan;
 use crate::starts::{Found, find_starts};
 use crate::targets::Targets;
-use flame_rows::Seq;
+use flame_rows::{Fail, Seq};
 use flame_spec::Model;
 use std::alloc::Global;
 
@@ -25,7 +26,7 @@ fn plan_ordered(
     model: &Model,
     lists: &[Targets],
     order: Vec<u32>,
-) -> Result<Plan, Fail>
+) -> Result<Plan, Fail<DependFault>>
     requires functions { function_count model.now < 2 ^ 32 }
     requires agents { length model.now.agents < 2 ^ 32 }
     requires lists { AreSuccessors (function_count model.now) (before model.now) lists.now }
@@ -48,8 +49,8 @@ fn plan_ordered(
 /// The order of the model's functions, their layers, and the start state of each agent type.
 ///
 /// Again and again the first function in document order runs that has not run and before which all that stand before
-/// it have run. The model has fewer than 2^32 functions and fewer than 2^32 agent types. With f functions and e edges
-/// it takes time for about f log f + e steps.
+/// it have run. The model is one that `Model::is_counted` passes. With f functions and e edges it takes time for
+/// about f log f + e steps.
 ///
 /// # Errors
 ///
@@ -57,9 +58,8 @@ fn plan_ordered(
 /// them by stepping again and again to the first left-over function before. `Fault` with `Starts` comes exactly where
 /// none is left over and a type has two start states or more: states that no function of the type enters. It has the
 /// first such type. `NoMemory` is want of memory.
-pub fn plan(alloc: Global, model: &Model) -> Result<Plan, Fail>
-    requires functions { function_count model.now < 2 ^ 32 }
-    requires agents { length model.now.agents < 2 ^ 32 }
+pub fn plan(alloc: Global, model: &Model) -> Result<Plan, Fail<DependFault>>
+    requires { IsTrue (is_counted model.now) }
     ensures plan { IfOk result (IsPlan model.now) }
     ensures fault { IfErr result (FailsBy model.now) }
 {

@@ -7,10 +7,8 @@ ghost use Rattle.std.specs.HashSet.{contains_text};
 ghost use Rattle.flame_spec.specs.States.{is_entered, start_states};
 ghost use Rattle.flame_depend.specs.Plans.{AreStarts};
 
-use crate::fault::ManyStarts;
-use flame_rows::NoMemory;
-use flame_rows::Seq;
-use flame_rows::Text;
+use crate::faults::ManyStarts;
+use flame_rows::{NoMemory, Seq, Text};
 use flame_spec::{AgentType, Function};
 use std::alloc::Global;
 use std::collections::HashSet;

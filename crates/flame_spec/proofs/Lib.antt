@@ -6,3 +6,4 @@ pub mod Starts
 pub mod Viewed
 pub mod Beginnings
 pub mod Alike
+pub mod Counts

@@ -14,6 +14,7 @@ pub mod Capitals
 pub mod KnownNames
 pub mod LookUps
 pub mod WellFormed
+pub mod Counted
 pub mod Paths
 pub mod Refusals
 pub mod UnitFaults

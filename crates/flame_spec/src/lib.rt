@@ -2,6 +2,7 @@
 #![tactic(auto)]
 
 mod conditions;
+mod counted;
 mod faults;
 mod models;
 mod outcomes;

@@ -3,7 +3,7 @@ use Rattle.std.proofs.Common.{ap, ◌∙◌, refl, take, map}
 use Rattle.std.specs.Prelude.{◌==◌, ◌&&◌, ◌||◌, slice_get}
 use Rattle.std.specs.List.{list_any}
 use Rattle.std.specs.Str.{bytes_eq}
-use Rattle.flame_depend.specs.Shown.{shown}
+use Rattle.flame_depend.specs.PlacedFunctions.{shown}
 use Rattle.flame_depend.specs.Links.{adds_at}
 use Rattle.flame_depend.proofs.Gets.{test_more, shown_at}
 use Rattle.flame_depend.proofs.links.adding.Goals as goal

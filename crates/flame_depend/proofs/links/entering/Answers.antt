@@ -2,8 +2,8 @@
 use Rattle.std.proofs.Common.{◌<◌, ◌++◌, ◌∷◌, [], Option, ap, ◌∙◌, subst, map, arith, cond}
 use Rattle.std.specs.Str.{bytes_eq}
 use Rattle.flame_spec.specs.Functions.{Place}
-use Rattle.flame_depend.specs.Shown.{shown}
-use Rattle.flame_depend.specs.Tables.{listed}
+use Rattle.flame_depend.specs.PlacedFunctions.{shown}
+use Rattle.flame_depend.specs.NameTables.{listed}
 use Rattle.flame_depend.specs.Links.{IsOfTypes}
 use Rattle.flame_depend.proofs.Gets.{shown_at, read_at}
 use Rattle.flame_depend.proofs.Entering.{entering_more}

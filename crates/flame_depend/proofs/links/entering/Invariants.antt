@@ -1,5 +1,5 @@
 use Rattle.std.proofs.Common.{take, map}
-use Rattle.flame_depend.specs.Shown.{shown}
+use Rattle.flame_depend.specs.PlacedFunctions.{shown}
 use Rattle.flame_depend.specs.Links.{AreEntering}
 use Rattle.flame_depend.proofs.links.entering.Given as goal
 

@@ -6,7 +6,7 @@ use Rattle.std.proofs.lemmas.List.{length-map}
 use Rattle.flame_spec.specs.Functions.{Place}
 use Rattle.flame_spec.specs.Below.{is_in}
 use Rattle.flame_spec.specs.Before.{before_among}
-use Rattle.flame_depend.specs.Shown.{shown}
+use Rattle.flame_depend.specs.PlacedFunctions.{shown}
 use Rattle.flame_depend.specs.Marks.{marked_where}
 use Rattle.flame_depend.specs.Links.{IsOfTypes, adds_at, enters_at, listed_at, is_linked}
 use Rattle.flame_depend.proofs.Gets.{shown_at, read_at, slice_get_past}

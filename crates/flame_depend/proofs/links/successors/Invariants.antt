@@ -1,7 +1,7 @@
 use Rattle.std.proofs.Common.{◌≡◌, ℕ, ◌<◌, [], length, map, get_or}
 use Rattle.flame_spec.specs.Below.{all_below}
 use Rattle.flame_spec.specs.Before.{before_among}
-use Rattle.flame_depend.specs.Shown.{shown}
+use Rattle.flame_depend.specs.PlacedFunctions.{shown}
 use Rattle.flame_depend.proofs.links.successors.Given as goal
 
 abbrev pub invariant-loop-i : goal.invariant-loop-i

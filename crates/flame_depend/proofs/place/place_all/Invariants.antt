@@ -1,6 +1,6 @@
 use Rattle.std.proofs.Common.{◌≡◌, ◌++◌, map, drop}
 use Rattle.flame_spec.specs.Functions.{functions_from}
-use Rattle.flame_depend.specs.Shown.{shown}
+use Rattle.flame_depend.specs.PlacedFunctions.{shown}
 use Rattle.flame_depend.proofs.place.place_all.Given as goal
 
 abbrev pub invariant-loop-agent : goal.invariant-loop-agent

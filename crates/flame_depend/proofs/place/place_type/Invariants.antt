@@ -1,6 +1,6 @@
 use Rattle.std.proofs.Common.{◌≡◌, ◌++◌, map, take}
 use Rattle.flame_spec.specs.Functions.{at_type}
-use Rattle.flame_depend.specs.Shown.{shown}
+use Rattle.flame_depend.specs.PlacedFunctions.{shown}
 use Rattle.flame_depend.proofs.place.place_type.Given as goal
 
 abbrev pub invariant-loop-function : goal.invariant-loop-function

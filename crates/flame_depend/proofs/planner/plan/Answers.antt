@@ -10,7 +10,7 @@ use Rattle.flame_spec.specs.Below.{first_below}
 use Rattle.flame_spec.specs.ModelOrder.{order, first_left, cycle, walk_back, begun_with_least}
 use Rattle.flame_spec.proofs.FirstBelow.{first_is_first}
 use Rattle.flame_depend.specs.declared.place.Placed.{Placed}
-use Rattle.flame_depend.specs.Shown.{shown}
+use Rattle.flame_depend.specs.PlacedFunctions.{shown}
 use Rattle.flame_depend.specs.Links.{AreSuccessors}
 use Rattle.flame_depend.specs.Graph.{follows, AreWaiting}
 use Rattle.flame_depend.specs.Backs.{waits}

@@ -1,8 +1,6 @@
 //! Why a model has no plan.
 
-use flame_rows::NoMemory;
-use flame_rows::Seq;
-use flame_rows::Text;
+use flame_rows::{Seq, Text};
 
 /// Why a model has no plan.
 #[derive(Debug, Drop)]
@@ -28,24 +26,4 @@ pub struct ManyStarts {
     pub agent: u32,
     /// Its start states, in the order of their first function.
     pub states: Seq<Text>,
-}
-
-/// Why `plan` gives no plan.
-#[derive(Debug, Drop)]
-pub enum Fail {
-    /// The model's fault.
-    Fault(DependFault),
-    /// Memory was not found.
-    NoMemory,
-}
-
-impl From<NoMemory> for Fail {
-    ghost use Rattle.std.specs.Prelude.{◌≡◌};
-    ghost use Rattle.flame_depend.specs.declared.fault.Fail.TheVariants.{NoMemory};
-
-    ghost from_gives = { λ _ fail. fail ≡ NoMemory };
-
-    fn from(_error: NoMemory) -> Fail {
-        Fail::NoMemory
-    }
 }

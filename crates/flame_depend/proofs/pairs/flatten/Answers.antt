@@ -3,7 +3,7 @@ use Rattle.std.proofs.Common.{◌≡◌, suc, ◌+◌, ◌++◌, length, ap, ◌
 use Rattle.flame_depend.specs.Graph.{follows}
 use Rattle.flame_depend.specs.Edges.{edges_to, edges_below}
 use Rattle.flame_depend.proofs.Following.{list_is}
-use Rattle.flame_depend.proofs.edges.flatten.Goals as goal
+use Rattle.flame_depend.proofs.pairs.flatten.Goals as goal
 
 pub loop-i-preserved : goal.loop-i-preserved
 loop-i-preserved c =

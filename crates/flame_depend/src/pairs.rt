@@ -1,18 +1,25 @@
 //! Which functions of a model stand before which.
 
-ghost use Rattle.std.specs.Prelude.{◌≡◌, ◌^◌, ◌<◌, ◌++◌, IfOk, OnOk, length};
-ghost use Rattle.flame_spec.specs.Before.{function_count};
+ghost use Rattle.std.specs.Prelude.{◌≡◌, ◌^◌, ◌<◌, ◌++◌, IsTrue, IfOk, OnOk, length};
+ghost use Rattle.flame_spec.specs.Counted.{is_counted};
 ghost use Rattle.flame_depend.specs.Edges.{edges_to, edges_below, edges_of};
 ghost use Rattle.flame_depend.specs.Graph.{AreAscending, follows};
 
-use crate::edge::Edge;
 use crate::links::successors;
 use crate::place::place_all;
 use crate::targets::Targets;
-use flame_rows::NoMemory;
-use flame_rows::Seq;
+use flame_rows::{NoMemory, Seq};
 use flame_spec::Model;
 use std::alloc::Global;
+
+/// A function that stands before another one. Functions are numbered from 0 in document order.
+#[derive(Clone, Copy, Debug, PartialEq, Eq)]
+pub struct Edge {
+    /// The number of the function that runs first.
+    pub before: u32,
+    /// The number of the function that runs after it.
+    pub after: u32,
+}
 
 /// Adds the edges from a function to each of the targets.
 fn push_edges(before: u32, targets: &[u32], edges: &mut Vec<Edge>) -> Result<(), NoMemory>
@@ -43,14 +50,14 @@ fn flatten(alloc: Global, lists: &[Targets]) -> Result<Vec<Edge>, NoMemory>
 
 /// Every pair of functions of which the first stands before the second, once, in document order of the first and then
 /// of the second. A function stands before another where both are of one type and the other leaves the state that it
-/// enters, or where the other reads a message that it adds; it may stand before itself. The model has fewer than 2^32
-/// functions. It takes time and memory for as many edges as there are.
+/// enters, or where the other reads a message that it adds; it may stand before itself. The model
+/// is one that `Model::is_counted` passes. It takes time and memory for as many edges as there are.
 ///
 /// # Errors
 ///
 /// `NoMemory` where memory was not found.
 pub fn edges(alloc: Global, model: &Model) -> Result<Seq<Edge>, NoMemory>
-    requires { function_count model.now < 2 ^ 32 }
+    requires { IsTrue (is_counted model.now) }
     ensures { IfOk result (λ edges. edges ≡ edges_of model.now) }
 {
     let places = place_all(alloc, model)?;

@@ -4,7 +4,7 @@ use Rattle.std.proofs.lemmas.List.{drop_more, length-map, length-append}
 use Rattle.flame_spec.specs.declared.models.AgentType.{AgentType}
 use Rattle.flame_spec.specs.declared.models.Function.{Function}
 use Rattle.flame_spec.specs.Functions.{at_type, functions_from}
-use Rattle.flame_depend.proofs.counted.is_counted.Goals as goal
+use Rattle.flame_spec.proofs.counted.has_few_functions.Goals as goal
 
 pub loop-agent-preserved : goal.loop-agent-preserved
 loop-agent-preserved c =

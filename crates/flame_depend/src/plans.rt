@@ -1,7 +1,6 @@
 //! The order of a model's functions.
 
-use flame_rows::Seq;
-use flame_rows::Text;
+use flame_rows::{Seq, Text};
 
 /// The order of a model's functions, their layers, and where the agents of its types start. Functions are numbered
 /// from 0 in document order.

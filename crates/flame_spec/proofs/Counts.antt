@@ -1,0 +1,56 @@
+-- What is counted has few members.
+use Rattle.std.proofs.Common.{◌≡◌, ◌<◌, ◌^◌, Bool, true, false, true≢false, List, length, IsTrue, refl, sym}
+use Rattle.std.specs.Prelude.{◌&&◌}
+use Rattle.std.specs.List.{list_all}
+use Rattle.std.proofs.lemmas.Bool.{ltb-true}
+use Rattle.flame_spec.specs.declared.models.Model.{Model}
+use Rattle.flame_spec.specs.Before.{function_count}
+use Rattle.flame_spec.specs.Functions.{functions}
+use Rattle.flame_spec.specs.Counted.{is_numbered, is_counted_message, is_counted_agent, is_counted}
+
+both : (a b : Bool) → a && b ≡ true → (a ≡ true) × (b ≡ true)
+both true b h = (refl, h)
+both false b h = absurd (true≢false (sym h))
+
+-- there is a number for each member
+pub few : {X : Type 0} (members : List X) → IsTrue (is_numbered members) → length members < 2 ^ 32
+few members h = ltb-true _ _ h
+
+-- what the test of a model says of each of its lists
+pub record HasFew (model : Model) : Type 0 where
+  pub constants : IsTrue (is_numbered model.constants)
+  pub files : IsTrue (is_numbered model.files)
+  pub units : IsTrue (is_numbered model.units)
+  pub messages : IsTrue (is_numbered model.messages)
+  pub each_message : IsTrue (list_all is_counted_message model.messages)
+  pub agents : IsTrue (is_numbered model.agents)
+  pub each_agent : IsTrue (list_all is_counted_agent model.agents)
+  pub functions : IsTrue (is_numbered (functions model))
+
+pub has_few : (model : Model) → IsTrue (is_counted model) → HasFew model
+has_few model h =
+    let a = both _ _ h in
+    let b = both _ _ a.1 in
+    let c = both _ _ b.1 in
+    let d = both _ _ c.1 in
+    let e = both _ _ d.1 in
+    let f = both _ _ e.1 in
+    let g = both _ _ f.1 in
+    record {
+      constants = a.0;
+      files = b.0;
+      units = c.0;
+      messages = d.0;
+      each_message = e.0;
+      agents = f.0;
+      each_agent = g.0;
+      functions = g.1;
+    }
+
+-- functions have numbers
+pub few_functions : (model : Model) → IsTrue (is_counted model) → function_count model < 2 ^ 32
+few_functions model h = few (functions model) (has_few model h).functions
+
+-- agent types have numbers
+pub few_agents : (model : Model) → IsTrue (is_counted model) → length model.agents < 2 ^ 32
+few_agents model h = few model.agents (has_few model h).agents

@@ -1,0 +1,86 @@
+//! Whether the parts of a model can be numbered.
+
+ghost use Rattle.std.specs.Prelude.{◌≡◌};
+ghost use Rattle.std.specs.List.{list_all};
+ghost use Rattle.flame_spec.specs.Counted.{is_numbered, is_counted_message, is_counted_function};
+ghost use Rattle.flame_spec.specs.Counted.{is_counted_agent, is_counted};
+ghost use Rattle.flame_spec.specs.Functions.{functions};
+
+use crate::models::{AgentType, Function, MessageType, Model};
+use flame_rows::Seq;
+
+/// Whether there are fewer than 2^32 members.
+fn is_numbered<T>(members: &Seq<T>) -> bool
+    ensures { result ≡ is_numbered members.now }
+{
+    members.len() < 4294967296
+}
+
+fn is_counted_message(message: &MessageType) -> bool
+    ensures { result ≡ is_counted_message message.now }
+{
+    is_numbered(&message.variables)
+}
+
+fn is_counted_function(function: &Function) -> bool
+    ensures { result ≡ is_counted_function function.now }
+{
+    is_numbered(&function.inputs) && is_numbered(&function.outputs)
+}
+
+fn are_counted_functions(functions: &[Function]) -> bool
+    ensures { result ≡ list_all is_counted_function functions.now }
+{
+    functions
+        .iter()
+        .all(|function| is_counted_function(function))
+}
+
+fn is_counted_agent(agent: &AgentType) -> bool
+    ensures { result ≡ is_counted_agent agent.now }
+{
+    is_numbered(&agent.memory)
+        && is_numbered(&agent.functions)
+        && are_counted_functions(agent.functions.items())
+}
+
+fn are_counted_messages(messages: &[MessageType]) -> bool
+    ensures { result ≡ list_all is_counted_message messages.now }
+{
+    messages.iter().all(|message| is_counted_message(message))
+}
+
+fn are_counted_agents(agents: &[AgentType]) -> bool
+    ensures { result ≡ list_all is_counted_agent agents.now }
+{
+    agents.iter().all(|agent| is_counted_agent(agent))
+}
+
+/// Whether the types together have fewer than 2^32 functions.
+fn has_few_functions(model: &Model) -> bool
+    ensures { result ≡ is_numbered (functions model.now) }
+{
+    let mut count: u128 = 0;
+    for (_agent, kind) in model.agents.items().iter().enumerate() {
+        count += kind.functions.items().len() as u128;
+    }
+    count < 4294967296
+}
+
+impl Model {
+    /// Whether each list whose members are numbered with 32 bits has fewer than 2^32 members: the constants, the
+    /// function files, the time units, the messages with their variables, the agent types with their variables and
+    /// functions, the functions of all types together, and the inputs and outputs of each.
+    pub fn is_counted(&self) -> bool
+        ensures { result ≡ is_counted self.now }
+    {
+        is_numbered(&self.constants)
+            && is_numbered(&self.files)
+            && is_numbered(&self.units)
+            && is_numbered(&self.messages)
+            && are_counted_messages(self.messages.items())
+            && is_numbered(&self.agents)
+            && are_counted_agents(self.agents.items())
+            && has_few_functions(self)
+    }
+}
