@@ -2,7 +2,7 @@
 use Rattle.std.specs.Prelude.{ℕ, ℤ, List, [], ◌∷◌, ◌++◌, length, codes, decimal}
 use Rattle.std.specs.Fmt.{signed_decimal}
 use Rattle.flame_ops.specs.declared.integers.Cause.{Cause}
-use Rattle.flame_ops.specs.declared.integers.Cause.TheVariants.{Overflow, DivideByZero, Fuel}
+use Rattle.flame_ops.specs.declared.integers.Cause.TheVariants.{Overflow, DivideByZero, Fuel, BadIndex}
 use Rattle.flame_top.specs.declared.model.NarrowModel.{NarrowModel}
 use Rattle.flame_top.specs.NarrowPieces.{laid}
 use Rattle.flame_top.specs.NarrowMeaning.{Faulted, held}
@@ -64,6 +64,7 @@ abbrev pub cause_text : Cause → List ℕ
 cause_text Overflow = codes "Overflow"
 cause_text DivideByZero = codes "DivideByZero"
 cause_text Fuel = codes "Fuel"
+cause_text BadIndex = codes "BadIndex"
 
 -- why the agent with this memory faulted [own]
 abbrev pub reason_text : NarrowModel → Faulted → List ℕ

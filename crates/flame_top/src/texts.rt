@@ -54,6 +54,7 @@ fn cause_text(cause: Cause) -> &'static str
         Cause::Overflow => "Overflow",
         Cause::DivideByZero => "DivideByZero",
         Cause::Fuel => "Fuel",
+        Cause::BadIndex => "BadIndex",
     }
 }
 
