@@ -22,3 +22,5 @@ pub mod Helpers
 pub mod Members
 pub mod Places
 pub mod Periods
+pub mod Unseen
+pub mod UnseenStatements

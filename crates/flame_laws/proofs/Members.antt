@@ -1,27 +1,26 @@
 -- Variables, functions, inputs and outputs differ where names have no fault.
-use Rattle.std.proofs.Common.{◌≡◌, ◌≢◌, ℕ, zero, suc, ◌+◌, ◌<◌, Bool, true, false, true≢false, not, ◌&&◌, ◌||◌, List, [], ◌∷◌, ◌++◌, map, take, length, get_or, codes, Contains, Some, None, ◌⊎◌, inl, inr, refl, ap, sym, ◌∙◌, subst, arith}
+use Rattle.std.proofs.Common.{◌≡◌, ℕ, zero, suc, ◌<◌, Bool, true, false, true≢false, not, ◌&&◌, ◌||◌, List, [], ◌∷◌, map, take, length, get_or, codes, Contains, Some, None, ◌⊎◌, inl, inr, refl, ap, sym, ◌∙◌, subst, arith}
 use Rattle.std.specs.Prelude.{slice_get}
 use Rattle.std.specs.List.{list_any}
 use Rattle.std.specs.Str.{bytes_eq}
 use Rattle.std.proofs.lemmas.List.{take-map}
 use Rattle.std.proofs.lemmas.Bool.{or_left, or_right}
 use Rattle.flame_ops.specs.Ascii.{capitals}
-use Rattle.flame_spec.specs.declared.faults.NameKind.TheVariants.{Duplicate, Clash, FunctionShared, UnknownMessage}
+use Rattle.flame_spec.specs.declared.faults.NameKind.TheVariants.{Duplicate, Clash, FunctionShared}
 use Rattle.flame_spec.specs.declared.models.Model.{Model}
 use Rattle.flame_spec.specs.declared.models.Variable.{Variable}
 use Rattle.flame_spec.specs.declared.models.MessageType.{MessageType}
 use Rattle.flame_spec.specs.declared.models.AgentType.{AgentType}
 use Rattle.flame_spec.specs.declared.models.Function.{Function}
 use Rattle.flame_spec.specs.declared.models.Input.{Input}
-use Rattle.flame_spec.specs.Lists.{each, each_from}
 use Rattle.flame_spec.specs.Capitals.{clashes}
 use Rattle.flame_spec.specs.KnownNames.{is_among, variable_names, message_names, DeclaredNames, declared_by}
-use Rattle.flame_spec.specs.Paths.{root, at_key, at_number}
+use Rattle.flame_spec.specs.Paths.{at_key, at_number}
 use Rattle.flame_spec.specs.Refusals.{fault_where}
-use Rattle.flame_spec.specs.MessageFaults.{apart_faults, variable_faults, variables_faults, message_faults, messages_faults}
+use Rattle.flame_spec.specs.MessageFaults.{apart_faults, variable_faults, variables_faults}
 use Rattle.flame_spec.specs.FunctionFaults.{use_faults, input_faults, read_names, inputs_faults, outputs_faults, is_same}
-use Rattle.flame_spec.specs.FunctionFaults.{title_faults, function_faults, functions_faults}
-use Rattle.flame_spec.specs.NameFaults.{memory_name_faults, memory_faults, agent_faults, type_names, function_names}
+use Rattle.flame_spec.specs.FunctionFaults.{title_faults, function_faults}
+use Rattle.flame_spec.specs.NameFaults.{memory_name_faults, memory_faults, function_names}
 use Rattle.flame_spec.specs.NameFaults.{names_of_functions, name_faults}
 use Rattle.flame_laws.specs.DistinctNames.{AreDistinct}
 use Rattle.flame_laws.specs.MemberLaws.{AreApart}
@@ -335,7 +334,7 @@ module _ (model : Model) (none : name_faults model ≡ []) where
       by_idle true e = same ∙ same-bytes_eq another.name (codes "idle") e
       by_idle false e =
           let shown : not (bytes_eq another.name (codes "idle"))
-              && is_among another.name (names_of_functions (take j model.agents)) ≡ true
+          && is_among another.name (names_of_functions (take j model.agents)) ≡ true
           = rw e taken in
           absurd (true≢false (sym shown ∙ shared))
 

@@ -1,5 +1,5 @@
 -- The length of a unit is its period times the length of its own unit.
-use Rattle.std.proofs.Common.{◌≡◌, ℕ, zero, suc, ◌+◌, ◌-◌, ◌<◌, ◌≤◌, ℤ, pos, ◌*ℤ◌, Bool, true, false, true≢false, ◌||◌, cond, List, [], ◌∷◌, ◌++◌, map, take, length, get_or, codes, Option, Some, None, option_map, refl, ap, sym, ◌∙◌, subst, arith}
+use Rattle.std.proofs.Common.{◌≡◌, ℕ, zero, suc, ◌+◌, ◌-◌, ◌<◌, ◌≤◌, pos, ◌*ℤ◌, Bool, true, false, true≢false, ◌||◌, cond, List, [], ◌∷◌, take, length, get_or, codes, Some, option_map, refl, ap, sym, ◌∙◌, subst, arith}
 use Rattle.std.specs.Prelude.{slice_get}
 use Rattle.std.specs.Str.{bytes_eq}
 use Rattle.std.proofs.Math.Seq.{take-suc}
@@ -16,7 +16,7 @@ use Rattle.flame_spec.specs.Refusals.{fault_where}
 use Rattle.flame_spec.specs.UnitFaults.{length_after, measure_faults, unit_faults, units_faults}
 use Rattle.flame_laws.proofs.CheckedBodies.{same-bytes_eq}
 use Rattle.flame_laws.proofs.Distinct.{nil_left, nil_right, each_none, no_test, is_among-append, units_path, units_none}
-use Rattle.flame_laws.proofs.Measures.{unit_length-push, measured, own, take_all, or_true, bytes_eq_same}
+use Rattle.flame_laws.proofs.Measures.{unit_length-push, measured, take_all, or_true, bytes_eq_same}
 
 abbrev no_unit : TimeUnit
 no_unit = record { name = []; unit = []; period = pos 0 }

@@ -9,6 +9,7 @@ pub mod OrderLaws
 pub mod StateLaws
 pub mod OrderCases
 pub mod ViewCases
+pub mod TreeLaws
 pub mod Parts
 pub mod CheckLaws
 pub mod HelperLaws

@@ -8,6 +8,7 @@ mod fault_cases;
 mod helper_laws;
 mod name_laws;
 mod order_laws;
+mod tree_laws;
 mod used_laws;
 mod view_laws;
 
@@ -19,5 +20,6 @@ pub use fault_cases::{array_cases, check_cases, helper_cases};
 pub use helper_laws::{helpers_end, helpers_stand_alone};
 pub use name_laws::{members_differ, names_differ, unit_lengths};
 pub use order_laws::{cycles, layers, order_cases, orders, ranks, start_states_of_types};
+pub use tree_laws::trees_are_told;
 pub use used_laws::{used_names, used_names_cases};
 pub use view_laws::{choices, time_conditions, view_cases, views};
