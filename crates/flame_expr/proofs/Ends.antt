@@ -1,11 +1,12 @@
 -- How parts that are read from place to place make longer ones.
 use Rattle.std.proofs.Common.{◌≡◌, ℕ, ◌+◌, ◌<◌, ◌≤◌, List, [], ◌∷◌, length, drop, refl, sym, ap, ◌∙◌, subst, arith, Bool, true, Result, Ok, Err, IfErr, IsErrAnd}
 use Rattle.flame_lex.specs.declared.token.Token.{Token}
-use Rattle.flame_expr.specs.declared.lexeme.Lexeme.{Lexeme}
-use Rattle.flame_expr.specs.declared.fault.Fail.{Fail}
+use Rattle.flame_expr.specs.declared.lexemes.Lexeme.{Lexeme}
+use Rattle.flame_rows.specs.declared.fails.Fail.{Fail}
+use Rattle.flame_expr.specs.declared.faults.ParseFault.{ParseFault}
 use Rattle.flame_expr.specs.Lexemes.{first, behind, is_real}
-use Rattle.flame_expr.specs.Steps.{Form, Symbol, lexeme, form, both, right_side, End, left, Goes, stay, expand, in_turn}
-use Rattle.flame_expr.specs.Reader.{onto, Passes, Halts, Ended, Stopped, Fails}
+use Rattle.flame_expr.specs.ViablePrefixes.{Form, Symbol, lexeme, form, both, right_side, End, left, Goes, stay, expand, in_turn}
+use Rattle.flame_expr.specs.ReadParts.{onto, Passes, Halts, Ended, Stopped, Fails}
 use Rattle.flame_expr.proofs.Walk.{at_form, at_both}
 use Rattle.flame_expr.proofs.Parts.{PassesAny, HaltsAny, any_pass, one_pass, any_halt, one_halt, any_heads, pasts, clean, none, ends_here, joins_on, fine, enter_pass, enter_halt, pass_here, halt_here, pass_then, halt_then, halt_before, pass_weaker, halt_weaker, nothing_pass}
 use Rattle.flame_expr.proofs.Places.{behind-drop, fails_weaker}
@@ -110,6 +111,6 @@ pub form_stopped : (J : List Lexeme) (n : Form) (x y : Symbol) (tokens : List To
 form_stopped J n x y tokens at stop f p = record { ahead = p.ahead; within = p.within; halts = form_halts J n x y (drop at tokens) (drop stop tokens) f p.halts }
 
 -- an error that is passed on
-pub stops_by : {T : Type 0} {P Q : ℕ → Type 0} (r : Result T Fail) (f : Fail) → IsErrAnd r (λ e. e ≡ f) → ((n : ℕ) → P n → Q n) → Fails f P → IfErr r (λ e. Fails e Q)
+pub stops_by : {T : Type 0} {P Q : ℕ → Type 0} (r : Result T (Fail ParseFault)) (f : Fail ParseFault) → IsErrAnd r (λ e. e ≡ f) → ((n : ℕ) → P n → Q n) → Fails f P → IfErr r (λ e. Fails e Q)
 stops_by (Ok x) f i g h = tt
 stops_by {T} {P} {Q} (Err e) f i g h = subst (λ x. Fails x Q) (sym i) (fails_weaker f g h)

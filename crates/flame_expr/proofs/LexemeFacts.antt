@@ -1,8 +1,8 @@
--- Lexemes compared by their numbers.
+-- Lexemes compared by their numbers; ORDER MARKS.
 use Rattle.std.proofs.Common.{◌≡◌, ℕ, zero, suc, ◌<◌, ◌+◌, List, [], ◌∷◌, refl, sym, ap, ◌∙◌, arith, Bool, true, false, nat_eq, length, eq-eqb}
 use Rattle.std.proofs.lemmas.Bool.{false≢true, eqb-true}
-use Rattle.flame_expr.specs.declared.lexeme.Lexeme.{Lexeme}
-use Rattle.flame_expr.specs.declared.lexeme.Lexeme.TheVariants.{Nothing, Word, Number, Start, Finish, Plus, Minus, Star, Slash, Percent, PlusPlus, MinusMinus, PlusSet, MinusSet, StarSet, SlashSet, PercentSet, Set, Same, Differs, Bang, Below, Above, AtMost, AtLeast, AndAnd, OrOr, Open, Close, OpenBrace, CloseBrace, Comma, Semicolon, Arrow, Int, Void, If, Else, While, For, Do, Return, Break, Continue}
+use Rattle.flame_expr.specs.declared.lexemes.Lexeme.{Lexeme}
+use Rattle.flame_expr.specs.declared.lexemes.Lexeme.TheVariants.{Nothing, Word, Number, Start, Finish, Plus, Minus, Star, Slash, Percent, PlusPlus, MinusMinus, PlusSet, MinusSet, StarSet, SlashSet, PercentSet, Set, Same, Differs, Bang, Below, Above, AtMost, AtLeast, AndAnd, OrOr, Open, Close, OpenBrace, CloseBrace, OpenBracket, CloseBracket, Comma, Semicolon, Arrow, Int, Void, If, Else, While, For, Do, Return, Break, Continue}
 
 abbrev pub number_of : Lexeme → ℕ
 number_of Nothing = 0
@@ -49,6 +49,8 @@ number_of Do = 40
 number_of Return = 41
 number_of Break = 42
 number_of Continue = 43
+number_of OpenBracket = 44
+number_of CloseBracket = 45
 
 abbrev pub all_lexemes : List Lexeme
 all_lexemes =
@@ -57,7 +59,7 @@ all_lexemes =
     PercentSet ∷ Set ∷ Same ∷ Differs ∷ Bang ∷ Below ∷ Above ∷ AtMost ∷
     AtLeast ∷ AndAnd ∷ OrOr ∷ Open ∷ Close ∷ OpenBrace ∷ CloseBrace ∷ Comma ∷
     Semicolon ∷ Arrow ∷ Int ∷ Void ∷ If ∷ Else ∷ While ∷ For ∷
-    Do ∷ Return ∷ Break ∷ Continue ∷ []
+    Do ∷ Return ∷ Break ∷ Continue ∷ OpenBracket ∷ CloseBracket ∷ []
 
 abbrev pub and : Bool → Bool → Bool
 and true b = b
@@ -121,6 +123,8 @@ at_number-number_of Do = refl
 at_number-number_of Return = refl
 at_number-number_of Break = refl
 at_number-number_of Continue = refl
+at_number-number_of OpenBracket = refl
+at_number-number_of CloseBracket = refl
 
 pub and_left : (a b : Bool) → and a b ≡ true → a ≡ true
 and_left true b e = refl

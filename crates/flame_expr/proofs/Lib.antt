@@ -4,9 +4,13 @@ pub mod Heads
 pub mod Parts
 pub mod Places
 pub mod Ends
+pub mod Likeness
 pub mod LevelFacts
 pub mod Readings
 pub mod Primaries
-pub mod Forward
-pub mod Longest
-pub mod Unique
+pub mod Derivations
+pub mod LongestPrefixes
+pub mod Uniqueness
+pub mod Meanings
+pub mod Depths
+pub mod Searches

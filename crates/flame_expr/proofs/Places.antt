@@ -4,13 +4,14 @@ use Rattle.std.proofs.Math.ListN.{drop_of_length-le}
 use Rattle.std.proofs.lemmas.Bool.{cases_lt}
 use Rattle.std.proofs.lemmas.Bool.{false≢true}
 use Rattle.flame_lex.specs.declared.token.Token.{Token}
-use Rattle.flame_expr.specs.declared.lexeme.Lexeme.{Lexeme}
-use Rattle.flame_expr.specs.declared.fault.Fail.{Fail}
-use Rattle.flame_expr.specs.declared.fault.Fail.TheVariants.{Fault, NoMemory}
-use Rattle.flame_expr.specs.declared.fault.ParseFault.TheVariants.{TooDeep, Syntax}
+use Rattle.flame_expr.specs.declared.lexemes.Lexeme.{Lexeme}
+use Rattle.flame_rows.specs.declared.fails.Fail.{Fail}
+use Rattle.flame_expr.specs.declared.faults.ParseFault.{ParseFault}
+use Rattle.flame_rows.specs.declared.fails.Fail.TheVariants.{Fault, NoMemory}
+use Rattle.flame_expr.specs.declared.faults.ParseFault.TheVariants.{TooDeep, Syntax}
 use Rattle.flame_expr.specs.Lexemes.{lexeme_of, first, behind, is_real}
-use Rattle.flame_expr.specs.Steps.{lexeme}
-use Rattle.flame_expr.specs.Reader.{Passes, Halts, Ended, Stopped, Fails}
+use Rattle.flame_expr.specs.ViablePrefixes.{lexeme}
+use Rattle.flame_expr.specs.ReadParts.{Passes, Halts, Ended, Stopped, Fails}
 use Rattle.flame_expr.proofs.Parts.{lexeme_pass, lexeme_halt}
 
 pub at_front : (tokens : List Token) (i : ℕ) (d : Token) → i < length tokens → drop i tokens ≡ get_or tokens i d ∷ drop (i + 1) tokens
@@ -35,7 +36,7 @@ pub behind-drop : (tokens : List Token) (i : ℕ) → behind (drop i tokens) ≡
 behind-drop [] i = ap behind (past_end [] i (omega arith)) ∙ sym (past_end [] (i + 1) (omega arith))
 behind-drop (token ∷ ts) i = behind_of (token ∷ ts) i token (cases_lt i (length (token ∷ ts)))
 
-pub fails_weaker : {P Q : ℕ → Type 0} (f : Fail) → ((n : ℕ) → P n → Q n) → Fails f P → Fails f Q
+pub fails_weaker : {P Q : ℕ → Type 0} (f : Fail ParseFault) → ((n : ℕ) → P n → Q n) → Fails f P → Fails f Q
 fails_weaker NoMemory g h = tt
 fails_weaker (Fault (TooDeep n)) g h = h
 fails_weaker (Fault (Syntax n)) g h = g n h

@@ -2,52 +2,78 @@
 use Rattle.std.proofs.Common.{◌≡◌, ℕ, ◌+◌, ◌<◌, ◌≤◌, List, [], ◌∷◌, length, drop, refl, sym, ap, ◌∙◌, arith, Bool, true, false}
 use Rattle.std.proofs.lemmas.Bool.{false≢true}
 use Rattle.flame_lex.specs.declared.token.Token.{Token}
-use Rattle.flame_expr.specs.declared.lexeme.Lexeme.{Lexeme}
-use Rattle.flame_expr.specs.declared.lexeme.Lexeme.TheVariants.{Word, Number, Open, Close, Arrow}
+use Rattle.flame_expr.specs.declared.lexemes.Lexeme.{Lexeme}
+use Rattle.flame_expr.specs.declared.lexemes.Lexeme.TheVariants.{Word, Number, Open, Close, OpenBracket, CloseBracket, Arrow}
 use Rattle.flame_expr.specs.Lexemes.{first}
-use Rattle.flame_expr.specs.Levels.{joins, signs}
-use Rattle.flame_expr.specs.Steps.{Symbol, lexeme, form, level, primary, expr, one_of, many}
-use Rattle.flame_expr.specs.Reader.{Ended, Stopped}
+use Rattle.flame_expr.specs.OperatorLevels.{joins, joins_index, signs}
+use Rattle.flame_expr.specs.ViablePrefixes.{Symbol, lexeme, form, level, primary, expr, index, one_of, many}
+use Rattle.flame_expr.specs.ReadParts.{Ended, Stopped}
 use Rattle.flame_expr.proofs.LexemeFacts.{or, among, everywhere, IsNone, not_among}
 use Rattle.flame_expr.proofs.Places.{there}
 use Rattle.flame_expr.proofs.Parts.{any_heads, pasts, ends_here, none}
-use Rattle.flame_expr.proofs.Ends.{EndedAny, any_ended, one_ended, any_stopped, one_stopped, here_ended, here_stopped, enter_ended, enter_stopped, begin_ended, begin_stopped, ended_then, stopped_then, stopped_before, ended_weaker, stopped_weaker, form_ended, form_stopped, nothing_ended}
-
-pub field_stopped : (tokens : List Token) (at n : ℕ) → first (drop at tokens) ≡ Word → first (drop (at + 1) tokens) ≡ Arrow → Stopped [] (lexeme Word ∷ []) tokens (at + 1 + 1) n → Stopped (joins 0) (form primary ∷ []) tokens at n
-field_stopped tokens at n a b h = one_stopped (enter_stopped _ _ _ _ _ Word refl refl a (enter_stopped _ _ _ _ _ Arrow refl refl b (any_stopped (stopped_weaker [] (joins 0) (lexeme Word ∷ []) tokens (at + 1 + 1) n refl h))))
-
-pub get_stopped : (tokens : List Token) (at n : ℕ) → first (drop at tokens) ≡ Word → first (drop (at + 1) tokens) ≡ Open → Stopped [] (lexeme Close ∷ []) tokens (at + 1 + 1) n → Stopped (joins 0) (form primary ∷ []) tokens at n
-get_stopped tokens at n a b h = one_stopped (enter_stopped _ _ _ _ _ Word refl refl a (enter_stopped _ _ _ _ _ Open refl refl b (any_stopped (stopped_weaker [] (joins 0) (lexeme Close ∷ []) tokens (at + 1 + 1) n refl h))))
-
-pub field_ended : (tokens : List Token) (at end : ℕ) → first (drop at tokens) ≡ Word → first (drop (at + 1) tokens) ≡ Arrow → Ended [] (lexeme Word ∷ []) tokens (at + 1 + 1) end → Ended (joins 0) (form primary ∷ []) tokens at end
-field_ended tokens at end a b h = one_ended (enter_ended _ _ _ _ _ Word refl refl a (enter_ended _ _ _ _ _ Arrow refl refl b (any_ended (ended_weaker [] (joins 0) (lexeme Word ∷ []) tokens (at + 1 + 1) end refl h))))
-
-pub get_ended : (tokens : List Token) (at end : ℕ) → first (drop at tokens) ≡ Word → first (drop (at + 1) tokens) ≡ Open → Ended [] (lexeme Close ∷ []) tokens (at + 1 + 1) end → Ended (joins 0) (form primary ∷ []) tokens at end
-get_ended tokens at end a b h = one_ended (enter_ended _ _ _ _ _ Word refl refl a (enter_ended _ _ _ _ _ Open refl refl b (any_ended (ended_weaker [] (joins 0) (lexeme Close ∷ []) tokens (at + 1 + 1) end refl h))))
+use Rattle.flame_expr.proofs.Likeness.{alike_ended, alike_stopped}
+use Rattle.flame_expr.proofs.Ends.{EndedAny, StoppedAny, EndedAny, any_ended, one_ended, any_stopped, one_stopped, here_ended, here_stopped, enter_ended, enter_stopped, begin_ended, begin_stopped, ended_then, stopped_then, stopped_before, ended_weaker, stopped_weaker, form_ended, form_stopped, nothing_ended}
 
 or_right : (a b : Bool) → or a b ≡ true → a ≡ false → b ≡ true
 or_right true b h e = absurd (false≢true (sym e))
 or_right false b h e = h
 
--- behind a word
+index_ends : (d : Lexeme) → (d ≡ OpenBracket → ⊥) → ends_here (any_heads ((index ∷ []) ∷ []) d) ≡ true
+index_ends d n = or_right (among d (OpenBracket ∷ [])) (ends_here (any_heads ((index ∷ []) ∷ []) d)) (everywhere (λ d. or (among d (OpenBracket ∷ [])) (ends_here (any_heads ((index ∷ []) ∷ []) d))) refl d) (not_among d (OpenBracket ∷ []) (n, tt))
+
 -- the rests behind the word of a primary
 abbrev names : List (List Symbol)
-names = [] ∷ (lexeme Arrow ∷ lexeme Word ∷ []) ∷ (lexeme Open ∷ lexeme Close ∷ []) ∷ []
+names = (index ∷ []) ∷ (lexeme Arrow ∷ lexeme Word ∷ index ∷ []) ∷ (lexeme Open ∷ lexeme Close ∷ []) ∷ []
 
-abbrev no_name : Lexeme → Bool
-no_name d = or (among d (joins 0)) (ends_here (any_heads names d))
+word_ended : (tokens : List Token) (at end : ℕ) → first (drop at tokens) ≡ Word → EndedAny (joins 0) names tokens (at + 1) end → Ended (joins 0) (form primary ∷ []) tokens at end
+word_ended tokens at end a h = one_ended (enter_ended (joins 0) ((form primary ∷ []) ∷ []) tokens at end Word refl refl a h)
 
-name_ends : (d : Lexeme) → IsNone d (joins 0) → ends_here (any_heads names d) ≡ true
-name_ends d n = or_right (among d (joins 0)) (ends_here (any_heads names d)) (everywhere no_name refl d) (not_among d (joins 0) n)
+word_stopped : (tokens : List Token) (at n : ℕ) → first (drop at tokens) ≡ Word → StoppedAny (joins 0) names tokens (at + 1) n → Stopped (joins 0) (form primary ∷ []) tokens at n
+word_stopped tokens at n a h = one_stopped (enter_stopped (joins 0) ((form primary ∷ []) ∷ []) tokens at n Word refl refl a h)
 
-word_names : (tokens : List Token) (at end : ℕ) → first (drop at tokens) ≡ Word → EndedAny (joins 0) names tokens (at + 1) end → EndedAny (joins 0) ((form primary ∷ []) ∷ []) tokens at end
-word_names tokens at end a h = enter_ended (joins 0) ((form primary ∷ []) ∷ []) tokens at end Word refl refl a h
+-- behind the arrow: a word, and an index where there is one
+pub field_word_stopped : (tokens : List Token) (at n : ℕ) → first (drop at tokens) ≡ Word → first (drop (at + 1) tokens) ≡ Arrow → Stopped [] (lexeme Word ∷ []) tokens (at + 1 + 1) n → Stopped (joins 0) (form primary ∷ []) tokens at n
+field_word_stopped tokens at n a b h = word_stopped tokens at n a (enter_stopped _ _ _ _ _ Arrow refl refl b (any_stopped (stopped_before [] (joins 0) (lexeme Word ∷ []) (index ∷ []) tokens (at + 1 + 1) n refl h)))
 
-pub name_ended : (tokens : List Token) (at : ℕ) → first (drop at tokens) ≡ Word → (first (drop (at + 1) tokens) ≡ Arrow → ⊥) × (first (drop (at + 1) tokens) ≡ Open → ⊥) → Ended (joins 0) (form primary ∷ []) tokens at (at + 1)
-name_ended tokens at a n =
-    let t = there tokens at Word a refl in
-    let l : at + 1 ≤ length tokens = omega (arith, t) in
-    one_ended (word_names tokens at (at + 1) a (here_ended (joins 0) names tokens (at + 1) l (name_ends (first (drop (at + 1) tokens)) (n.0, (n.1, tt)))))
+pub field_index_stopped : (tokens : List Token) (at mid n : ℕ) → first (drop at tokens) ≡ Word → first (drop (at + 1) tokens) ≡ Arrow → Ended [] (lexeme Word ∷ []) tokens (at + 1 + 1) mid → Stopped joins_index (index ∷ []) tokens mid n → Stopped (joins 0) (form primary ∷ []) tokens at n
+field_index_stopped tokens at mid n a b g h = word_stopped tokens at n a (enter_stopped _ _ _ _ _ Arrow refl refl b (any_stopped (stopped_then [] (joins 0) (lexeme Word ∷ []) (index ∷ []) tokens (at + 1 + 1) mid n refl g (stopped_weaker joins_index (joins 0) (index ∷ []) tokens mid n refl h))))
+
+pub field_ended : (tokens : List Token) (at mid end : ℕ) → first (drop at tokens) ≡ Word → first (drop (at + 1) tokens) ≡ Arrow → Ended [] (lexeme Word ∷ []) tokens (at + 1 + 1) mid → Ended joins_index (index ∷ []) tokens mid end → Ended (joins 0) (form primary ∷ []) tokens at end
+field_ended tokens at mid end a b g h = word_ended tokens at end a (enter_ended _ _ _ _ _ Arrow refl refl b (any_ended (ended_then [] (joins 0) (lexeme Word ∷ []) (index ∷ []) tokens (at + 1 + 1) mid end refl g (ended_weaker joins_index (joins 0) (index ∷ []) tokens mid end refl h))))
+
+pub get_stopped : (tokens : List Token) (at n : ℕ) → first (drop at tokens) ≡ Word → first (drop (at + 1) tokens) ≡ Open → Stopped [] (lexeme Close ∷ []) tokens (at + 1 + 1) n → Stopped (joins 0) (form primary ∷ []) tokens at n
+get_stopped tokens at n a b h = word_stopped tokens at n a (enter_stopped _ _ _ _ _ Open refl refl b (any_stopped (stopped_weaker [] (joins 0) (lexeme Close ∷ []) tokens (at + 1 + 1) n refl h)))
+
+pub get_ended : (tokens : List Token) (at end : ℕ) → first (drop at tokens) ≡ Word → first (drop (at + 1) tokens) ≡ Open → Ended [] (lexeme Close ∷ []) tokens (at + 1 + 1) end → Ended (joins 0) (form primary ∷ []) tokens at end
+get_ended tokens at end a b h = word_ended tokens at end a (enter_ended _ _ _ _ _ Open refl refl b (any_ended (ended_weaker [] (joins 0) (lexeme Close ∷ []) tokens (at + 1 + 1) end refl h)))
+
+-- behind a word where neither an arrow nor a bracket follows: an index where there is one
+names_alike : (d : Lexeme) → (d ≡ Arrow → ⊥) → (d ≡ Open → ⊥) → any_heads ((index ∷ []) ∷ []) d ≡ any_heads names d
+names_alike Arrow a b = absurd (a refl)
+names_alike Open a b = absurd (b refl)
+names_alike d a b = refl
+
+pub name_ended : (tokens : List Token) (at end : ℕ) → first (drop at tokens) ≡ Word → (first (drop (at + 1) tokens) ≡ Arrow → ⊥) → (first (drop (at + 1) tokens) ≡ Open → ⊥) → Ended joins_index (index ∷ []) tokens (at + 1) end → Ended (joins 0) (form primary ∷ []) tokens at end
+name_ended tokens at end a m n h = word_ended tokens at end a (alike_ended (joins 0) ((index ∷ []) ∷ []) names tokens (at + 1) end (omega arith) (omega arith) (names_alike (first (drop (at + 1) tokens)) m n) (any_ended (ended_weaker joins_index (joins 0) (index ∷ []) tokens (at + 1) end refl h)))
+
+pub name_stopped : (tokens : List Token) (at n : ℕ) → first (drop at tokens) ≡ Word → (first (drop (at + 1) tokens) ≡ Arrow → ⊥) → (first (drop (at + 1) tokens) ≡ Open → ⊥) → Stopped joins_index (index ∷ []) tokens (at + 1) n → Stopped (joins 0) (form primary ∷ []) tokens at n
+name_stopped tokens at s a m n h = word_stopped tokens at s a (alike_stopped (joins 0) ((index ∷ []) ∷ []) names tokens (at + 1) s (omega arith) (omega arith) (names_alike (first (drop (at + 1) tokens)) m n) (any_stopped (stopped_weaker joins_index (joins 0) (index ∷ []) tokens (at + 1) s refl h)))
+
+-- an index: none, or one in its brackets
+pub no_index_ended : (tokens : List Token) (at : ℕ) → at ≤ length tokens → (first (drop at tokens) ≡ OpenBracket → ⊥) → Ended joins_index (index ∷ []) tokens at at
+no_index_ended tokens at h n = one_ended (here_ended joins_index ((index ∷ []) ∷ []) tokens at h (index_ends (first (drop at tokens)) n))
+
+abbrev inside_index : List Symbol
+inside_index = expr ∷ lexeme CloseBracket ∷ []
+
+pub index_ended : (tokens : List Token) (at close end : ℕ) → first (drop at tokens) ≡ OpenBracket → Ended (joins 6) (expr ∷ []) tokens (at + 1) close → Ended [] (lexeme CloseBracket ∷ []) tokens close end → Ended joins_index (index ∷ []) tokens at end
+index_ended tokens at close end a g h = begin_ended joins_index (index ∷ []) inside_index tokens at end OpenBracket refl refl refl a (ended_weaker [] joins_index inside_index tokens (at + 1) end refl (ended_then (joins 6) [] (expr ∷ []) (lexeme CloseBracket ∷ []) tokens (at + 1) close end refl g h))
+
+pub index_stopped : (tokens : List Token) (at n : ℕ) → first (drop at tokens) ≡ OpenBracket → Stopped (joins 6) (expr ∷ []) tokens (at + 1) n → Stopped joins_index (index ∷ []) tokens at n
+index_stopped tokens at n a h = begin_stopped joins_index (index ∷ []) inside_index tokens at n OpenBracket refl refl refl a (stopped_weaker [] joins_index inside_index tokens (at + 1) n refl (stopped_before (joins 6) [] (expr ∷ []) (lexeme CloseBracket ∷ []) tokens (at + 1) n refl h))
+
+pub index_end_stopped : (tokens : List Token) (at close n : ℕ) → first (drop at tokens) ≡ OpenBracket → Ended (joins 6) (expr ∷ []) tokens (at + 1) close → Stopped [] (lexeme CloseBracket ∷ []) tokens close n → Stopped joins_index (index ∷ []) tokens at n
+index_end_stopped tokens at close n a g h = begin_stopped joins_index (index ∷ []) inside_index tokens at n OpenBracket refl refl refl a (stopped_weaker [] joins_index inside_index tokens (at + 1) n refl (stopped_then (joins 6) [] (expr ∷ []) (lexeme CloseBracket ∷ []) tokens (at + 1) close n refl g h))
 
 pub number_ended : (tokens : List Token) (at : ℕ) → first (drop at tokens) ≡ Number → Ended (joins 0) (form primary ∷ []) tokens at (at + 1)
 number_ended tokens at a = let t = there tokens at Number a refl in begin_ended (joins 0) (form primary ∷ []) [] tokens at (at + 1) Number refl refl refl a (nothing_ended (joins 0) tokens (at + 1) (omega (arith, t)))

@@ -5,16 +5,16 @@ use Rattle.flame_spec.specs.declared.trees.Sign.{Sign}
 use Rattle.flame_spec.specs.declared.trees.SignKind.{SignKind}
 use Rattle.flame_spec.specs.declared.trees.Link.{Link}
 use Rattle.flame_spec.specs.declared.trees.Expr.{Expr}
-use Rattle.flame_spec.specs.Trees.{Expression, number, name, field, get, signed, chain, all_of, any_of, Expressions, no_parts, part, Links, no_links, link}
+use Rattle.flame_spec.specs.Trees.{Expression, number, name, field, get, signed, chain, all_of, any_of, Expressions, no_parts, part, Links, no_links, link, Indexed}
 use Rattle.flame_spec.specs.Seen.{links, expression, expressions}
 use Rattle.flame_lex.specs.declared.token.Token.{Token}
-use Rattle.flame_expr.specs.declared.lexeme.Lexeme.{Lexeme}
-use Rattle.flame_expr.specs.declared.lexeme.Lexeme.TheVariants.{Word, Number, Open, Close, Arrow, AndAnd, OrOr}
+use Rattle.flame_expr.specs.declared.lexemes.Lexeme.{Lexeme}
+use Rattle.flame_expr.specs.declared.lexemes.Lexeme.TheVariants.{Word, Number, Open, Close, OpenBracket, CloseBracket, Arrow, AndAnd, OrOr}
 use Rattle.flame_expr.specs.Lexemes.{first, text, value, line, behind, is_real}
-use Rattle.flame_expr.specs.Levels.{operators, signs, op_of, sign_of, joins}
-use Rattle.flame_expr.specs.Steps.{Symbol, lexeme, form, level, primary, both, one_of, many, tail}
-use Rattle.flame_expr.specs.Grammar.{with_signs, chained, all_parts, any_parts, Reads, a_unary, a_chain, a_conjunction, a_disjunction, Tail, no_link, a_link, Conjuncts, no_conjunct, a_conjunct, Disjuncts, no_disjunct, a_disjunct, Signs, no_sign, a_sign, Primary, a_number, a_name, a_field, a_get, in_brackets, Bracketed, bracketed, Closed, closed}
-use Rattle.flame_expr.specs.Reader.{Ended, Stopped}
+use Rattle.flame_expr.specs.OperatorLevels.{operators, signs, op_of, sign_of, joins}
+use Rattle.flame_expr.specs.ViablePrefixes.{Symbol, lexeme, form, level, primary, both, one_of, many, tail}
+use Rattle.flame_expr.specs.ExpressionGrammar.{named, field_of, with_signs, chained, all_parts, any_parts, Reads, a_unary, a_chain, a_conjunction, a_disjunction, Tail, no_link, a_link, Conjuncts, no_conjunct, a_conjunct, Disjuncts, no_disjunct, a_disjunct, Signs, no_sign, a_sign, Primary, a_number, a_name, a_field, a_get, in_brackets, Index, no_index, an_index, Bracketed, bracketed, Closed, closed}
+use Rattle.flame_expr.specs.ReadParts.{Ended, Stopped}
 use Rattle.flame_expr.proofs.LexemeFacts.{among, not_among}
 use Rattle.flame_expr.proofs.Places.{behind-drop, there}
 use Rattle.flame_expr.proofs.Parts.{any_heads, pasts, clean, joins_on}
@@ -39,8 +39,8 @@ pub from_next : (P : List Token → Type 0) (tokens : List Token) (at : ℕ) →
 from_next P tokens at h = subst P (behind-drop tokens at) h
 
 -- forms of one word
-pub name_read : (tokens : List Token) (at : ℕ) → first (drop at tokens) ≡ Word → Primary (drop at tokens) (name (line (drop at tokens)) (text (drop at tokens))) (drop (at + 1) tokens)
-name_read tokens at a = from_next (Primary (drop at tokens) (name (line (drop at tokens)) (text (drop at tokens)))) tokens at (a_name a)
+pub name_read : (tokens : List Token) (at : ℕ) (s : Option Indexed) (rest : List Token) → first (drop at tokens) ≡ Word → Index (drop (at + 1) tokens) s rest → Primary (drop at tokens) (named (line (drop at tokens)) (text (drop at tokens)) s) rest
+name_read tokens at s rest a r = a_name a (at_next (λ ts. Index ts s rest) tokens at r)
 
 pub number_read : (tokens : List Token) (at : ℕ) → first (drop at tokens) ≡ Number → Primary (drop at tokens) (number (value (drop at tokens))) (drop (at + 1) tokens)
 number_read tokens at a = from_next (Primary (drop at tokens) (number (value (drop at tokens)))) tokens at (a_number a)
@@ -51,18 +51,23 @@ two_behind tokens at = ap behind (behind-drop tokens at) ∙ behind-drop tokens 
 three_behind : (tokens : List Token) (at : ℕ) → behind (behind (behind (drop at tokens))) ≡ drop (at + 1 + 1 + 1) tokens
 three_behind tokens at = ap behind (two_behind tokens at) ∙ behind-drop tokens (at + 1 + 1)
 
-pub field_read : (tokens : List Token) (at end : ℕ) → first (drop at tokens) ≡ Word → first (drop (at + 1) tokens) ≡ Arrow → first (drop (at + 1 + 1) tokens) ≡ Word → end ≡ at + 1 + 1 + 1 → Primary (drop at tokens) (field (line (drop at tokens)) (text (drop at tokens)) (text (drop (at + 1 + 1) tokens))) (drop end tokens)
-field_read tokens at end a b c d =
+pub field_read : (tokens : List Token) (at mid : ℕ) (s : Option Indexed) (rest : List Token) → first (drop at tokens) ≡ Word → first (drop (at + 1) tokens) ≡ Arrow → first (drop (at + 1 + 1) tokens) ≡ Word → mid ≡ at + 1 + 1 + 1 → Index (drop mid tokens) s rest → Primary (drop at tokens) (field_of (line (drop at tokens)) (text (drop at tokens)) (text (drop (at + 1 + 1) tokens)) s) rest
+field_read tokens at mid s rest a b c d r =
     let ts = drop at tokens in
     let y = two_behind tokens at in
-    let h : Primary ts (field (line ts) (text ts) (text (behind (behind ts)))) (behind (behind (behind ts))) = a_field a (ap first (behind-drop tokens at) ∙ b) (ap first y ∙ c) in
-    let g : Primary ts (field (line ts) (text ts) (text (behind (behind ts)))) (drop end tokens) = subst (Primary ts (field (line ts) (text ts) (text (behind (behind ts))))) (three_behind tokens at ∙ ap (λ n. drop n tokens) (sym d)) h in
-    subst (λ v. Primary ts (field (line ts) (text ts) (text v)) (drop end tokens)) y g
+    let z : drop mid tokens ≡ behind (behind (behind ts)) = ap (λ n. drop n tokens) d ∙ sym (three_behind tokens at) in
+    let h : Primary ts (field_of (line ts) (text ts) (text (behind (behind ts))) s) rest = a_field a (ap first (behind-drop tokens at) ∙ b) (ap first y ∙ c) (subst (λ ts. Index ts s rest) z r) in
+    subst (λ v. Primary ts (field_of (line ts) (text ts) (text v) s) rest) y h
 
 pub get_read : (tokens : List Token) (at end : ℕ) → first (drop at tokens) ≡ Word → first (drop (at + 1) tokens) ≡ Open → first (drop (at + 1 + 1) tokens) ≡ Close → end ≡ at + 1 + 1 + 1 → Primary (drop at tokens) (get (line (drop at tokens)) (text (drop at tokens))) (drop end tokens)
 get_read tokens at end a b c d =
     let ts = drop at tokens in
     subst (Primary ts (get (line ts) (text ts))) (three_behind tokens at ∙ ap (λ n. drop n tokens) (sym d)) (a_get a (ap first (behind-drop tokens at) ∙ b) (ap first (two_behind tokens at) ∙ c))
+
+pub index_read : (tokens : List Token) (at close end : ℕ) (e : Expression) → first (drop at tokens) ≡ OpenBracket → Reads 6 (drop (at + 1) tokens) e (drop close tokens) → first (drop close tokens) ≡ CloseBracket → end ≡ close + 1 → Index (drop at tokens) (Some (record { line = line (drop at tokens); index = e })) (drop end tokens)
+index_read tokens at close end e a r c g =
+    let s : Option Indexed = Some (record { line = line (drop at tokens); index = e }) in
+    subst (λ n. Index (drop at tokens) s (drop n tokens)) (sym g) (from_next (Index (drop at tokens) s) tokens close (an_index a (at_next (λ ts. Reads 6 ts e (drop close tokens)) tokens at r) c))
 
 pub closed_read : (tokens : List Token) (at close end : ℕ) (e : Expression) → Reads 6 (drop at tokens) e (drop close tokens) → first (drop close tokens) ≡ Close → end ≡ close + 1 → Closed (drop at tokens) e (drop end tokens)
 closed_read tokens at close end e r c g = subst (λ n. Closed (drop at tokens) e (drop n tokens)) (sym g) (from_next (Closed (drop at tokens) e) tokens close (closed r c))

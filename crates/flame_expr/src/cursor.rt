@@ -1,15 +1,16 @@
 //! Tokens at a place.
 
 ghost use Rattle.std.specs.Prelude.{◌≡◌, ◌+◌, ◌≤◌, ◌<◌, ◌^◌, true, [], ◌∷◌, drop, length, IfOk, IfErr};
+ghost use Rattle.flame_rows.specs.declared.fails.Fail.TheVariants.{Fault};
+ghost use Rattle.flame_expr.specs.declared.faults.ParseFault.TheVariants.{Syntax};
 ghost use Rattle.flame_expr.specs.Lexemes.{first, line, text, value, is_real};
-ghost use Rattle.flame_expr.specs.Steps.{lexeme};
-ghost use Rattle.flame_expr.specs.Reader.{Ended, StopsBy};
+ghost use Rattle.flame_expr.specs.ViablePrefixes.{lexeme};
+ghost use Rattle.flame_expr.specs.ReadParts.{Ended, StopsBy};
 
-use crate::fault::{Fail, ParseFault};
-use crate::lexeme::Lexeme;
-use flame_lex::token::{Kind, Token};
-use flame_rows::NoMemory;
-use flame_rows::Text;
+use crate::faults::ParseFault;
+use crate::lexemes::Lexeme;
+use flame_lex::{Kind, Token};
+use flame_rows::{Fail, NoMemory, Text};
 use std::alloc::Global;
 
 /// What the token at this place is to the grammar, `Nothing` behind the last.
@@ -66,15 +67,15 @@ pub fn text_at(alloc: Global, tokens: &[Token], at: usize) -> Result<Text, NoMem
 }
 
 /// The fault of the token at this place.
-pub fn syntax(at: usize) -> Fail
+pub fn syntax(at: usize) -> Fail<ParseFault>
     requires { at < 2 ^ 32 }
-    ensures { result ≡ Fail.Fault (ParseFault.Syntax at) }
+    ensures { result ≡ Fault (Syntax at) }
 {
     Fail::Fault(ParseFault::Syntax(at as u32))
 }
 
 /// The place behind this lexeme, which stands at this place, else Syntax there.
-pub fn expect(tokens: &[Token], at: usize, wanted: Lexeme) -> Result<usize, Fail>
+pub fn expect(tokens: &[Token], at: usize, wanted: Lexeme) -> Result<usize, Fail<ParseFault>>
     requires size { length tokens.now < 2 ^ 32 }
     requires within { at ≤ length tokens.now }
     requires real { is_real wanted ≡ true }

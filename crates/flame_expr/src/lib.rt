@@ -1,11 +1,20 @@
 //! The grammar of function files, and the reader of its expressions.
 #![tactic(auto)]
 
-pub mod cursor;
-pub mod fault;
+mod cursor;
+mod depth;
+mod faults;
 pub mod laws;
-pub mod lexeme;
-pub mod parse;
-pub mod reader;
+mod levels;
+mod lexemes;
+mod parse;
+mod reader;
 #[cfg(test)]
 mod tests;
+
+pub use cursor::{expect, lexeme_at, line_at, syntax, text_at};
+pub use depth::{first_too_deep, is_counted, nests};
+pub use faults::ParseFault;
+pub use lexemes::Lexeme;
+pub use parse::parse_expr;
+pub use reader::{bracketed, expression, subscript};

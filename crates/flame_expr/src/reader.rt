@@ -1,101 +1,37 @@
 //! The reader of expressions. Each function begins with the production that it reads.
 
-ghost use Rattle.std.specs.Prelude.{◌≡◌, ◌+◌, ◌<◌, ◌≤◌, ◌^◌, suc, [], ◌∷◌, length, drop, IfOk, IfErr};
+ghost use Rattle.std.specs.Prelude.{◌≡◌, ◌+◌, ◌<◌, ◌≤◌, ◌^◌, suc, [], ◌∷◌, length, drop, option_map, IfOk, IfErr};
 ghost use Rattle.flame_spec.specs.Seen as seen;
-ghost use Rattle.flame_spec.specs.Seen.{expression, expressions, links};
-ghost use Rattle.flame_expr.specs.declared.lexeme.Lexeme.TheVariants.{Open, Close};
+ghost use Rattle.flame_spec.specs.Seen.{expression, expressions, links, indexed};
+ghost use Rattle.flame_expr.specs.declared.lexemes.Lexeme.TheVariants.{Open, Close};
 ghost use Rattle.flame_expr.specs.Lexemes.{first};
-ghost use Rattle.flame_expr.specs.Levels as levels;
-ghost use Rattle.flame_expr.specs.Levels.{joins, op_of, sign_of};
-ghost use Rattle.flame_expr.specs.Steps as steps;
-ghost use Rattle.flame_expr.specs.Steps.{one_of, many, form, lexeme, expr};
-ghost use Rattle.flame_expr.specs.Grammar as grammar;
-ghost use Rattle.flame_expr.specs.Grammar.{Reads, Tail, Conjuncts, Disjuncts, Signs, Primary, Bracketed, Closed};
-ghost use Rattle.flame_expr.specs.Grammar.{all_parts, any_parts};
-ghost use Rattle.flame_expr.specs.Reader.{Ended, StopsBy};
+ghost use Rattle.flame_expr.specs.OperatorLevels as levels;
+ghost use Rattle.flame_expr.specs.OperatorLevels.{joins, joins_index};
+ghost use Rattle.flame_expr.specs.ViablePrefixes as steps;
+ghost use Rattle.flame_expr.specs.ViablePrefixes.{one_of, many, form, lexeme, expr, index};
+ghost use Rattle.flame_expr.specs.ExpressionGrammar as grammar;
+ghost use Rattle.flame_expr.specs.ExpressionGrammar.{Reads, Tail, Conjuncts, Disjuncts, Signs, Primary, Index, Bracketed, Closed};
+ghost use Rattle.flame_expr.specs.ExpressionGrammar.{all_parts, any_parts, named, field_of};
+ghost use Rattle.flame_expr.specs.ReadParts.{Ended, StopsBy};
 
 use crate::cursor::{expect, lexeme_at, line_at, number_at, syntax, text_at};
-use crate::fault::Fail;
-use crate::lexeme::Lexeme;
-use flame_lex::token::Token;
-use flame_ops::Op;
-use flame_rows::NoMemory;
-use flame_rows::Seq;
-use flame_spec::{Expr, Link, Sign, SignKind};
+use crate::faults::ParseFault;
+use crate::levels::{op_between, sign};
+use crate::lexemes::Lexeme;
+use flame_lex::Token;
+use flame_rows::{Fail, NoMemory, Part, Seq, Text};
+use flame_spec::{Expr, Link, Sign, Subscript};
 use std::alloc::Global;
-
-/// The operator that a lexeme is between the parts of this level of a chain.
-fn op_between(level: u32, lexeme: Lexeme) -> Option<Op>
-    ensures { result ≡ op_of level lexeme }
-{
-    match level {
-        0 => product_op(lexeme),
-        1 => sum_op(lexeme),
-        2 => relation_op(lexeme),
-        3 => equality_op(lexeme),
-        _ => None,
-    }
-}
-
-fn product_op(lexeme: Lexeme) -> Option<Op>
-    ensures { result ≡ op_of 0 lexeme }
-{
-    match lexeme {
-        Lexeme::Star => Some(Op::Mul),
-        Lexeme::Slash => Some(Op::Div),
-        Lexeme::Percent => Some(Op::Rem),
-        _ => None,
-    }
-}
-
-fn sum_op(lexeme: Lexeme) -> Option<Op>
-    ensures { result ≡ op_of 1 lexeme }
-{
-    match lexeme {
-        Lexeme::Plus => Some(Op::Add),
-        Lexeme::Minus => Some(Op::Sub),
-        _ => None,
-    }
-}
-
-fn relation_op(lexeme: Lexeme) -> Option<Op>
-    ensures { result ≡ op_of 2 lexeme }
-{
-    match lexeme {
-        Lexeme::Below => Some(Op::Lt),
-        Lexeme::Above => Some(Op::Gt),
-        Lexeme::AtMost => Some(Op::Le),
-        Lexeme::AtLeast => Some(Op::Ge),
-        _ => None,
-    }
-}
-
-fn equality_op(lexeme: Lexeme) -> Option<Op>
-    ensures { result ≡ op_of 3 lexeme }
-{
-    match lexeme {
-        Lexeme::Same => Some(Op::Eq),
-        Lexeme::Differs => Some(Op::Ne),
-        _ => None,
-    }
-}
-
-/// The sign that a lexeme is.
-fn sign(lexeme: Lexeme) -> Option<SignKind>
-    ensures { result ≡ sign_of lexeme }
-{
-    match lexeme {
-        Lexeme::Minus => Some(SignKind::Minus),
-        Lexeme::Plus => Some(SignKind::Plus),
-        Lexeme::Bang => Some(SignKind::Bang),
-        _ => None,
-    }
-}
 
 /// A form of a level: 0 is unary, 1 prod, 2 sum, 3 rel, 4 eq, 5 and, 6 expr. Gives its tree and the place behind it,
 /// else Syntax before the first token that no such form goes on with.
 #[cycle(expr)]
-fn form_at(alloc: Global, tokens: &[Token], at: usize, level: u32) -> Result<(Expr, usize), Fail>
+fn form_at(
+    alloc: Global,
+    tokens: &[Token],
+    at: usize,
+    level: u32,
+) -> Result<(Expr, usize), Fail<ParseFault>>
     requires level { level ≤ 6 }
     requires size { length tokens.now < 2 ^ 32 }
     requires within { at ≤ length tokens.now }
@@ -128,7 +64,12 @@ fn form_at(alloc: Global, tokens: &[Token], at: usize, level: u32) -> Result<(Ex
 // sum = prod (("+" | "-") prod)*, prod = unary (("*" | "/" | "%") unary)*
 /// A form of the level above this one.
 #[cycle(expr)]
-fn chain(alloc: Global, tokens: &[Token], at: usize, level: u32) -> Result<(Expr, usize), Fail>
+fn chain(
+    alloc: Global,
+    tokens: &[Token],
+    at: usize,
+    level: u32,
+) -> Result<(Expr, usize), Fail<ParseFault>>
     requires level { level < 4 }
     requires size { length tokens.now < 2 ^ 32 }
     requires within { at ≤ length tokens.now }
@@ -145,7 +86,12 @@ fn chain(alloc: Global, tokens: &[Token], at: usize, level: u32) -> Result<(Expr
 
 /// The operators of a level, each with the form behind it.
 #[cycle(expr)]
-fn tail(alloc: Global, tokens: &[Token], at: usize, level: u32) -> Result<(Vec<Link>, usize), Fail>
+fn tail(
+    alloc: Global,
+    tokens: &[Token],
+    at: usize,
+    level: u32,
+) -> Result<(Vec<Link>, usize), Fail<ParseFault>>
     requires level { level < 4 }
     requires size { length tokens.now < 2 ^ 32 }
     requires within { at ≤ length tokens.now }
@@ -171,7 +117,11 @@ fn tail(alloc: Global, tokens: &[Token], at: usize, level: u32) -> Result<(Vec<L
 
 // and = eq ("&&" eq)*
 #[cycle(expr)]
-fn conjunction(alloc: Global, tokens: &[Token], at: usize) -> Result<(Expr, usize), Fail>
+fn conjunction(
+    alloc: Global,
+    tokens: &[Token],
+    at: usize,
+) -> Result<(Expr, usize), Fail<ParseFault>>
     requires size { length tokens.now < 2 ^ 32 }
     requires within { at ≤ length tokens.now }
     ensures tree { IfOk result (λ r. Reads 5 (drop at tokens.now) (expression r.0) (drop r.1 tokens.now)) }
@@ -186,7 +136,11 @@ fn conjunction(alloc: Global, tokens: &[Token], at: usize) -> Result<(Expr, usiz
 
 /// Each `&&` with the form behind it.
 #[cycle(expr)]
-fn conjuncts(alloc: Global, tokens: &[Token], at: usize) -> Result<(Vec<Expr>, usize), Fail>
+fn conjuncts(
+    alloc: Global,
+    tokens: &[Token],
+    at: usize,
+) -> Result<(Vec<Expr>, usize), Fail<ParseFault>>
     requires size { length tokens.now < 2 ^ 32 }
     requires within { at ≤ length tokens.now }
     ensures tree { IfOk result (λ r. Conjuncts (drop at tokens.now) (expressions r.0.items) (drop r.1 tokens.now)) }
@@ -207,7 +161,11 @@ fn conjuncts(alloc: Global, tokens: &[Token], at: usize) -> Result<(Vec<Expr>, u
 
 // expr = and ("||" and)*
 #[cycle(expr)]
-fn disjunction(alloc: Global, tokens: &[Token], at: usize) -> Result<(Expr, usize), Fail>
+fn disjunction(
+    alloc: Global,
+    tokens: &[Token],
+    at: usize,
+) -> Result<(Expr, usize), Fail<ParseFault>>
     requires size { length tokens.now < 2 ^ 32 }
     requires within { at ≤ length tokens.now }
     ensures tree { IfOk result (λ r. Reads 6 (drop at tokens.now) (expression r.0) (drop r.1 tokens.now)) }
@@ -222,7 +180,11 @@ fn disjunction(alloc: Global, tokens: &[Token], at: usize) -> Result<(Expr, usiz
 
 /// Each `||` with the form behind it.
 #[cycle(expr)]
-fn disjuncts(alloc: Global, tokens: &[Token], at: usize) -> Result<(Vec<Expr>, usize), Fail>
+fn disjuncts(
+    alloc: Global,
+    tokens: &[Token],
+    at: usize,
+) -> Result<(Vec<Expr>, usize), Fail<ParseFault>>
     requires size { length tokens.now < 2 ^ 32 }
     requires within { at ≤ length tokens.now }
     ensures tree { IfOk result (λ r. Disjuncts (drop at tokens.now) (expressions r.0.items) (drop r.1 tokens.now)) }
@@ -243,7 +205,7 @@ fn disjuncts(alloc: Global, tokens: &[Token], at: usize) -> Result<(Vec<Expr>, u
 
 // unary = ("-" | "+" | "!")* primary
 #[cycle(expr)]
-fn unary(alloc: Global, tokens: &[Token], at: usize) -> Result<(Expr, usize), Fail>
+fn unary(alloc: Global, tokens: &[Token], at: usize) -> Result<(Expr, usize), Fail<ParseFault>>
     requires size { length tokens.now < 2 ^ 32 }
     requires within { at ≤ length tokens.now }
     ensures tree { IfOk result (λ r. Reads 0 (drop at tokens.now) (expression r.0) (drop r.1 tokens.now)) }
@@ -256,9 +218,9 @@ fn unary(alloc: Global, tokens: &[Token], at: usize) -> Result<(Expr, usize), Fa
     Ok((with_signs(alloc, signs, part)?, end))
 }
 
-// primary = NUMBER | WORD | WORD "->" WORD | WORD "(" ")" | "(" expr ")"
+// primary = NUMBER | WORD ["[" expr "]"] | WORD "->" WORD ["[" expr "]"] | WORD "(" ")" | "(" expr ")"
 #[cycle(expr)]
-fn primary(alloc: Global, tokens: &[Token], at: usize) -> Result<(Expr, usize), Fail>
+fn primary(alloc: Global, tokens: &[Token], at: usize) -> Result<(Expr, usize), Fail<ParseFault>>
     requires size { length tokens.now < 2 ^ 32 }
     requires within { at ≤ length tokens.now }
     ensures tree { IfOk result (λ r. Primary (drop at tokens.now) (expression r.0) (drop r.1 tokens.now)) }
@@ -282,7 +244,7 @@ fn primary(alloc: Global, tokens: &[Token], at: usize) -> Result<(Expr, usize), 
 
 // expr ")"
 #[cycle(expr)]
-fn closed(alloc: Global, tokens: &[Token], at: usize) -> Result<(Expr, usize), Fail>
+fn closed(alloc: Global, tokens: &[Token], at: usize) -> Result<(Expr, usize), Fail<ParseFault>>
     requires size { length tokens.now < 2 ^ 32 }
     requires within { at ≤ length tokens.now }
     ensures tree { IfOk result (λ r. Closed (drop at tokens.now) (expression r.0) (drop r.1 tokens.now)) }
@@ -295,8 +257,9 @@ fn closed(alloc: Global, tokens: &[Token], at: usize) -> Result<(Expr, usize), F
     Ok((tree, end))
 }
 
-// WORD | WORD "->" WORD | WORD "(" ")"
-fn word_form(alloc: Global, tokens: &[Token], at: usize) -> Result<(Expr, usize), Fail>
+// WORD ["[" expr "]"] | WORD "->" WORD ["[" expr "]"] | WORD "(" ")"
+#[cycle(expr)]
+fn word_form(alloc: Global, tokens: &[Token], at: usize) -> Result<(Expr, usize), Fail<ParseFault>>
     requires size { length tokens.now < 2 ^ 32 }
     requires within { at < length tokens.now }
     requires word { first (drop at tokens.now) ≡ Lexeme.Word }
@@ -309,16 +272,65 @@ fn word_form(alloc: Global, tokens: &[Token], at: usize) -> Result<(Expr, usize)
     let word = text_at(alloc, tokens, at)?;
     match lexeme_at(tokens, at + 1) {
         Lexeme::Arrow => {
-            let end = expect(tokens, at + 1 + 1, Lexeme::Word)?;
+            let mid = expect(tokens, at + 1 + 1, Lexeme::Word)?;
             let variable = text_at(alloc, tokens, at + 1 + 1)?;
-            Ok((Expr::Field(line, word, variable), end))
+            let (which, end) = subscript(alloc, tokens, mid)?;
+            Ok((field_form(line, word, variable, which), end))
         }
         Lexeme::Open => {
             let end = expect(tokens, at + 1 + 1, Lexeme::Close)?;
             Ok((Expr::Get(line, word), end))
         }
-        _ => Ok((Expr::Name(line, word), at + 1)),
+        _ => {
+            let (which, end) = subscript(alloc, tokens, at + 1)?;
+            Ok((name_form(line, word, which), end))
+        }
     }
+}
+
+/// A name, or one of its elements.
+fn name_form(line: u32, word: Text, which: Option<Subscript>) -> Expr
+    ensures { expression result ≡ named line word (option_map indexed which) }
+{
+    match which {
+        Some(which) => Expr::At(line, word, which),
+        None => Expr::Name(line, word),
+    }
+}
+
+/// A field of a message, or one of its elements.
+fn field_form(line: u32, word: Text, variable: Text, which: Option<Subscript>) -> Expr
+    ensures { expression result ≡ field_of line word variable (option_map indexed which) }
+{
+    match which {
+        Some(which) => Expr::FieldAt(line, word, variable, which),
+        None => Expr::Field(line, word, variable),
+    }
+}
+
+// ["[" expr "]"]
+/// Which element, where a bracket stands at this place, and the place behind it; else Syntax before the first token
+/// that it does not go on with. The stack that it takes grows with the brackets that are open at once.
+#[cycle(expr)]
+pub fn subscript(
+    alloc: Global,
+    tokens: &[Token],
+    at: usize,
+) -> Result<(Option<Subscript>, usize), Fail<ParseFault>>
+    requires size { length tokens.now < 2 ^ 32 }
+    requires within { at ≤ length tokens.now }
+    ensures tree { IfOk result (λ r. Index (drop at tokens.now) (option_map indexed r.0) (drop r.1 tokens.now)) }
+    ensures ended { IfOk result (λ r. Ended joins_index (index ∷ []) tokens.now at r.1) }
+    ensures stopped { IfErr result (StopsBy joins_index (index ∷ []) tokens.now at) }
+{
+    let Lexeme::OpenBracket = lexeme_at(tokens, at) else {
+        return Ok((None, at));
+    };
+    let (which, close) = form_at(alloc, tokens, at + 1, 6)?;
+    let end = expect(tokens, close, Lexeme::CloseBracket)?;
+    let index = Part::of(alloc, which)?;
+    let line = line_at(tokens, at);
+    Ok((Some(Subscript { line, index }), end))
 }
 
 /// The signs at this place.
@@ -349,7 +361,7 @@ fn with_signs(alloc: Global, signs: Vec<Sign>, part: Expr) -> Result<Expr, NoMem
     if signs.is_empty() {
         return Ok(part);
     }
-    let part = Box::new(alloc, part)?;
+    let part = Part::of(alloc, part)?;
     Ok(Expr::Unary(Seq::of(signs), part))
 }
 
@@ -360,8 +372,9 @@ fn chained(alloc: Global, first: Expr, more: Vec<Link>) -> Result<Expr, NoMemory
     if more.is_empty() {
         return Ok(first);
     }
-    let first = Box::new(alloc, first)?;
-    Ok(Expr::Chain(first, Seq::of(more)))
+    let first = Part::of(alloc, first)?;
+    let links = Seq::of(more);
+    Ok(Expr::Chain(first, links))
 }
 
 /// All of the parts, which is the first where there is no other.
@@ -389,7 +402,11 @@ fn any_of(first: Expr, mut others: Vec<Expr>) -> Result<Expr, NoMemory>
 // "(" expr ")"
 /// An expression in brackets: its tree and the place behind the closing bracket, else Syntax before the first token
 /// that it does not go on with. The stack that it takes grows with the brackets that are open at once.
-pub fn bracketed(alloc: Global, tokens: &[Token], at: usize) -> Result<(Expr, usize), Fail>
+pub fn bracketed(
+    alloc: Global,
+    tokens: &[Token],
+    at: usize,
+) -> Result<(Expr, usize), Fail<ParseFault>>
     requires size { length tokens.now < 2 ^ 32 }
     requires within { at ≤ length tokens.now }
     ensures tree { IfOk result (λ r. Bracketed (drop at tokens.now) (expression r.0) (drop r.1 tokens.now)) }
@@ -405,7 +422,11 @@ pub fn bracketed(alloc: Global, tokens: &[Token], at: usize) -> Result<(Expr, us
 // expr = and ("||" and)*
 /// An expression: its tree and the place behind it, else Syntax before the first token that no expression goes on
 /// with. The stack that it takes grows with the brackets that are open at once.
-pub fn expression(alloc: Global, tokens: &[Token], at: usize) -> Result<(Expr, usize), Fail>
+pub fn expression(
+    alloc: Global,
+    tokens: &[Token],
+    at: usize,
+) -> Result<(Expr, usize), Fail<ParseFault>>
     requires size { length tokens.now < 2 ^ 32 }
     requires within { at ≤ length tokens.now }
     ensures tree { IfOk result (λ r. Reads 6 (drop at tokens.now) (seen.expression r.0) (drop r.1 tokens.now)) }

@@ -3,12 +3,12 @@ use Rattle.std.proofs.Common.{◌≡◌, ℕ, pos, ◌+◌, List, [], ◌∷◌,
 use Rattle.flame_ops.specs.declared.integers.Op.{Op}
 use Rattle.flame_spec.specs.Trees.{Expression, number, Expressions, Assigned, Statement, call, break, continue}
 use Rattle.flame_lex.specs.declared.token.Token.{Token}
-use Rattle.flame_expr.specs.declared.lexeme.Lexeme.TheVariants.{Word, Open, Semicolon, Break, Continue}
+use Rattle.flame_expr.specs.declared.lexemes.Lexeme.TheVariants.{Word, Open, Semicolon, Break, Continue}
 use Rattle.flame_expr.specs.Lexemes.{first, text, line, behind}
-use Rattle.flame_expr.specs.Grammar.{Reads}
+use Rattle.flame_expr.specs.ExpressionGrammar.{Reads}
 use Rattle.flame_expr.proofs.Places.{behind-drop}
-use Rattle.flame_parse.specs.Operators.{set_op, step_op}
-use Rattle.flame_parse.specs.Grammar.{Assignment, sets, steps_behind, steps_before, Called, Simple, calling, breaking, continuing}
+use Rattle.flame_parse.specs.AssignmentOperators.{set_op, step_op}
+use Rattle.flame_parse.specs.StatementGrammar.{Assignment, sets, steps_behind, steps_before, Called, Simple, calling, breaking, continuing}
 use Rattle.flame_parse.proofs.Runs.{end_of, two_behind}
 
 pub sets_read : (tokens : List Token) (at end : ℕ) (op : Option Op) (e : Expression) → first (drop at tokens) ≡ Word → set_op (first (drop (at + 1) tokens)) ≡ Some op → Reads 6 (drop (at + 1 + 1) tokens) e (drop end tokens) → Assignment (drop at tokens) (record { line = line (drop at tokens); name = text (drop at tokens); op = op; op_line = line (drop (at + 1) tokens); value = e }) (drop end tokens)

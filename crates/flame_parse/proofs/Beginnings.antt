@@ -3,17 +3,17 @@ use Rattle.std.proofs.Common.{◌≡◌, ◌⊎◌, inl, inr, ℕ, ◌+◌, ◌<
 use Rattle.std.proofs.lemmas.Bool.{false≢true}
 use Rattle.flame_ops.specs.declared.integers.Op.{Op}
 use Rattle.flame_lex.specs.declared.token.Token.{Token}
-use Rattle.flame_expr.specs.declared.lexeme.Lexeme.{Lexeme}
-use Rattle.flame_expr.specs.declared.lexeme.Lexeme.TheVariants.{Nothing, Word, Start, Finish, PlusPlus, MinusMinus, PlusSet, MinusSet, StarSet, SlashSet, PercentSet, Set, Open, Close, OpenBrace, CloseBrace, Comma, Semicolon, Int, Void, If, Else, While, For, Do, Return, Break, Continue}
+use Rattle.flame_expr.specs.declared.lexemes.Lexeme.{Lexeme}
+use Rattle.flame_expr.specs.declared.lexemes.Lexeme.TheVariants.{Nothing, Word, Start, Finish, PlusPlus, MinusMinus, PlusSet, MinusSet, StarSet, SlashSet, PercentSet, Set, Open, Close, OpenBrace, CloseBrace, Comma, Semicolon, Int, Void, If, Else, While, For, Do, Return, Break, Continue}
 use Rattle.flame_expr.specs.Lexemes.{first, behind, is_real}
-use Rattle.flame_expr.specs.Levels.{joins}
-use Rattle.flame_expr.specs.Steps.{Symbol, lexeme, form, both, either, one_of, maybe, many, expr, setters, steppers, more_args, more_items, else_ifs, else_body, a_unit, a_def, a_block, a_stmt, a_decl, an_item, a_simple, an_assign, some_args, a_body, End, left, Goes, stay, match, expand, in_turn, first_part, second_part}
-use Rattle.flame_expr.specs.Reader.{onto, Ended, Stopped}
+use Rattle.flame_expr.specs.OperatorLevels.{joins}
+use Rattle.flame_expr.specs.ViablePrefixes.{Symbol, lexeme, form, both, either, one_of, maybe, many, expr, setters, steppers, more_args, more_items, else_ifs, else_body, a_unit, a_def, a_block, a_stmt, a_decl, an_item, a_simple, an_assign, some_args, a_body, End, left, Goes, stay, match, expand, in_turn, first_part, second_part}
+use Rattle.flame_expr.specs.ReadParts.{onto, Ended, Stopped}
 use Rattle.flame_expr.proofs.LexemeFacts.{IsNone, or, among, everywhere, not_among}
 use Rattle.flame_expr.proofs.Walk.{at_lexeme}
 use Rattle.flame_expr.proofs.Heads.{One}
 use Rattle.flame_expr.proofs.Parts.{any_heads, any_all, pasts, clean, none, ends_here, joins_on, go_on, GoesAny}
-use Rattle.flame_parse.specs.Operators.{set_op, step_op, starts, starters, joins_item, joins_items, joins_args, joins_stmt, joins_stmts}
+use Rattle.flame_parse.specs.AssignmentOperators.{set_op, step_op, starts, starters, joins_item, joins_items, joins_args, joins_stmt, joins_stmts}
 
 -- the rests behind the word of an assignment
 abbrev pub operations : List (List Symbol)

@@ -4,16 +4,16 @@ use Rattle.flame_spec.specs.declared.trees.Arm.{Arm}
 use Rattle.flame_spec.specs.Trees.{Statements, no_more}
 use Rattle.flame_spec.specs.Seen.{Tested, tested, arms, arms_of}
 use Rattle.flame_lex.specs.declared.token.Token.{Token}
-use Rattle.flame_expr.specs.declared.lexeme.Lexeme.TheVariants.{OpenBrace, CloseBrace}
+use Rattle.flame_expr.specs.declared.lexemes.Lexeme.TheVariants.{OpenBrace, CloseBrace}
 use Rattle.flame_expr.specs.Lexemes.{first, behind}
-use Rattle.flame_expr.specs.Steps.{Symbol, form, lexeme, both, many, else_ifs, else_body, a_stmt, a_block, a_body, End, left, Goes, expand, in_turn}
-use Rattle.flame_expr.specs.Reader.{Ended, Stopped}
+use Rattle.flame_expr.specs.ViablePrefixes.{Symbol, form, lexeme, both, many, else_ifs, else_body, a_stmt, a_block, a_body, End, left, Goes, expand, in_turn}
+use Rattle.flame_expr.specs.ReadParts.{Ended, Stopped}
 use Rattle.flame_expr.proofs.Walk.{at_form, at_both}
 use Rattle.flame_expr.proofs.Parts.{any_heads}
 use Rattle.flame_expr.proofs.Ends.{any_ended, one_ended, any_stopped, one_stopped, ended_weaker, stopped_weaker}
-use Rattle.flame_parse.specs.Operators.{joins_stmt}
-use Rattle.flame_parse.specs.Grammar.{Elses, no_else}
-use Rattle.flame_parse.proofs.Alike.{alike_ended, alike_stopped}
+use Rattle.flame_parse.specs.AssignmentOperators.{joins_stmt}
+use Rattle.flame_parse.specs.StatementGrammar.{Elses, no_else}
+use Rattle.flame_parse.proofs.Likeness.{alike_ended, alike_stopped}
 
 abbrev Inside : List Symbol
 Inside = lexeme OpenBrace ∷ many (form a_stmt) ∷ lexeme CloseBrace ∷ []

@@ -2,15 +2,15 @@
 use Rattle.std.proofs.Common.{◌≡◌, ℕ, ◌+◌, ◌<◌, ◌≤◌, List, [], ◌∷◌, length, drop, refl, sym, ap, ◌∙◌, subst, arith}
 use Rattle.flame_spec.specs.Trees.{Statements}
 use Rattle.flame_lex.specs.declared.token.Token.{Token}
-use Rattle.flame_expr.specs.declared.lexeme.Lexeme.{Lexeme}
-use Rattle.flame_expr.specs.declared.lexeme.Lexeme.TheVariants.{Int, Word, Open, Close, Void}
+use Rattle.flame_expr.specs.declared.lexemes.Lexeme.{Lexeme}
+use Rattle.flame_expr.specs.declared.lexemes.Lexeme.TheVariants.{Int, Word, Open, Close, Void}
 use Rattle.flame_expr.specs.Lexemes.{first, text, line, behind}
-use Rattle.flame_expr.specs.Steps.{Symbol, form, lexeme, maybe, a_def, a_block, End, left, Goes, expand, in_turn}
-use Rattle.flame_expr.specs.Reader.{Ended, Stopped}
+use Rattle.flame_expr.specs.ViablePrefixes.{Symbol, form, lexeme, maybe, a_def, a_block, End, left, Goes, expand, in_turn}
+use Rattle.flame_expr.specs.ReadParts.{Ended, Stopped}
 use Rattle.flame_expr.proofs.Walk.{at_form, at_both}
 use Rattle.flame_expr.proofs.Parts.{any_heads, pasts}
 use Rattle.flame_expr.proofs.Places.{behind-drop}
-use Rattle.flame_parse.specs.Grammar.{Closing, Block, Definition, definition}
+use Rattle.flame_parse.specs.StatementGrammar.{Closing, Block, Definition, definition}
 
 abbrev Inside : List Symbol
 Inside = lexeme Int ∷ lexeme Word ∷ lexeme Open ∷ maybe (lexeme Void) ∷ lexeme Close ∷ form a_block ∷ []

@@ -6,16 +6,16 @@ use Rattle.flame_spec.specs.declared.trees.Sign.{Sign}
 use Rattle.flame_spec.specs.declared.trees.SignKind.{SignKind}
 use Rattle.flame_spec.specs.Trees.{Expression, number, Expressions, part, Declared, Assigned, Statement, declare, assign, call, block, branch, while, for, do_while, loop_over, return, Statements, no_more, also, Arms, arm}
 use Rattle.flame_lex.specs.declared.token.Token.{Token}
-use Rattle.flame_expr.specs.declared.lexeme.Lexeme.{Lexeme}
-use Rattle.flame_expr.specs.declared.lexeme.Lexeme.TheVariants.{Nothing, Word, Number, Start, PlusPlus, MinusMinus, Set, Plus, Minus, Bang, Open, Close, OpenBrace, Comma, Semicolon, Int, Void, If, Else, While, For, Do, Return, Break, Continue}
+use Rattle.flame_expr.specs.declared.lexemes.Lexeme.{Lexeme}
+use Rattle.flame_expr.specs.declared.lexemes.Lexeme.TheVariants.{Nothing, Word, Number, Start, PlusPlus, MinusMinus, Set, Plus, Minus, Bang, Open, Close, OpenBrace, Comma, Semicolon, Int, Void, If, Else, While, For, Do, Return, Break, Continue}
 use Rattle.flame_expr.specs.Lexemes.{first, text, line, behind}
-use Rattle.flame_expr.specs.Levels.{joins, sign_of}
-use Rattle.flame_expr.specs.Grammar.{Reads, a_unary, a_chain, a_conjunction, a_disjunction, Signs, no_sign, a_sign, Primary, a_number, a_name, a_field, a_get, in_brackets, Bracketed, bracketed}
+use Rattle.flame_expr.specs.OperatorLevels.{joins, sign_of}
+use Rattle.flame_expr.specs.ExpressionGrammar.{Reads, a_unary, a_chain, a_conjunction, a_disjunction, Signs, no_sign, a_sign, Primary, a_number, a_name, a_field, a_get, in_brackets, Bracketed, bracketed}
 use Rattle.flame_expr.proofs.LexemeFacts.{or, same, among}
-use Rattle.flame_expr.proofs.Unique.{unlike_words, one_read, one_bracketed}
-use Rattle.flame_parse.specs.Operators.{set_op, step_op, joins_item, joins_items, joins_args}
-use Rattle.flame_parse.specs.Grammar.{Value, no_value, a_value, Item, an_item, MoreItems, no_item, item_more, Items, items, Declaration, declaration, Assignment, sets, steps_behind, steps_before, MoreArgs, no_arg, arg_more, Args, args, Called, no_args, some_args, AssignedTo, assigned_to, Simple, nothing, assigning, calling, returning, breaking, continuing, First, no_first, first_assign, first_decl, Test, no_test, a_test, Step, no_step, a_step, Heading, heading, Block, braces, Stmts, no_stmt, stmt_more, Stmt, declaring, blocking, branching, whiling, repeating, doing, looping, simply, Elses, no_else, else_if, an_else, Body, in_braces, one_simple, Defined, Closing, no_void, a_void, Definition, definition, Definitions, no_definition, definition_more}
-use Rattle.flame_parse.specs.Units.{IsUnit}
+use Rattle.flame_expr.proofs.Uniqueness.{unlike_words, one_read, one_bracketed}
+use Rattle.flame_parse.specs.AssignmentOperators.{set_op, step_op, joins_item, joins_items, joins_args}
+use Rattle.flame_parse.specs.StatementGrammar.{Value, no_value, a_value, Item, an_item, MoreItems, no_item, item_more, Items, items, Declaration, declaration, Assignment, sets, steps_behind, steps_before, MoreArgs, no_arg, arg_more, Args, args, Called, no_args, some_args, AssignedTo, assigned_to, Simple, nothing, assigning, calling, returning, breaking, continuing, First, no_first, first_assign, first_decl, Test, no_test, a_test, Step, no_step, a_step, Heading, heading, Block, braces, Stmts, no_stmt, stmt_more, Stmt, declaring, blocking, branching, whiling, repeating, doing, looping, simply, Elses, no_else, else_if, an_else, Body, in_braces, one_simple, Defined, Closing, no_void, a_void, Definition, definition, Definitions, no_definition, definition_more}
+use Rattle.flame_parse.specs.Parsing.{IsUnit}
 
 -- none of these lexemes is next
 abbrev IsEnd : List Lexeme → List Token → Type 0

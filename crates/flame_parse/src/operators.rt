@@ -1,9 +1,9 @@
 //! The operators of assignments, and what begins a statement.
 
 ghost use Rattle.std.specs.Prelude.{◌≡◌};
-ghost use Rattle.flame_parse.specs.Operators.{set_op, step_op, starts};
+ghost use Rattle.flame_parse.specs.AssignmentOperators.{set_op, step_op, starts};
 
-use flame_expr::lexeme::Lexeme;
+use flame_expr::Lexeme;
 use flame_ops::Op;
 
 /// The operator before the `=`, where the lexeme is `=` or ends in it.

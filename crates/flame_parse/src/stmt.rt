@@ -3,18 +3,18 @@
 ghost use Rattle.std.specs.Prelude.{◌≡◌, ◌+◌, ◌<◌, ◌≤◌, ◌^◌, [], ◌∷◌, length, drop, map, option_map, IfOk, IfErr};
 ghost use Rattle.flame_spec.specs.Seen.{expression, statement, statements, arms};
 ghost use Rattle.flame_expr.specs.Lexemes.{first};
-ghost use Rattle.flame_expr.specs.Steps.{form, many, else_ifs, else_body, a_stmt, a_block, a_body};
-ghost use Rattle.flame_expr.specs.Reader.{Ended, StopsBy};
-ghost use Rattle.flame_parse.specs.Operators.{joins_stmt, joins_stmts};
-ghost use Rattle.flame_parse.specs.Grammar.{Block, Stmts, Stmt as StmtRead, Elses, Body};
+ghost use Rattle.flame_expr.specs.ViablePrefixes.{form, many, else_ifs, else_body, a_stmt, a_block, a_body};
+ghost use Rattle.flame_expr.specs.ReadParts.{Ended, StopsBy};
+ghost use Rattle.flame_parse.specs.AssignmentOperators.{joins_stmt, joins_stmts};
+ghost use Rattle.flame_parse.specs.StatementGrammar.{Block, Stmts, Stmt as StmtRead, Elses, Body};
 
 use crate::operators::starts_statement;
 use crate::simple::{head, items, one, simple};
-use flame_expr::cursor::{expect, lexeme_at, line_at, text_at};
-use flame_expr::fault::Fail;
-use flame_expr::lexeme::Lexeme;
-use flame_expr::reader::bracketed;
-use flame_lex::token::Token;
+use flame_expr::{expect, lexeme_at, line_at, text_at};
+use flame_expr::Fail;
+use flame_expr::Lexeme;
+use flame_expr::bracketed;
+use flame_lex::Token;
 use flame_rows::Seq;
 use flame_spec::{Arm, Stmt};
 use std::alloc::Global;

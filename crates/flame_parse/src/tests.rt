@@ -1,8 +1,8 @@
 mod print;
 
-use crate::parse::parse;
-use flame_expr::fault::Fail;
-use flame_lex::lexer::lex;
+use crate::files::parse;
+use flame_expr::Fail;
+use flame_lex::lex;
 use std::alloc::Global;
 use std::process::Abort;
 use std::test::Fail as Failed;

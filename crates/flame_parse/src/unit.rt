@@ -1,17 +1,17 @@
 //! The reader of function files. Each function begins with the production that it reads.
 
 ghost use Rattle.std.specs.Prelude.{◌≡◌, ◌+◌, ◌<◌, ◌≤◌, ◌^◌, [], ◌∷◌, length, drop, map, IfOk, IfErr, IfSome, IfNone};
-ghost use Rattle.flame_expr.specs.declared.lexeme.Lexeme.TheVariants.{Int, Void, Close};
-ghost use Rattle.flame_expr.specs.Steps.{form, many, maybe, lexeme, a_def};
-ghost use Rattle.flame_expr.specs.Reader.{Ended, StopsBy};
-ghost use Rattle.flame_parse.specs.Grammar.{Closing, Definition, Definitions};
-ghost use Rattle.flame_parse.specs.Units.{defined, joins_unit};
+ghost use Rattle.flame_expr.specs.declared.lexemes.Lexeme.TheVariants.{Int, Void, Close};
+ghost use Rattle.flame_expr.specs.ViablePrefixes.{form, many, maybe, lexeme, a_def};
+ghost use Rattle.flame_expr.specs.ReadParts.{Ended, StopsBy};
+ghost use Rattle.flame_parse.specs.StatementGrammar.{Closing, Definition, Definitions};
+ghost use Rattle.flame_parse.specs.Parsing.{defined, joins_unit};
 
 use crate::stmt::block;
-use flame_expr::cursor::{expect, lexeme_at, line_at, text_at};
-use flame_expr::fault::Fail;
-use flame_expr::lexeme::Lexeme;
-use flame_lex::token::Token;
+use flame_expr::{expect, lexeme_at, line_at, text_at};
+use flame_expr::Fail;
+use flame_expr::Lexeme;
+use flame_lex::Token;
 use flame_rows::Seq;
 use flame_spec::Def;
 use std::alloc::Global;

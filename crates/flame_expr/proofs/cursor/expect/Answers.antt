@@ -1,7 +1,7 @@
 use Rattle.std.proofs.Common.{◌≡◌, sym, ◌∙◌, rules}
 use Rattle.flame_expr.proofs.Places.{lexeme_ended, lexeme_stopped}
 use denote.Enum.Bare.{same_false}
-use Rattle.flame_expr.specs.contracts.lexeme.Lexeme as kind
+use Rattle.flame_expr.specs.contracts.lexemes.Lexeme as kind
 use Rattle.flame_expr.proofs.cursor.expect.Goals as goal
 
 pub returns-then-eq-clause-ended : goal.returns-then-eq-clause-ended

@@ -1,4 +1,4 @@
-use Rattle.flame_expr.proofs.Unique.{at_most_one}
+use Rattle.flame_expr.proofs.Uniqueness.{at_most_one}
 use Rattle.flame_expr.proofs.laws.one_expression.Goals as goal
 
 pub returns : goal.returns

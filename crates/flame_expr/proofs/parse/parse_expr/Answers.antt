@@ -1,6 +1,6 @@
 use Rattle.flame_spec.specs.Seen.{expression}
 use Rattle.flame_expr.proofs.Ends.{stops_by}
-use Rattle.flame_expr.proofs.Longest.{is_expression, is_no_expression}
+use Rattle.flame_expr.proofs.LongestPrefixes.{is_expression, is_no_expression}
 use Rattle.flame_expr.proofs.parse.parse_expr.Goals as goal
 
 pub returns-in_err-tree-clause-syntax : goal.returns-in_err-tree-clause-syntax

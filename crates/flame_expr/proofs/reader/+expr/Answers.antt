@@ -4,13 +4,13 @@ use Rattle.std.proofs.lemmas.Int.{to_z-of_z}
 use mir.Syntax.{w32}
 use mir.Val.{SFits}
 use Rattle.flame_spec.specs.Seen.{expression}
-use Rattle.flame_spec.proofs.SeenForms.{expression-Number}
-use Rattle.flame_expr.specs.declared.lexeme.Lexeme.TheVariants.{AndAnd, OrOr}
-use Rattle.flame_expr.specs.Levels.{op_of}
-use Rattle.flame_expr.specs.Grammar.{a_unary, a_chain, a_conjunction, a_disjunction, Conjuncts, Disjuncts, no_conjunct, no_disjunct, in_brackets, bracketed, Closed}
+use Rattle.flame_spec.proofs.SeenForms.{expression-Number, expression-Get}
+use Rattle.flame_expr.specs.declared.lexemes.Lexeme.TheVariants.{AndAnd, OrOr}
+use Rattle.flame_expr.specs.OperatorLevels.{op_of}
+use Rattle.flame_expr.specs.ExpressionGrammar.{a_unary, a_chain, a_conjunction, a_disjunction, Conjuncts, Disjuncts, no_conjunct, no_disjunct, no_index, in_brackets, bracketed, Closed}
 use Rattle.flame_expr.proofs.Ends.{stops_by}
-use Rattle.flame_expr.proofs.Readings.{at_next, number_read, closed_read, links_begin, links_step, links_read, links_ended, op_part_stopped, level_ended, level_stopped, level_first_stopped, parts_step, parts_read, parts_ended, and_joint, or_joint, joint_stopped, conjunct_on, disjunct_on, unlike}
-use Rattle.flame_expr.proofs.Primaries.{number_ended, none_stopped, brackets_ended, brackets_stopped, unary_ended, unary_stopped, closed_stopped, close_stopped, closed_ended}
+use Rattle.flame_expr.proofs.Readings.{at_next, number_read, name_read, field_read, get_read, index_read, closed_read, links_begin, links_step, links_read, links_ended, op_part_stopped, level_ended, level_stopped, level_first_stopped, parts_step, parts_read, parts_ended, and_joint, or_joint, joint_stopped, conjunct_on, disjunct_on, unlike}
+use Rattle.flame_expr.proofs.Primaries.{name_ended, name_stopped, field_ended, field_word_stopped, field_index_stopped, get_ended, get_stopped, no_index_ended, index_ended, index_stopped, index_end_stopped, number_ended, none_stopped, brackets_ended, brackets_stopped, unary_ended, unary_stopped, closed_stopped, close_stopped, closed_ended}
 use Rattle.flame_expr.proofs.reader.+expr.Goals as goal
 
 pub chain-returns-in_err-first-clause-stopped : goal.chain-returns-in_err-first-clause-stopped
@@ -129,3 +129,48 @@ primary-returns-in_ok-tree-in-Open-clause-ended t c = brackets_ended c.args.toke
 
 pub primary-returns-in_default : goal.primary-returns-in_default
 primary-returns-in_default t c = record { tree = tt; ended = tt; ahead = tt; stopped = rw c.syntax.ensures (none_stopped c.args.tokens.now c.args.at c.requires.within (unlike c.lexeme_at.ensures c.in_default.not-Number, (unlike c.lexeme_at.ensures c.in_default.not-Word, (unlike c.lexeme_at.ensures c.in_default.not-Open, tt)))) }
+
+pub word_form-returns-in_err-mid-in-Arrow-clause-stopped : goal.word_form-returns-in_err-mid-in-Arrow-clause-stopped
+word_form-returns-in_err-mid-in-Arrow-clause-stopped t c = stops_by _ _ c.from_residual-in_err-mid-in-Arrow.ensures.1 (λ n h. field_word_stopped c.args.tokens.now c.args.at n c.requires.word (sym c.in-Arrow.ensures) h) c.in_err-mid-in-Arrow.ensures.stopped
+
+pub word_form-returns-in_err-which-in-Arrow-clause-stopped : goal.word_form-returns-in_err-which-in-Arrow-clause-stopped
+word_form-returns-in_err-which-in-Arrow-clause-stopped t c = stops_by _ _ c.from_residual-in_err-which-in-Arrow.ensures.1 (λ n h. field_index_stopped c.args.tokens.now c.args.at c.in_ok-mid-in-Arrow.mid n c.requires.word (sym c.in-Arrow.ensures) c.in_ok-mid-in-Arrow.ensures.ended h) c.in_err-which-in-Arrow.ensures.stopped
+
+pub word_form-returns-in_ok-which-in-Arrow-clause-tree : goal.word_form-returns-in_ok-which-in-Arrow-clause-tree
+word_form-returns-in_ok-which-in-Arrow-clause-tree t c = rw (c.field_form.ensures, c.line_at-line.ensures, c.in_ok-word.ensures, c.in_ok-variable-in-Arrow.ensures) (field_read c.args.tokens.now c.args.at c.in_ok-mid-in-Arrow.mid _ _ c.requires.word (sym c.in-Arrow.ensures) c.in_ok-mid-in-Arrow.ensures.found c.in_ok-mid-in-Arrow.ensures.next c.in_ok-which-in-Arrow.ensures.tree)
+
+pub word_form-returns-in_ok-which-in-Arrow-clause-ended : goal.word_form-returns-in_ok-which-in-Arrow-clause-ended
+word_form-returns-in_ok-which-in-Arrow-clause-ended t c = field_ended c.args.tokens.now c.args.at c.in_ok-mid-in-Arrow.mid c.in_ok-which-in-Arrow.end c.requires.word (sym c.in-Arrow.ensures) c.in_ok-mid-in-Arrow.ensures.ended c.in_ok-which-in-Arrow.ensures.ended
+
+pub word_form-returns-in_err-end-in-Open-clause-stopped : goal.word_form-returns-in_err-end-in-Open-clause-stopped
+word_form-returns-in_err-end-in-Open-clause-stopped t c = stops_by _ _ c.from_residual-in_err-end-in-Open.ensures.1 (λ n h. get_stopped c.args.tokens.now c.args.at n c.requires.word (sym c.in-Open.ensures) h) c.in_err-end-in-Open.ensures.stopped
+
+pub word_form-returns-in_ok-end-in-Open-clause-tree : goal.word_form-returns-in_ok-end-in-Open-clause-tree
+word_form-returns-in_ok-end-in-Open-clause-tree t c = rw (expression-Get _ _, c.line_at-line.ensures, c.in_ok-word.ensures) (get_read c.args.tokens.now c.args.at c.in_ok-end-in-Open.end c.requires.word (sym c.in-Open.ensures) c.in_ok-end-in-Open.ensures.found c.in_ok-end-in-Open.ensures.next)
+
+pub word_form-returns-in_ok-end-in-Open-clause-ended : goal.word_form-returns-in_ok-end-in-Open-clause-ended
+word_form-returns-in_ok-end-in-Open-clause-ended t c = get_ended c.args.tokens.now c.args.at c.in_ok-end-in-Open.end c.requires.word (sym c.in-Open.ensures) c.in_ok-end-in-Open.ensures.ended
+
+pub word_form-returns-in_err-which-in_default-clause-stopped : goal.word_form-returns-in_err-which-in_default-clause-stopped
+word_form-returns-in_err-which-in_default-clause-stopped t c = stops_by _ _ c.from_residual-in_err-which-in_default.ensures.1 (λ n h. name_stopped c.args.tokens.now c.args.at n c.requires.word (unlike c.lexeme_at.ensures c.in_default.not-Arrow) (unlike c.lexeme_at.ensures c.in_default.not-Open) h) c.in_err-which-in_default.ensures.stopped
+
+pub word_form-returns-in_ok-which-in_default-clause-tree : goal.word_form-returns-in_ok-which-in_default-clause-tree
+word_form-returns-in_ok-which-in_default-clause-tree t c = rw (c.name_form.ensures, c.line_at-line.ensures, c.in_ok-word.ensures) (name_read c.args.tokens.now c.args.at _ _ c.requires.word c.in_ok-which-in_default.ensures.tree)
+
+pub word_form-returns-in_ok-which-in_default-clause-ended : goal.word_form-returns-in_ok-which-in_default-clause-ended
+word_form-returns-in_ok-which-in_default-clause-ended t c = name_ended c.args.tokens.now c.args.at c.in_ok-which-in_default.end c.requires.word (unlike c.lexeme_at.ensures c.in_default.not-Arrow) (unlike c.lexeme_at.ensures c.in_default.not-Open) c.in_ok-which-in_default.ensures.ended
+
+pub subscript-returns-in_err-which-clause-stopped : goal.subscript-returns-in_err-which-clause-stopped
+subscript-returns-in_err-which-clause-stopped t c = stops_by _ _ c.from_residual.ensures.1 (λ n h. index_stopped c.args.tokens.now c.args.at n (sym c.in-OpenBracket.ensures) h) c.in_err-which.ensures.stopped
+
+pub subscript-returns-in_err-end-clause-stopped : goal.subscript-returns-in_err-end-clause-stopped
+subscript-returns-in_err-end-clause-stopped t c = stops_by _ _ c.from_residual-in_err-end.ensures.1 (λ n h. index_end_stopped c.args.tokens.now c.args.at c.in_ok-which.close n (sym c.in-OpenBracket.ensures) c.in_ok-which.ensures.ended h) c.in_err-end.ensures.stopped
+
+pub subscript-returns-in_default : goal.subscript-returns-in_default
+subscript-returns-in_default t c = record { tree = no_index; ended = no_index_ended c.args.tokens.now c.args.at c.requires.within (unlike c.lexeme_at.ensures c.in_default.not-OpenBracket); stopped = tt }
+
+pub subscript-returns-clause-ended : goal.subscript-returns-clause-ended
+subscript-returns-clause-ended t c = index_ended c.args.tokens.now c.args.at c.in_ok-which.close c.in_ok-end.end (sym c.in-OpenBracket.ensures) c.in_ok-which.ensures.ended c.in_ok-end.ensures.ended
+
+pub subscript-returns-clause-tree : goal.subscript-returns-clause-tree
+subscript-returns-clause-tree t c = rw (c.line_at-line.ensures, c.in_ok-index.ensures) (index_read c.args.tokens.now c.args.at c.in_ok-which.close c.in_ok-end.end (expression c.in_ok-which.which) (sym c.in-OpenBracket.ensures) c.in_ok-which.ensures.tree c.in_ok-end.ensures.found c.in_ok-end.ensures.next)

@@ -1,37 +1,43 @@
 use Rattle.std.proofs.Common.{◌≡◌, ℕ, ◌+◌, ◌-◌, ◌*◌, ◌≤◌, length, drop}
-use Rattle.flame_expr.specs.Grammar.{Conjuncts, Disjuncts}
+use Rattle.flame_expr.specs.ExpressionGrammar.{Conjuncts, Disjuncts}
 use Rattle.flame_expr.proofs.Readings.{LinksOn, PartsOn}
 use Rattle.flame_expr.proofs.reader.+expr.Given as goal
 
 abbrev pub decreases-form_at : goal.decreases-form_at
-decreases-form_at l = (length l.tokens.now - l.at) * 16 + 2 * l.level + 2
+decreases-form_at l = (length l.tokens.now - l.at) * 32 + 2 * l.level + 3
 
 abbrev pub decreases-chain : goal.decreases-chain
-decreases-chain l = (length l.tokens.now - l.at) * 16 + 2 * l.level + 3
+decreases-chain l = (length l.tokens.now - l.at) * 32 + 2 * l.level + 4
 
 abbrev pub decreases-tail : goal.decreases-tail
-decreases-tail l = (length l.tokens.now - l.at) * 16 + 15
+decreases-tail l = (length l.tokens.now - l.at) * 32 + 20
 
 abbrev pub decreases-conjunction : goal.decreases-conjunction
-decreases-conjunction l = (length l.tokens.now - l.at) * 16 + 11
+decreases-conjunction l = (length l.tokens.now - l.at) * 32 + 12
 
 abbrev pub decreases-conjuncts : goal.decreases-conjuncts
-decreases-conjuncts l = (length l.tokens.now - l.at) * 16 + 15
+decreases-conjuncts l = (length l.tokens.now - l.at) * 32 + 20
 
 abbrev pub decreases-disjunction : goal.decreases-disjunction
-decreases-disjunction l = (length l.tokens.now - l.at) * 16 + 13
+decreases-disjunction l = (length l.tokens.now - l.at) * 32 + 14
 
 abbrev pub decreases-disjuncts : goal.decreases-disjuncts
-decreases-disjuncts l = (length l.tokens.now - l.at) * 16 + 15
+decreases-disjuncts l = (length l.tokens.now - l.at) * 32 + 20
 
 abbrev pub decreases-unary : goal.decreases-unary
-decreases-unary l = (length l.tokens.now - l.at) * 16 + 1
+decreases-unary l = (length l.tokens.now - l.at) * 32 + 2
 
 abbrev pub decreases-primary : goal.decreases-primary
-decreases-primary l = (length l.tokens.now - l.at) * 16
+decreases-primary l = (length l.tokens.now - l.at) * 32 + 1
+
+abbrev pub decreases-word_form : goal.decreases-word_form
+decreases-word_form l = (length l.tokens.now - l.at) * 32
+
+abbrev pub decreases-subscript : goal.decreases-subscript
+decreases-subscript l = (length l.tokens.now - l.at) * 32
 
 abbrev pub decreases-closed : goal.decreases-closed
-decreases-closed l = (length l.tokens.now - l.at) * 16 + 15
+decreases-closed l = (length l.tokens.now - l.at) * 32 + 20
 
 abbrev pub invariant-tail-loop-op : goal.invariant-tail-loop-op
 invariant-tail-loop-op l = LinksOn l.level l.tokens l.fn.at l.place l.found.items

@@ -9,7 +9,7 @@ use Rattle.flame_expr.proofs.reader.chained.Goals as goal
 pub returns : goal.returns
 returns c =
     let n : 0 < length c.args.more.items = grind (arith, nat_tests, c.args.more.ok.0, c.if-is_empty.ensures) in
-    expression-Chain c.in_ok-first.first c.of.result
-    ∙ ap (λ e. chain (expression e) (links c.of.result)) c.in_ok-first.ensures.ok
-    ∙ ap (λ ls. chain (expression c.args.first) (links ls)) c.of.ensures
+    expression-Chain c.in_ok-first.first c.of-links.result
+    ∙ ap (λ e. chain (expression e) (links c.of-links.result)) c.in_ok-first.ensures
+    ∙ ap (λ ls. chain (expression c.args.first) (links ls)) c.of-links.ensures
     ∙ chain-chained (expression c.args.first) c.args.more.items n

@@ -1,6 +1,6 @@
 use Rattle.std.proofs.Common.{sym, ap, refl, ◌∙◌, drop}
 use Rattle.flame_expr.specs.Lexemes.{first}
-use Rattle.flame_expr.specs.Levels.{sign_of}
+use Rattle.flame_expr.specs.OperatorLevels.{sign_of}
 use Rattle.flame_expr.proofs.LevelFacts.{sign_real}
 use Rattle.flame_expr.proofs.Places.{there}
 use Rattle.flame_expr.proofs.Readings.{signs_begin, signs_read, signs_ended, signs_step}

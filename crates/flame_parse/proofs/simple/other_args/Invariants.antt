@@ -1,7 +1,7 @@
 use Rattle.std.proofs.Common.{ℕ, ◌-◌, [], ◌∷◌, length, map}
 use Rattle.flame_spec.specs.Seen.{expression}
-use Rattle.flame_expr.specs.Steps.{more_args}
-use Rattle.flame_parse.specs.Operators.{joins_args}
+use Rattle.flame_expr.specs.ViablePrefixes.{more_args}
+use Rattle.flame_parse.specs.AssignmentOperators.{joins_args}
 use Rattle.flame_parse.proofs.Runs.{RunOn, ArgsRead}
 use Rattle.flame_parse.proofs.simple.other_args.Given as goal
 

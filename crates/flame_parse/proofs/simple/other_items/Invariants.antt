@@ -1,8 +1,8 @@
 use Rattle.std.proofs.Common.{ℕ, ◌-◌, [], ◌∷◌, length, map}
 use Rattle.flame_spec.specs.Seen.{declared}
-use Rattle.flame_expr.specs.Steps.{more_items}
-use Rattle.flame_parse.specs.Operators.{joins_items}
-use Rattle.flame_parse.specs.Grammar.{MoreItems}
+use Rattle.flame_expr.specs.ViablePrefixes.{more_items}
+use Rattle.flame_parse.specs.AssignmentOperators.{joins_items}
+use Rattle.flame_parse.specs.StatementGrammar.{MoreItems}
 use Rattle.flame_parse.proofs.Runs.{RunOn}
 use Rattle.flame_parse.proofs.simple.other_items.Given as goal
 

@@ -1,7 +1,7 @@
 use Rattle.std.proofs.Common.{ℕ, ◌+◌, ◌-◌, ◌*◌, [], ◌∷◌, length, map}
 use Rattle.flame_spec.specs.Seen.{statement}
-use Rattle.flame_expr.specs.Steps.{form, many, a_stmt}
-use Rattle.flame_parse.specs.Operators.{joins_stmts}
+use Rattle.flame_expr.specs.ViablePrefixes.{form, many, a_stmt}
+use Rattle.flame_parse.specs.AssignmentOperators.{joins_stmts}
 use Rattle.flame_parse.proofs.Runs.{RunOn, StmtsRead}
 use Rattle.flame_parse.proofs.Blocks.{ArmsOn}
 use Rattle.flame_parse.proofs.stmt.+stmts.Given as goal

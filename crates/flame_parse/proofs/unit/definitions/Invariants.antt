@@ -1,7 +1,7 @@
 use Rattle.std.proofs.Common.{ℕ, ◌-◌, [], ◌∷◌, length, map}
-use Rattle.flame_expr.specs.Steps.{form, many, a_def}
-use Rattle.flame_parse.specs.Grammar.{Definitions}
-use Rattle.flame_parse.specs.Units.{defined, joins_unit}
+use Rattle.flame_expr.specs.ViablePrefixes.{form, many, a_def}
+use Rattle.flame_parse.specs.StatementGrammar.{Definitions}
+use Rattle.flame_parse.specs.Parsing.{defined, joins_unit}
 use Rattle.flame_parse.proofs.Runs.{RunOn}
 use Rattle.flame_parse.proofs.unit.definitions.Given as goal
 

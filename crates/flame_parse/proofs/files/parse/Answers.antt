@@ -1,0 +1,14 @@
+use Rattle.std.proofs.Common.{◌≡◌, arith, sym, map}
+use Rattle.flame_expr.specs.declared.faults.Fail.TheVariants.{Fault, NoMemory}
+use Rattle.flame_parse.specs.Parsing.{defined, FailsBy}
+use Rattle.flame_parse.proofs.WholeFiles.{whole_unit, stopped_unit, ended_unit, fails_unit}
+use Rattle.flame_parse.proofs.files.parse.Goals as goal
+
+pub returns-in_err-found-clause-fault : goal.returns-in_err-found-clause-fault
+returns-in_err-found-clause-fault c = fails_unit c.args.tokens.now _ _ c.from_residual.ensures.1 c.in_default.ensures.flat c.in_err-found.ensures.stopped
+
+pub returns-then-end-tokens-clause-fault : goal.returns-then-end-tokens-clause-fault
+returns-then-end-tokens-clause-fault c = rw c.syntax.ensures (ended_unit c.args.tokens.now c.in_ok-found.end c.in_default.ensures.flat (omega (arith, c.if-end-tokens.true)) c.in_ok-found.ensures.ended)
+
+pub returns-clause-tree : goal.returns-clause-tree
+returns-clause-tree c = rw c.of-functions.ensures (whole_unit c.args.tokens.now c.in_ok-found.end (map defined c.in_ok-found.found.items) c.in_ok-found.ensures.tree (omega (arith, c.if-end-tokens.false)))
