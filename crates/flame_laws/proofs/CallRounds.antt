@@ -1,5 +1,6 @@
 -- Calls of helpers that come round, and how deep they go.
-use Rattle.std.proofs.Common.{◌≡◌, ℕ, zero, suc, ◌+◌, ◌<◌, ◌≤◌, true, List, [], ◌∷◌, ◌++◌, length, reverse, Option, Some, None, refl, ap, sym, ◌∙◌, subst, arith}
+use Rattle.std.proofs.Common.{◌≡◌, ℕ, zero, suc, ◌+◌, ◌<◌, ◌≤◌, true, List, [], ◌∷◌, ◌++◌, length, reverse, Option}
+use Rattle.std.proofs.Common.{Some, None, refl, ap, sym, ◌∙◌, subst, arith}
 use Rattle.std.specs.Prelude.{slice_get, nat_lt, not}
 use Rattle.std.proofs.lemmas.Bool.{ltb-false}
 use Rattle.std.proofs.lemmas.List.{reverse-append}
@@ -10,7 +11,8 @@ use Rattle.flame_spec.specs.declared.trees.Unit as file
 use Rattle.flame_spec.specs.Below.{is_in}
 use Rattle.flame_spec.specs.Definitions.{Definition, helpers}
 use Rattle.flame_spec.specs.ModelOrder.{order, first_left, step_back, walk_back, begun_with_least, from_there}
-use Rattle.flame_spec.specs.HelperFaults.{is_called_by, call_cycle, call_cycle_from, call_height, name_in, cycle_text, fault_at}
+use Rattle.flame_spec.specs.HelperFaults.{is_called_by, call_cycle, call_cycle_from, call_height, name_in, cycle_text}
+use Rattle.flame_spec.specs.HelperFaults.{fault_at}
 use Rattle.flame_spec.specs.HelperFaults.{recursive_at, first_deep, deep_at, deepest_calls}
 use Rattle.flame_spec.specs.CheckFaults.{check_faults}
 use Rattle.flame_spec.proofs.FirstBelow.{first_is_first, none_fails}
@@ -35,7 +37,8 @@ chain_turned before (x ∷ []) c = tt
 chain_turned before (x ∷ y ∷ xs) c =
     let P : List ℕ → Type 0 = IsChain (turned_round before) in
     let rest : P (reverse xs ++ y ∷ []) = subst P (reverse-append (y ∷ []) xs) (chain_turned before (y ∷ xs) c.1) in
-    let joined : P (reverse xs ++ y ∷ x ∷ []) = chain_join (turned_round before) (reverse xs) y (x ∷ []) rest (c.0, tt) in
+    let joined : P (reverse xs ++ y ∷ x ∷ []) =
+    chain_join (turned_round before) (reverse xs) y (x ∷ []) rest (c.0, tt) in
     subst P (sym (reverse-append (x ∷ y ∷ []) xs)) joined
 
 round_turned : (before : Relation) (xs : List ℕ) → IsRound before xs → IsRound (turned_round before) (reverse xs)
@@ -60,7 +63,8 @@ round_turned before xs r =
         let whole : reverse (x ∷ (front ++ r.last ∷ [])) ≡ reverse (front ++ r.last ∷ []) ++ x ∷ []
         = reverse-append (x ∷ []) (front ++ r.last ∷ []) in
         let first : reverse (front ++ r.last ∷ []) ≡ r.last ∷ reverse front = reverse-append front (r.last ∷ []) in
-        let chain : T (reverse (x ∷ (front ++ r.last ∷ []))) = chain_turned before (x ∷ (front ++ r.last ∷ [])) closes.1 in
+        let chain : T (reverse (x ∷ (front ++ r.last ∷ []))) =
+        chain_turned before (x ∷ (front ++ r.last ∷ [])) closes.1 in
         let begun : reverse (x ∷ (front ++ r.last ∷ [])) ≡ r.last ∷ (reverse front ++ x ∷ [])
         = whole ∙ ap (λ l. l ++ x ∷ []) first in
         let closed : T (x ∷ r.last ∷ (reverse front ++ x ∷ [])) = (closes.0, subst T begun chain) in
@@ -163,7 +167,8 @@ module _ (model : Model) (units : List file.Unit) (none : check_faults model uni
           (length (helpers model units)) h e in
           let clear : deep_at (helpers model units) (Some h) ≡ []
           = sym (ap (deep_at (helpers model units)) e) ∙ (none_of_all model units none).deep in
-          absurd (some_fault DeepCalls (name_in (slice_get (helpers model units) h)) (helpers model units) h found.below clear)
+          absurd (some_fault DeepCalls (name_in (slice_get (helpers model units) h))
+          (helpers model units) h found.below clear)
 
   pub low : (g : ℕ) → g < length (helpers model units) → call_height model (helpers model units) g ≤ 64
   low g below =

@@ -1,5 +1,6 @@
 -- What calls without faults are.
-use Rattle.std.proofs.Common.{◌≡◌, ℕ, ◌==◌, true, false, List, [], ◌++◌, codes, Contains, Option, Some, None, refl, ap, sym, ◌∙◌, subst, arith}
+use Rattle.std.proofs.Common.{◌≡◌, ℕ, ◌==◌, true, false, List, [], ◌++◌, codes, Contains, Option, Some, None, refl, ap}
+use Rattle.std.proofs.Common.{sym, ◌∙◌, subst, arith}
 use Rattle.std.specs.Str.{bytes_eq}
 use Rattle.std.proofs.lemmas.Bool.{not-false}
 use Rattle.flame_spec.specs.declared.models.Variable.{Variable}
@@ -13,9 +14,12 @@ use Rattle.flame_spec.specs.LookUps.{memory_got, memory_set, message_sent, agent
 use Rattle.flame_spec.specs.Trees.{Expressions}
 use Rattle.flame_spec.specs.Scopes.{Context, Sight, memory_at}
 use Rattle.flame_spec.specs.ExpressionFaults.{getter_faults, is_found_array, get_faults, fault_where}
-use Rattle.flame_spec.specs.CallFaults.{Deed, sets, sends, bears, calls, called_by, added_in, born_or_called, sent_or_else}
-use Rattle.flame_spec.specs.CallFaults.{set_or_else, deed_of, wanted, count, sets_array, is_no_output, sends_no_output, deed_faults}
-use Rattle.flame_laws.specs.CheckLaws.{IsGetter, IsHelperCall, IsCall, stores_value, sends_output, bears_agent, calls_helper}
+use Rattle.flame_spec.specs.CallFaults.{Deed, sets, sends, bears, calls, called_by, added_in, born_or_called}
+use Rattle.flame_spec.specs.CallFaults.{sent_or_else}
+use Rattle.flame_spec.specs.CallFaults.{set_or_else, deed_of, wanted, count, sets_array, is_no_output, sends_no_output}
+use Rattle.flame_spec.specs.CallFaults.{deed_faults}
+use Rattle.flame_laws.specs.CheckLaws.{IsGetter, IsHelperCall, IsCall, stores_value, sends_output, bears_agent}
+use Rattle.flame_laws.specs.CheckLaws.{calls_helper}
 use Rattle.flame_laws.proofs.Found.{left-none, right-none, list_any-found}
 use Rattle.flame_laws.proofs.NoFaults.{fault_where-none}
 use Rattle.flame_laws.proofs.CheckedBodies.{same-bytes_eq}
@@ -104,7 +108,8 @@ module _ (at : Context) (sight : Sight) (line : ℕ) (word : List ℕ) (argument
       → IsCall at word arguments
   sent found place e runs is =
       let (c, same)
-      = numbered-found (λ m. bytes_eq (codes "add_" ++ (m.name ++ codes "_message")) word) 0 at.model.messages found e in
+      = numbered-found
+      (λ m. bytes_eq (codes "add_" ++ (m.name ++ codes "_message")) word) 0 at.model.messages found e in
       let output : is_no_output (Some place) found.1 ≡ false
       = sym (ap (λ o. is_no_output o found.1) runs) ∙ is.output in
       sends_output place found.1 runs c (sym (same-bytes_eq _ word same)) is.counted

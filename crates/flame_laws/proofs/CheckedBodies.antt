@@ -13,14 +13,17 @@ use Rattle.flame_spec.specs.KnownNames.{is_among}
 use Rattle.flame_spec.specs.Functions.{Place, functions}
 use Rattle.flame_spec.specs.declared.faults.CheckFault.{CheckFault}
 use Rattle.flame_spec.specs.declared.trees.Parameter.{Parameter}
-use Rattle.flame_spec.specs.Definitions.{Definition, definitions, is_idle, is_for, is_transition, has_none, is_helper, helpers, body_of}
+use Rattle.flame_spec.specs.Definitions.{Definition, definitions, is_idle, is_for, is_transition, has_none, is_helper}
+use Rattle.flame_spec.specs.Definitions.{helpers, body_of}
 use Rattle.flame_spec.specs.Scopes.{Context, Sight, at_entry}
 use Rattle.flame_spec.specs.HelperFaults.{recursive_faults, deep_faults}
-use Rattle.flame_spec.specs.CheckFaults.{twice_where, twice_faults, is_run_by, with_parameters_where, with_parameters_faults, missing_where}
+use Rattle.flame_spec.specs.CheckFaults.{twice_where, twice_faults, is_run_by, with_parameters_where}
+use Rattle.flame_spec.specs.CheckFaults.{with_parameters_faults, missing_where}
 use Rattle.flame_spec.specs.CheckFaults.{missing_faults, definition_faults, body_faults, bodies_faults, check_faults}
-use Rattle.flame_laws.specs.Parts.{Part, defining, StandsIn}
+use Rattle.flame_laws.specs.BodyParts.{Part, defining, StandsIn}
 use Rattle.flame_laws.specs.CheckLaws.{IsBodyOf, IsChecked, for_function, for_helper}
-use Rattle.flame_laws.proofs.Found.{left-none, right-none, Contains-cases, Contains-head, Contains-later, flat_map-none, list_any-at}
+use Rattle.flame_laws.proofs.Found.{left-none, right-none, Contains-cases, Contains-head, Contains-later, flat_map-none}
+use Rattle.flame_laws.proofs.Found.{list_any-at}
 use Rattle.flame_laws.proofs.NoFaults.{part_faults, no_faults}
 
 -- ---- texts
@@ -117,7 +120,8 @@ pub is_run :
     → IsBodyOf model units place d
     → is_run_by d place ≡ true
 is_run model units place d is =
-    rw (bytes_eq-other place.function.name (codes "idle") is.has_body) (bytes_eq-same d.name place.function.name is.named)
+    rw (bytes_eq-other place.function.name (codes "idle") is.has_body)
+    (bytes_eq-same d.name place.function.name is.named)
 
 no-helper :
     (model : Model) (units : List file.Unit) (place : Place) (d : Definition)
@@ -199,7 +203,8 @@ with_parameters_where-none : (b : Bool) (d : Definition) → with_parameters_whe
 with_parameters_where-none true d none = cc
 with_parameters_where-none false d none = refl
 
-none-where : (parameters : List Parameter) (b : Bool) → b ≡ true → not (has_none parameters) && b ≡ false → parameters ≡ []
+none-where : (parameters : List Parameter) (b : Bool) → b ≡ true → not (has_none parameters) && b ≡ false
+    → parameters ≡ []
 none-where [] b e none = refl
 none-where (parameter ∷ parameters) b e none = cc
 
@@ -210,7 +215,8 @@ pub no-parameters :
     → d.parameters ≡ []
 no-parameters model units place d none is =
     let of_d : with_parameters_faults model d ≡ []
-    = flat_map-none (with_parameters_faults model) (definitions units) d is.defined (none_of_all model units none).having in
+    = flat_map-none (with_parameters_faults model) (definitions units) d is.defined
+    (none_of_all model units none).having in
     none-where d.parameters (list_any (is_run_by d) (functions model))
     (list_any-at (is_run_by d) (functions model) place is.listed (is_run model units place d is))
     (with_parameters_where-none _ d of_d)

@@ -2,7 +2,8 @@
 use Rattle.flame_spec.specs.Functions.{functions}
 use Rattle.flame_spec.specs.Choice.{may_take, choice, is_chosen}
 use Rattle.flame_spec.specs.ViewLaws.{ChoiceIsFirst, FirstIsChosen, NoChoiceWhereNone, TakersKeepCounts}
-use Rattle.flame_laws.proofs.FirstPlace.{position-first, position-passes, position-earlier, position-stands, position-None}
+use Rattle.flame_laws.proofs.FirstPlace.{position-first, position-passes, position-earlier, position-stands}
+use Rattle.flame_laws.proofs.FirstPlace.{position-None}
 use Rattle.flame_spec.proofs.Viewed.{count_of-filter}
 
 pub choice_is_first : ChoiceIsFirst
@@ -13,7 +14,8 @@ choice_is_first model agent state memory iteration function chosen =
       place = there.0;
       stands = there.1;
       holds = position-passes may (functions model) function there.0 chosen there.1;
-      earlier = λ number other less stands. position-earlier may (functions model) function number other chosen less stands;
+      earlier =
+          λ number other less stands. position-earlier may (functions model) function number other chosen less stands;
     }
 
 pub first_is_chosen : FirstIsChosen

@@ -1,5 +1,6 @@
 -- Different names, from lists that look back.
-use Rattle.std.proofs.Common.{◌≡◌, ℕ, zero, suc, ◌+◌, ◌<◌, List, [], ◌∷◌, ◌++◌, map, take, length, get_or, refl, sym, ap, subst, ◌∙◌, Bool, true, false, true≢false, arith, add-zero, zero-add, codes}
+use Rattle.std.proofs.Common.{◌≡◌, ℕ, zero, suc, ◌+◌, ◌<◌, List, [], ◌∷◌, ◌++◌, map, take, length, get_or, refl, sym}
+use Rattle.std.proofs.Common.{ap, subst, ◌∙◌, Bool, true, false, true≢false, arith, add-zero, zero-add, codes}
 use Rattle.std.specs.Prelude.{◌||◌, pos}
 use Rattle.std.specs.Str.{bytes_eq}
 use Rattle.std.proofs.lemmas.Slice.Eq.{bytes_eq-Decides}
@@ -17,8 +18,10 @@ use Rattle.flame_spec.specs.KnownNames.{is_among, unit_names, message_names, dec
 use Rattle.flame_spec.specs.Paths.{root, at_key, at_number}
 use Rattle.flame_spec.specs.Refusals.{fault_where}
 use Rattle.flame_spec.specs.UnitFaults.{unit_faults, units_faults, measure_faults}
-use Rattle.flame_spec.specs.MessageFaults.{apart_faults, constant_faults, message_faults, messages_faults, variables_faults}
-use Rattle.flame_spec.specs.NameFaults.{agent_faults, agents_faults, type_names, names_of_functions, environment_faults, name_faults}
+use Rattle.flame_spec.specs.MessageFaults.{apart_faults, constant_faults, message_faults, messages_faults}
+use Rattle.flame_spec.specs.MessageFaults.{variables_faults}
+use Rattle.flame_spec.specs.NameFaults.{agent_faults, agents_faults, type_names, names_of_functions, environment_faults}
+use Rattle.flame_spec.specs.NameFaults.{name_faults}
 use Rattle.flame_laws.specs.DistinctNames.{AreDistinct}
 use Rattle.flame_spec.proofs.Alike.{clashes-new}
 
@@ -117,7 +120,8 @@ pub record IsApart (names : List (List ℕ)) : Type 0 where
   pub plain : LooksBack names
   pub shouted : LooksBack (map capitals names)
 
-stands_apart : (earlier : List (List ℕ)) (path name : List ℕ) → apart_faults earlier path name ≡ [] → StandsApart name earlier
+stands_apart : (earlier : List (List ℕ)) (path name : List ℕ) → apart_faults earlier path name ≡ []
+    → StandsApart name earlier
 stands_apart earlier path name h = record {
   new =
       no_test
@@ -125,7 +129,8 @@ stands_apart earlier path name h = record {
       Duplicate
       path
       name
-      (nil_left (fault_where (is_among name earlier) Duplicate path name) (fault_where (clashes name earlier) Clash path name) h);
+      (nil_left (fault_where (is_among name earlier) Duplicate path name)
+      (fault_where (clashes name earlier) Clash path name) h);
   alone =
       no_test
       (clashes name earlier)
@@ -193,8 +198,10 @@ messages_apart path messages h =
     let name = get_or-map (λ one. one.name) m messages k refl in
     let earlier = take-map (λ one. one.name) k messages in
     record {
-      new = ap (λ n. is_among n (take k (message_names messages))) name ∙ ap (is_among message.name) earlier ∙ facts.new;
-      alone = ap (λ n. clashes n (take k (message_names messages))) name ∙ ap (clashes message.name) earlier ∙ facts.alone;
+      new = ap (λ n. is_among n (take k (message_names messages))) name ∙ ap (is_among message.name) earlier
+          ∙ facts.new;
+      alone = ap (λ n. clashes n (take k (message_names messages))) name ∙ ap (clashes message.name) earlier
+          ∙ facts.alone;
     })
 
 types_back : (path : List ℕ) (model : Model) (types : List AgentType)
@@ -236,7 +243,8 @@ types_back path model types h =
 units_back : (path : List ℕ) (units : List TimeUnit) → units_faults path units ≡ [] → LooksBack (unit_names units)
 units_back path units h = record { new = λ k inside. by k inside }
   where
-    by : (k : ℕ) → k < length (unit_names units) → is_among (get_or (unit_names units) k []) (take k (unit_names units)) ≡ false
+    by : (k : ℕ) → k < length (unit_names units)
+        → is_among (get_or (unit_names units) k []) (take k (unit_names units)) ≡ false
     by zero inside = refl
     by (suc k) inside =
         let u : TimeUnit = record { name = []; unit = []; period = pos 0 } in

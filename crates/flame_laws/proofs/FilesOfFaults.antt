@@ -20,23 +20,32 @@ use Rattle.flame_spec.specs.LookUps.{message_read, message_looped}
 use Rattle.flame_spec.specs.Trees.{Expression, number, name, field, get, field_at, signed, chain, all_of, any_of}
 use Rattle.flame_spec.specs.Trees.{at as element}
 use Rattle.flame_spec.specs.Trees.{Expressions, no_parts, part, Links, no_links, link, Stored, plain, called, Indexed}
-use Rattle.flame_spec.specs.Trees.{Declared, Assigned, Statement, empty, declare, assign, call, block, branch, while, for}
-use Rattle.flame_spec.specs.Trees.{do_while, loop_over, return, break, continue, Statements, no_more, also, Arms, no_arms, arm}
-use Rattle.flame_spec.specs.Scopes.{Context, Sight, at_entry, in_scope, in_loop, in_value_of, over_none, after_name, after}
+use Rattle.flame_spec.specs.Trees.{Declared, Assigned, Statement, empty, declare, assign, call, block, branch, while}
+use Rattle.flame_spec.specs.Trees.{for}
+use Rattle.flame_spec.specs.Trees.{do_while, loop_over, return, break, continue, Statements, no_more, also, Arms}
+use Rattle.flame_spec.specs.Trees.{no_arms, arm}
+use Rattle.flame_spec.specs.Scopes.{Context, Sight, at_entry, in_scope, in_loop, in_value_of, over_none, after_name}
+use Rattle.flame_spec.specs.Scopes.{after}
 use Rattle.flame_spec.specs.Scopes.{after_all, after_parameters, messages_at}
 use Rattle.flame_spec.specs.Definitions.{Definition, definition, definitions_of, definitions, is_idle, is_for}
 use Rattle.flame_spec.specs.Definitions.{is_helper, helpers, helper_named}
 use Rattle.flame_spec.specs.ExpressionFaults.{fault_where, row_faults_of, row_faults, field_at_faults}
 use Rattle.flame_spec.specs.ExpressionFaults.{expression_faults, parts_faults, links_faults, optional_faults}
-use Rattle.flame_spec.specs.CallFaults.{Deed, called_by, deed_of, places_of, whole_faults, argument_faults, arguments_faults}
+use Rattle.flame_spec.specs.CallFaults.{Deed, called_by, deed_of, places_of, whole_faults, argument_faults}
+use Rattle.flame_spec.specs.CallFaults.{arguments_faults}
 use Rattle.flame_spec.specs.CallFaults.{deed_faults}
-use Rattle.flame_spec.specs.StatementFaults.{stored_faults, subscript_faults, assignment_faults, optional_assignment_faults}
-use Rattle.flame_spec.specs.StatementFaults.{optional_stored_faults, item_faults, items_faults, parameters_faults, start_faults}
+use Rattle.flame_spec.specs.StatementFaults.{stored_faults, subscript_faults, assignment_faults}
+use Rattle.flame_spec.specs.StatementFaults.{optional_assignment_faults}
+use Rattle.flame_spec.specs.StatementFaults.{optional_stored_faults, item_faults, items_faults, parameters_faults}
+use Rattle.flame_spec.specs.StatementFaults.{start_faults}
 use Rattle.flame_spec.specs.StatementFaults.{opened, statement_faults, statements_faults, arms_faults}
-use Rattle.flame_spec.specs.HelperFaults.{helper_context, fault_at, recursive_at, recursive_faults, deep_at, deep_faults}
+use Rattle.flame_spec.specs.HelperFaults.{helper_context, fault_at, recursive_at, recursive_faults, deep_at}
+use Rattle.flame_spec.specs.HelperFaults.{deep_faults}
 use Rattle.flame_spec.specs.HelperFaults.{name_in, cycle_text, call_cycle, is_called_by, first_deep}
-use Rattle.flame_spec.specs.CheckFaults.{twice_where, twice_faults, is_run_by, with_parameters_where, with_parameters_faults}
-use Rattle.flame_spec.specs.CheckFaults.{missing_where, missing_faults, context, definition_faults, body_faults, bodies_faults}
+use Rattle.flame_spec.specs.CheckFaults.{twice_where, twice_faults, is_run_by, with_parameters_where}
+use Rattle.flame_spec.specs.CheckFaults.{with_parameters_faults}
+use Rattle.flame_spec.specs.CheckFaults.{missing_where, missing_faults, context, definition_faults, body_faults}
+use Rattle.flame_spec.specs.CheckFaults.{bodies_faults}
 use Rattle.flame_spec.specs.CheckFaults.{check_faults}
 use Rattle.flame_laws.proofs.Found.{Contains-cases}
 
@@ -113,13 +122,15 @@ module _ (at : Context) where
     expression-here sight (number n) = none
     expression-here sight (name line word) = both _ _ (where-here _ _ line word) (where-here _ _ line word)
     expression-here sight (field line word variable) =
-        both (row_faults at sight line word variable) _ (rows-here sight line word variable) (where-here _ _ line variable)
+        both (row_faults at sight line word variable) _ (rows-here sight line word variable)
+        (where-here _ _ line variable)
     expression-here sight (get line word) = both _ _ (where-here _ _ line word) (where-here _ _ line word)
     expression-here sight (element line word index_line index) =
         both _ _ (both _ _ (where-here _ _ line word) (where-here _ _ line word)) (expression-here sight index)
     expression-here sight (field_at line word variable index_line index) =
         both (field_at_faults at sight line word variable) _
-        (both (row_faults at sight line word variable) _ (rows-here sight line word variable) (where-here _ _ line variable))
+        (both (row_faults at sight line word variable) _ (rows-here sight line word variable)
+        (where-here _ _ line variable))
         (expression-here sight index)
     expression-here sight (signed signs e) = expression-here sight e
     expression-here sight (chain e more) = both _ _ (expression-here sight e) (links-here sight more)
@@ -383,7 +394,8 @@ faults-placed model units =
     (all-flat_map (Within n) P (with_parameters_faults model) ds
     (λ d below. with_parameters-placed n _ d below) within))
     (all-flat_map (λ place. Unit {0}) P (missing_faults ds) (functions model)
-    (λ place u. missing-placed n (not (is_idle place.function) && not (list_any (is_for place.function) ds)) place.function)
+    (λ place u. missing-placed n
+    (not (is_idle place.function) && not (list_any (is_for place.function) ds)) place.function)
     (all-true (λ place. Unit {0}) (functions model) (λ place. tt))))
     (recursive-placed n hs (call_cycle (length hs) (is_called_by model hs)) helping))
     (deep-placed n hs (first_deep model hs) helping))

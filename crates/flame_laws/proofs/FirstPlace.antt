@@ -1,5 +1,6 @@
 -- The first place of a list at which a test passes.
-use Rattle.std.proofs.Common.{◌≡◌, ℕ, zero, suc, ◌+◌, ◌<◌, ◌≤◌, Bool, true, false, cond, List, [], ◌∷◌, length, get_or, Some, None, refl, sym, ap, ◌∙◌, arith}
+use Rattle.std.proofs.Common.{◌≡◌, ℕ, zero, suc, ◌+◌, ◌<◌, ◌≤◌, Bool, true, false, cond, List, [], ◌∷◌, length, get_or}
+use Rattle.std.proofs.Common.{Some, None, refl, sym, ap, ◌∙◌, arith}
 use Rattle.std.specs.Prelude.{nat_lt, slice_get, not, position}
 use Rattle.std.specs.List.{position_or_len}
 use Rattle.std.proofs.lemmas.Bool.{lt-ltb, ltb-false}
@@ -28,7 +29,8 @@ module _ {X : Type 0} (p : X → Bool) where
       sym (ap p (get_or_from_slice_get xs i x x stands)) ∙ (position-Some p xs i x found).1
 
   -- and none before it does
-  pub position-earlier : (xs : List X) (i k : ℕ) (x : X) → position p xs ≡ Some i → k < i → slice_get xs k ≡ Some x → p x ≡ false
+  pub position-earlier : (xs : List X) (i k : ℕ) (x : X) → position p xs ≡ Some i → k < i → slice_get xs k ≡ Some x
+      → p x ≡ false
   position-earlier xs i k x found less stands =
       sym (ap p (get_or_from_slice_get xs k x x stands)) ∙ (position-Some p xs i x found).2 k less
 
@@ -59,7 +61,8 @@ module _ {X : Type 0} (p : X → Bool) where
   pub position-None : (xs : List X) (k : ℕ) (x : X) → position p xs ≡ None → slice_get xs k ≡ Some x → p x ≡ false
   position-None xs k x none stands =
       let within : k < length xs = slice_get_within xs k x stands in
-      elim (nat_lt (position_or_len p xs) (length xs)) as (λ t. nat_lt (position_or_len p xs) (length xs) ≡ t → cond t (Some (position_or_len p xs)) None ≡ None → p x ≡ false) [
+      elim (nat_lt (position_or_len p xs) (length xs)) as (λ t. nat_lt (position_or_len p xs) (length xs) ≡ t
+      → cond t (Some (position_or_len p xs)) None ≡ None → p x ≡ false) [
         | true ↦ λ e f. cc
         | false ↦ λ e f.
             let beyond : length xs ≤ position_or_len p xs = ltb-false _ _ e in

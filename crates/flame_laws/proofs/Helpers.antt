@@ -1,5 +1,6 @@
 -- What helpers do not do.
-use Rattle.std.proofs.Common.{◌≡◌, ℕ, true, false, List, [], Contains, Option, Some, None, IsTrue, ◌⊎◌, inl, inr, refl, ap, sym, ◌∙◌, subst, arith}
+use Rattle.std.proofs.Common.{◌≡◌, ℕ, true, false, List, [], Contains, Option, Some, None, IsTrue, ◌⊎◌, inl, inr, refl}
+use Rattle.std.proofs.Common.{ap, sym, ◌∙◌, subst, arith}
 use Rattle.flame_spec.specs.declared.models.Variable.{Variable}
 use Rattle.flame_spec.specs.declared.models.MessageType.{MessageType}
 use Rattle.flame_spec.specs.Functions.{Place}
@@ -8,7 +9,8 @@ use Rattle.flame_spec.specs.Trees.{Expressions, Indexed, Assigned}
 use Rattle.flame_spec.specs.Scopes.{Context, Sight, memory_in, memory_at, messages_in, messages_at, given_at, is_local}
 use Rattle.flame_spec.specs.ExpressionFaults.{gives_array, names_array}
 use Rattle.flame_laws.specs.CheckLaws.{Means, names_local, names_memory, names_constant, names_iteration, IsMemory}
-use Rattle.flame_laws.specs.CheckLaws.{IsAssignable, IsHelperCall, IsCall, stores_value, sends_output, bears_agent, calls_helper}
+use Rattle.flame_laws.specs.CheckLaws.{IsAssignable, IsHelperCall, IsCall, stores_value, sends_output, bears_agent}
+use Rattle.flame_laws.specs.CheckLaws.{calls_helper}
 use Rattle.flame_laws.specs.HelperLaws.{MeansAside, aside_local, aside_constant, aside_iteration}
 use Rattle.flame_laws.proofs.LookedUp.{Gives, of_memory, of_constant, of_iteration, gives}
 
@@ -70,7 +72,8 @@ module _ (at : Context) (alone : at.runs ≡ None) where
       by_subscript None e = refl
       by_subscript (Some subscript) e = absurd (no_array a.name (arrays subscript e))
 
-  pub only_helpers : (word : List ℕ) (arguments : Expressions) → IsCall at word arguments → IsHelperCall at word arguments
+  pub only_helpers : (word : List ℕ) (arguments : Expressions) → IsCall at word arguments
+      → IsHelperCall at word arguments
   only_helpers word arguments (stores_value variable c same single counted) = absurd (no_memory variable c)
   only_helpers word arguments (sends_output place message runs c same counted output) = absurd (no_place place runs)
   only_helpers word arguments (bears_agent place type runs c same counted) = absurd (no_place place runs)

@@ -1,12 +1,14 @@
 -- What look-ups find.
-use Rattle.std.proofs.Common.{◌≡◌, ℕ, ◌+◌, Bool, true, false, cond, List, [], ◌∷◌, codes, Contains, Option, Some, None, refl, ap, sym, ◌∙◌, subst}
+use Rattle.std.proofs.Common.{◌≡◌, ℕ, ◌+◌, Bool, true, false, cond, List, [], ◌∷◌, codes, Contains, Option, Some, None}
+use Rattle.std.proofs.Common.{refl, ap, sym, ◌∙◌, subst}
 use Rattle.std.specs.Prelude.{is_some}
 use Rattle.std.specs.Str.{bytes_eq}
 use Rattle.flame_spec.specs.declared.models.Variable.{Variable}
 use Rattle.flame_ops.specs.Ascii.{capitals}
 use Rattle.flame_spec.specs.Lists.{numbered_from}
 use Rattle.flame_spec.specs.Columns.{width_of, columned_from}
-use Rattle.flame_spec.specs.LookUps.{Given, in_memory, constant, iteration, is_iteration, memory_named, constant_named, given_by}
+use Rattle.flame_spec.specs.LookUps.{Given, in_memory, constant, iteration, is_iteration, memory_named, constant_named}
+use Rattle.flame_spec.specs.LookUps.{given_by}
 use Rattle.flame_spec.specs.LookUps.{given_beside}
 use Rattle.flame_spec.specs.Scopes.{Context, memory_at, given_at}
 use Rattle.flame_laws.proofs.Found.{Contains-head, Contains-later}

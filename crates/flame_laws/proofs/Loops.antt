@@ -1,5 +1,6 @@
 -- What loops and fields without faults are; the loops that are open stay open inside.
-use Rattle.std.proofs.Common.{◌≡◌, ◌≢◌, ℕ, true, false, not, List, [], ◌∷◌, ◌++◌, codes, Contains, Option, Some, None, refl, ap, sym, ◌∙◌, subst, arith}
+use Rattle.std.proofs.Common.{◌≡◌, ◌≢◌, ℕ, true, false, not, List, [], ◌∷◌, ◌++◌, codes, Contains, Option, Some, None}
+use Rattle.std.proofs.Common.{refl, ap, sym, ◌∙◌, subst, arith}
 use Rattle.std.specs.Prelude.{is_some, ◌==◌}
 use Rattle.std.specs.Str.{bytes_eq}
 use Rattle.std.proofs.lemmas.Bool.{not-false}
@@ -20,14 +21,20 @@ use Rattle.flame_spec.specs.Scopes.{after_name, after_items, after, after_all, i
 use Rattle.flame_spec.specs.ExpressionFaults.{is_found_array, member_faults, row_faults_of, row_faults, member_of}
 use Rattle.flame_spec.specs.ExpressionFaults.{member_read, field_faults, field_at_faults}
 use Rattle.flame_spec.specs.CallFaults.{length_found, length_of_argument, is_length, whole_faults, argument_faults}
-use Rattle.flame_spec.specs.StatementFaults.{is_input, opened, start_faults, finish_faults, statement_faults, statements_faults}
-use Rattle.flame_laws.specs.Parts.{Part, doing, sequence, StandsIn, itself, element_index, field_index, under_signs}
-use Rattle.flame_laws.specs.Parts.{chain_begin, chain_more, all_part, any_part, first_value, later_value, first_operand}
-use Rattle.flame_laws.specs.Parts.{later_operand, single_argument, array_argument, later_argument, plain_argument, plain_value}
-use Rattle.flame_laws.specs.Parts.{called_argument, assigned_index, assigned_value, item_value, later_item, declaration}
-use Rattle.flame_laws.specs.Parts.{assignment, call_argument, block_body, branch_arm, branch_otherwise, while_test, while_body}
-use Rattle.flame_laws.specs.Parts.{for_first, for_test, for_step, for_body, do_body, do_test, loop_body, returned}
-use Rattle.flame_laws.specs.Parts.{first_statement, later_statement, arm_test, arm_body, later_arm, later_parameter, function_body}
+use Rattle.flame_spec.specs.StatementFaults.{is_input, opened, start_faults, finish_faults, statement_faults}
+use Rattle.flame_spec.specs.StatementFaults.{statements_faults}
+use Rattle.flame_laws.specs.BodyParts.{Part, doing, sequence, StandsIn, itself, element_index, field_index, under_signs}
+use Rattle.flame_laws.specs.BodyParts.{chain_begin, chain_more, all_part, any_part, first_value, later_value}
+use Rattle.flame_laws.specs.BodyParts.{first_operand}
+use Rattle.flame_laws.specs.BodyParts.{later_operand, single_argument, array_argument, later_argument, plain_argument}
+use Rattle.flame_laws.specs.BodyParts.{plain_value}
+use Rattle.flame_laws.specs.BodyParts.{called_argument, assigned_index, assigned_value, item_value, later_item}
+use Rattle.flame_laws.specs.BodyParts.{declaration}
+use Rattle.flame_laws.specs.BodyParts.{assignment, call_argument, block_body, branch_arm, branch_otherwise, while_test}
+use Rattle.flame_laws.specs.BodyParts.{while_body}
+use Rattle.flame_laws.specs.BodyParts.{for_first, for_test, for_step, for_body, do_body, do_test, loop_body, returned}
+use Rattle.flame_laws.specs.BodyParts.{first_statement, later_statement, arm_test, arm_body, later_arm, later_parameter}
+use Rattle.flame_laws.specs.BodyParts.{function_body}
 use Rattle.flame_laws.specs.CheckLaws.{IsLoop, IsField, IsArray, of_memory, of_row}
 use Rattle.flame_laws.proofs.Found.{left-none, right-none, Contains-head, Contains-later}
 use Rattle.flame_laws.proofs.NoFaults.{fault_where-none, no_faults}

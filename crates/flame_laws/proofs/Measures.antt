@@ -1,5 +1,7 @@
 -- Lengths of time units in models without name faults.
-use Rattle.std.proofs.Common.{◌≡◌, ℕ, zero, suc, ◌*◌, ◌<◌, ◌≤◌, ℤ, pos, negsuc, ◌*ℤ◌, List, [], ◌∷◌, ◌++◌, map, take, length, get_or, cond, refl, sym, ap, subst, ◌∙◌, Bool, true, false, true≢false, arith, codes, Option, Some, None, option_map}
+use Rattle.std.proofs.Common.{◌≡◌, ℕ, zero, suc, ◌*◌, ◌<◌, ◌≤◌, ℤ, pos, negsuc, ◌*ℤ◌, List, [], ◌∷◌, ◌++◌, map, take}
+use Rattle.std.proofs.Common.{length, get_or, cond, refl, sym, ap, subst, ◌∙◌, Bool, true, false, true≢false, arith}
+use Rattle.std.proofs.Common.{codes, Option, Some, None, option_map}
 use Rattle.std.specs.Prelude.{◌||◌, ◌&&◌, nat_le, nat_lt, IsSomeAnd}
 use Rattle.std.specs.List.{list_all}
 use Rattle.std.specs.Option.{option_map_or}
@@ -97,8 +99,10 @@ known_push units unit known positive there short = record {
       sym (is_among-append name (unit_names units) (unit.name ∷ []))
       ∙ ap (λ l. is_among name (codes "iteration" ∷ l)) (sym (map_push (λ u. u.name) units unit))
       ∙ h in
-      let step : (b : Bool) → bytes_eq name unit.name ≡ b → Positive (cond b (length_after units unit) (unit_length units name)) =
-      λ b. elim b as (λ v. bytes_eq name unit.name ≡ v → Positive (cond v (length_after units unit) (unit_length units name))) [
+      let step : (b : Bool) → bytes_eq name unit.name ≡ b
+      → Positive (cond b (length_after units unit) (unit_length units name)) =
+      λ b. elim b as (λ v. bytes_eq name unit.name ≡ v
+      → Positive (cond v (length_after units unit) (unit_length units name))) [
         | true ↦ λ e. after_positive unit (unit_length units unit.unit) positive (known.lengths unit.unit there) short
         | false ↦ λ e. known.lengths name (or_left_of
             (is_among name (unit_names units))
@@ -118,13 +122,15 @@ all_of (u ∷ units) (suc k) d h inside =
 
 pub measured : (earlier : List TimeUnit) (path : List ℕ) (unit : TimeUnit)
     → measure_faults earlier path unit ≡ []
-    → (is_among unit.unit (unit_names earlier) ≡ true) × (option_map_or is_long (length_after earlier unit) false ≡ false)
+    → (is_among unit.unit (unit_names earlier) ≡ true)
+    × (option_map_or is_long (length_after earlier unit) false ≡ false)
 measured earlier path unit h = by (is_among unit.unit (unit_names earlier)) refl h
   where
     by : (b : Bool) → is_among unit.unit (unit_names earlier) ≡ b
         → cond
         b
-        (fault_where (option_map_or is_long (length_after earlier unit) false) LongUnit (at_key path (codes "period")) unit.name)
+        (fault_where (option_map_or is_long (length_after earlier unit) false) LongUnit
+        (at_key path (codes "period")) unit.name)
         (fault_where true UnknownUnit (at_key path (codes "unit")) unit.unit)
         ≡ []
         → (is_among unit.unit (unit_names earlier) ≡ true)

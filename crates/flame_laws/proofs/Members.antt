@@ -1,5 +1,7 @@
 -- Variables, functions, inputs and outputs differ where names have no fault.
-use Rattle.std.proofs.Common.{◌≡◌, ℕ, zero, suc, ◌<◌, Bool, true, false, true≢false, not, ◌&&◌, ◌||◌, List, [], ◌∷◌, map, take, length, get_or, codes, Contains, Some, None, ◌⊎◌, inl, inr, refl, ap, sym, ◌∙◌, subst, arith}
+use Rattle.std.proofs.Common.{◌≡◌, ℕ, zero, suc, ◌<◌, Bool, true, false, true≢false, not, ◌&&◌, ◌||◌, List, [], ◌∷◌}
+use Rattle.std.proofs.Common.{map, take, length, get_or, codes, Contains, Some, None, ◌⊎◌, inl, inr, refl, ap, sym, ◌∙◌}
+use Rattle.std.proofs.Common.{subst, arith}
 use Rattle.std.specs.Prelude.{slice_get}
 use Rattle.std.specs.List.{list_any}
 use Rattle.std.specs.Str.{bytes_eq}
@@ -18,7 +20,8 @@ use Rattle.flame_spec.specs.KnownNames.{is_among, variable_names, message_names,
 use Rattle.flame_spec.specs.Paths.{at_key, at_number}
 use Rattle.flame_spec.specs.Refusals.{fault_where}
 use Rattle.flame_spec.specs.MessageFaults.{apart_faults, variable_faults, variables_faults}
-use Rattle.flame_spec.specs.FunctionFaults.{use_faults, input_faults, read_names, inputs_faults, outputs_faults, is_same}
+use Rattle.flame_spec.specs.FunctionFaults.{use_faults, input_faults, read_names, inputs_faults, outputs_faults}
+use Rattle.flame_spec.specs.FunctionFaults.{is_same}
 use Rattle.flame_spec.specs.FunctionFaults.{title_faults, function_faults}
 use Rattle.flame_spec.specs.NameFaults.{memory_name_faults, memory_faults, function_names}
 use Rattle.flame_spec.specs.NameFaults.{names_of_functions, name_faults}
@@ -28,7 +31,8 @@ use Rattle.flame_laws.proofs.Found.{left-none, right-none, Contains-cases}
 use Rattle.flame_laws.proofs.CheckedBodies.{bytes_eq-same, same-bytes_eq}
 use Rattle.flame_laws.proofs.NameKnowledge.{each_none as each_at, test_fails}
 use Rattle.flame_laws.proofs.UsedKnown.{xmodel, parts_none, agent_none, function_none}
-use Rattle.flame_laws.proofs.Distinct.{each_none, LooksBack, distinct, get_or-map, length-map, looks_back, StandsApart, IsApart}
+use Rattle.flame_laws.proofs.Distinct.{each_none, LooksBack, distinct, get_or-map, length-map, looks_back, StandsApart}
+use Rattle.flame_laws.proofs.Distinct.{IsApart}
 use Rattle.flame_laws.proofs.Distinct.{is_apart, is_among-append}
 
 -- ---- variables
@@ -58,7 +62,8 @@ is_free constants earlier path name none =
     = test_fails _ Clash path name (right-none (fault_where (is_among name earlier) Duplicate path name) _ none) in
     record {
       apart = record {
-        new = test_fails _ Duplicate path name (left-none (fault_where (is_among name earlier) Duplicate path name) _ none);
+        new = test_fails _ Duplicate path name
+            (left-none (fault_where (is_among name earlier) Duplicate path name) _ none);
         alone = or_left_none _ _ clash;
       };
       free = or_right_none (clashes name earlier) _ clash;
@@ -248,7 +253,8 @@ inputs_back declared memory path inputs none =
     (λ k inside.
     test_fails _ Duplicate _ _
     (right-none _ _
-    (left-none (use_faults declared (read_names (take k inputs)) (at_number path k) (get_or inputs k no_input).message) _
+    (left-none
+    (use_faults declared (read_names (take k inputs)) (at_number path k) (get_or inputs k no_input).message) _
     (each_none
     (λ i input. input_faults declared memory (read_names (take i inputs)) (at_number path i) input)
     inputs no_input none k inside))))
@@ -261,7 +267,8 @@ outputs_back declared path outputs none = record {
   new = λ k inside.
       test_fails _ Duplicate _ _
       (right-none _ _
-      (each_none (λ i message. use_faults declared (take i outputs) (at_number path i) message) outputs [] none k inside));
+      (each_none
+      (λ i message. use_faults declared (take i outputs) (at_number path i) message) outputs [] none k inside));
 }
 
 module _ (model : Model) (none : name_faults model ≡ []) where
@@ -283,7 +290,8 @@ module _ (model : Model) (none : name_faults model ≡ []) where
       → AreDistinct (read_names function.inputs)
   inputs_distinct i j type function at_type at_function =
       distinct (read_names function.inputs)
-      (inputs_back (declared_by model) (variable_names type.memory) (at_key (place i j) (codes "inputs")) function.inputs
+      (inputs_back (declared_by model) (variable_names type.memory)
+      (at_key (place i j) (codes "inputs")) function.inputs
       (function_none (declared_by model) (variable_names type.memory) (taken_before model i) (take j type.functions)
       (place i j) function
       (of_function i j type function at_type at_function)).inputs)

@@ -1,9 +1,12 @@
 -- Where nothing is found wrong with the names of a condition, they are declared.
-use Rattle.std.proofs.Common.{◌≡◌, ℕ, zero, suc, ◌+◌, Bool, true, false, List, [], ◌∷◌, ◌++◌, Some, refl, ap, sym, ◌∙◌, arith, rules, not}
+use Rattle.std.proofs.Common.{◌≡◌, ℕ, zero, suc, ◌+◌, Bool, true, false, List, [], ◌∷◌, ◌++◌, Some, refl, ap, sym, ◌∙◌}
+use Rattle.std.proofs.Common.{arith, rules, not}
 use Rattle.std.specs.Prelude.{ℤ, slice_get, codes, ◌&&◌}
 use Rattle.flame_ops.specs.declared.integers.Op.{Op}
-use Rattle.flame_spec.specs.declared.conditions.Condition.{Condition, Compare, And, Or, Not, Time, And', Or', Not', more_of-Condition, end_of-Condition, the_lemmas}
-use Rattle.flame_spec.specs.declared.conditions.Condition.TheBlock.{shape-the_row-Condition-0, hidden-the_row-Condition-0}
+use Rattle.flame_spec.specs.declared.conditions.Condition.{Condition, Compare, And, Or, Not, Time, And', Or', Not'}
+use Rattle.flame_spec.specs.declared.conditions.Condition.{more_of-Condition, end_of-Condition, the_lemmas}
+use Rattle.flame_spec.specs.declared.conditions.Condition.TheBlock.{shape-the_row-Condition-0}
+use Rattle.flame_spec.specs.declared.conditions.Condition.TheBlock.{hidden-the_row-Condition-0}
 use denote.Hole.Carrier.{hidden}
 use Rattle.flame_spec.specs.declared.conditions.Operand.{Operand}
 use Rattle.flame_spec.specs.declared.conditions.Operand.TheVariants.{Number, Agent, Message}
@@ -31,7 +34,8 @@ each_none f i (y ∷ ys) zero x n none at e =
 each_none f i (y ∷ ys) (suc k) x n none at e =
     each_none f (i + 1) ys k x n (right-none (f i y) (each_from f (i + 1) ys) none) at (omega arith)
 
-pub test_fails : (test : Bool) (kind : NameKind) (path name : List ℕ) → fault_where test kind path name ≡ [] → test ≡ false
+pub test_fails : (test : Bool) (kind : NameKind) (path name : List ℕ) → fault_where test kind path name ≡ []
+    → test ≡ false
 test_fails true kind path name none = cc
 test_fails false kind path name none = refl
 
@@ -109,11 +113,13 @@ condition_known scope (Compare op a b) path none =
     let parts = sym (leaf-Compare scope op a b path) ∙ none in
     knows-Compare scope op a b
     ∙ both _ _ (operand_known scope _ a (left-none _ _ parts)) (operand_known scope _ b (right-none _ _ parts))
-condition_known scope (And' _ (more_of-Condition a end_of-Condition) _ (more_of-Condition b end_of-Condition)) path none =
+condition_known scope
+    (And' _ (more_of-Condition a end_of-Condition) _ (more_of-Condition b end_of-Condition)) path none =
     let parts = sym (leaf-And scope a b path) ∙ none in
     knows-And scope a b
     ∙ both _ _ (condition_known scope a _ (left-none _ _ parts)) (condition_known scope b _ (right-none _ _ parts))
-condition_known scope (Or' _ (more_of-Condition a end_of-Condition) _ (more_of-Condition b end_of-Condition)) path none =
+condition_known scope
+    (Or' _ (more_of-Condition a end_of-Condition) _ (more_of-Condition b end_of-Condition)) path none =
     let parts = sym (leaf-Or scope a b path) ∙ none in
     knows-Or scope a b
     ∙ both _ _ (condition_known scope a _ (left-none _ _ parts)) (condition_known scope b _ (right-none _ _ parts))
@@ -122,4 +128,5 @@ condition_known scope (Not' _ (more_of-Condition a end_of-Condition)) path none 
 condition_known scope (Time unit phase duration) path none =
     let parts = sym (leaf-Time scope unit phase duration path) ∙ none in
     knows-Time scope unit phase duration
-    ∙ both _ _ (not_false _ (test_fails _ _ _ _ (left-none _ _ parts))) (operand_known scope _ phase (right-none _ _ parts))
+    ∙ both _ _ (not_false _ (test_fails _ _ _ _ (left-none _ _ parts)))
+    (operand_known scope _ phase (right-none _ _ parts))

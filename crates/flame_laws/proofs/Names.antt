@@ -2,14 +2,15 @@
 use Rattle.std.proofs.Common.{◌≡◌, ℕ, List, [], ◌∷◌, Option, Some, None, IsTrue, IsFalse}
 use Rattle.std.proofs.lemmas.Bool.{not-false}
 use Rattle.flame_spec.specs.declared.trees.Parameter.{Parameter}
-use Rattle.flame_spec.specs.declared.faults.CheckKind.TheVariants.{UnknownName, NeedsIndex, NotArray, ReadOnly, Redeclared}
+use Rattle.flame_spec.specs.declared.faults.CheckKind.TheVariants.{UnknownName, NeedsIndex, NotArray, ReadOnly}
+use Rattle.flame_spec.specs.declared.faults.CheckKind.TheVariants.{Redeclared}
 use Rattle.flame_spec.specs.Trees.{Expression, name, Indexed, Declared, Assigned, Statements}
 use Rattle.flame_spec.specs.Trees.{at as element}
 use Rattle.flame_spec.specs.Scopes.{Context, Sight}
 use Rattle.flame_spec.specs.ExpressionFaults.{names_array, expression_faults}
 use Rattle.flame_spec.specs.StatementFaults.{subscript_faults, assignment_faults, stored_faults, items_faults}
 use Rattle.flame_laws.specs.CheckLaws.{IsReadable, IsAssignable, IsNew}
-use Rattle.flame_laws.specs.Parts.{defining}
+use Rattle.flame_laws.specs.BodyParts.{defining}
 use Rattle.flame_laws.proofs.Found.{left-none, right-none}
 use Rattle.flame_laws.proofs.NoFaults.{fault_where-none, part_faults}
 use Rattle.flame_laws.proofs.Sights.{readable, assignable, new}

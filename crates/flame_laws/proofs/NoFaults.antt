@@ -7,17 +7,26 @@ use Rattle.flame_spec.specs.Trees.{Expression, Expressions, no_parts, part, Stor
 use Rattle.flame_spec.specs.Definitions.{Definition, helper_named}
 use Rattle.flame_spec.specs.Scopes.{Context, Sight, after_name, after_parameters}
 use Rattle.flame_spec.specs.ExpressionFaults.{fault_where, expression_faults, parts_faults, links_faults}
-use Rattle.flame_spec.specs.CallFaults.{Deed, called_by, deed_of, places_of, deed_faults, argument_faults, arguments_faults}
+use Rattle.flame_spec.specs.CallFaults.{Deed, called_by, deed_of, places_of, deed_faults, argument_faults}
+use Rattle.flame_spec.specs.CallFaults.{arguments_faults}
 use Rattle.flame_spec.specs.StatementFaults.{stored_faults, subscript_faults, assignment_faults, optional_stored_faults}
-use Rattle.flame_spec.specs.StatementFaults.{items_faults, parameters_faults, statement_faults, statements_faults, arms_faults}
-use Rattle.flame_laws.specs.Parts.{Part, value, values, operands, giving, whole, storing, assigning, declaring, doing}
-use Rattle.flame_laws.specs.Parts.{sequence, tests, defining, StandsIn, itself, element_index, field_index, under_signs}
-use Rattle.flame_laws.specs.Parts.{chain_begin, chain_more, all_part, any_part, first_value, later_value, first_operand}
-use Rattle.flame_laws.specs.Parts.{later_operand, single_argument, array_argument, later_argument, plain_argument, plain_value}
-use Rattle.flame_laws.specs.Parts.{called_argument, assigned_index, assigned_value, item_value, later_item, declaration}
-use Rattle.flame_laws.specs.Parts.{assignment, call_argument, block_body, branch_arm, branch_otherwise, while_test, while_body}
-use Rattle.flame_laws.specs.Parts.{for_first, for_test, for_step, for_body, do_body, do_test, loop_body, returned}
-use Rattle.flame_laws.specs.Parts.{first_statement, later_statement, arm_test, arm_body, later_arm, later_parameter, function_body}
+use Rattle.flame_spec.specs.StatementFaults.{items_faults, parameters_faults, statement_faults, statements_faults}
+use Rattle.flame_spec.specs.StatementFaults.{arms_faults}
+use Rattle.flame_laws.specs.BodyParts.{Part, value, values, operands, giving, whole, storing, assigning, declaring}
+use Rattle.flame_laws.specs.BodyParts.{doing}
+use Rattle.flame_laws.specs.BodyParts.{sequence, tests, defining, StandsIn, itself, element_index, field_index}
+use Rattle.flame_laws.specs.BodyParts.{under_signs}
+use Rattle.flame_laws.specs.BodyParts.{chain_begin, chain_more, all_part, any_part, first_value, later_value}
+use Rattle.flame_laws.specs.BodyParts.{first_operand}
+use Rattle.flame_laws.specs.BodyParts.{later_operand, single_argument, array_argument, later_argument, plain_argument}
+use Rattle.flame_laws.specs.BodyParts.{plain_value}
+use Rattle.flame_laws.specs.BodyParts.{called_argument, assigned_index, assigned_value, item_value, later_item}
+use Rattle.flame_laws.specs.BodyParts.{declaration}
+use Rattle.flame_laws.specs.BodyParts.{assignment, call_argument, block_body, branch_arm, branch_otherwise, while_test}
+use Rattle.flame_laws.specs.BodyParts.{while_body}
+use Rattle.flame_laws.specs.BodyParts.{for_first, for_test, for_step, for_body, do_body, do_test, loop_body, returned}
+use Rattle.flame_laws.specs.BodyParts.{first_statement, later_statement, arm_test, arm_body, later_arm, later_parameter}
+use Rattle.flame_laws.specs.BodyParts.{function_body}
 use Rattle.flame_laws.proofs.Found.{left-none, right-none}
 
 pub fault_where-none :
@@ -32,7 +41,8 @@ abbrev pub part_faults : Context → Part → Sight → List CheckFault
 part_faults context (value e) sight = expression_faults context sight e
 part_faults context (values parts) sight = parts_faults context sight parts
 part_faults context (operands more) sight = links_faults context sight more
-part_faults context (giving line word variables arguments) sight = arguments_faults context sight line word variables arguments
+part_faults context (giving line word variables arguments) sight =
+    arguments_faults context sight line word variables arguments
 part_faults context (whole line word length e) sight = argument_faults context sight line word (Some length) e
 part_faults context (storing stored) sight = stored_faults context sight stored
 part_faults context (assigning a) sight = assignment_faults context sight a
@@ -89,7 +99,8 @@ argument_faults-none context sight line word length wanted e same none =
     sym (ap (λ o. argument_faults context sight line word o e) same) ∙ none
 
 deed_faults-none :
-    (context : Context) (sight : Sight) (o : Option Deed) (deed : Deed) (line : ℕ) (word : List ℕ) (arguments : Expressions)
+    (context : Context) (sight : Sight) (o : Option Deed) (deed : Deed) (line : ℕ) (word : List ℕ)
+    (arguments : Expressions)
     → o ≡ Some deed
     → deed_faults context sight o line word arguments ≡ []
     → arguments_faults context sight line word (places_of deed) arguments ≡ []
@@ -124,12 +135,16 @@ module _ (context : Context) (inner : Part) (there : Sight) where
   no_faults (element_index line word index_line index s) none = no_faults s (right-none _ _ none)
   no_faults (field_index line word variable index_line index s) none = no_faults s (right-none _ _ none)
   no_faults (under_signs signs e s) none = no_faults s none
-  no_faults {here = here} (chain_begin e more s) none = no_faults s (left-none (expression_faults context here e) _ none)
-  no_faults {here = here} (chain_more e more s) none = no_faults s (right-none (expression_faults context here e) _ none)
+  no_faults {here = here} (chain_begin e more s) none =
+      no_faults s (left-none (expression_faults context here e) _ none)
+  no_faults {here = here} (chain_more e more s) none =
+      no_faults s (right-none (expression_faults context here e) _ none)
   no_faults (all_part parts s) none = no_faults s none
   no_faults (any_part parts s) none = no_faults s none
-  no_faults {here = here} (first_value e more s) none = no_faults s (left-none (expression_faults context here e) _ none)
-  no_faults {here = here} (later_value e more s) none = no_faults s (right-none (expression_faults context here e) _ none)
+  no_faults {here = here} (first_value e more s) none =
+      no_faults s (left-none (expression_faults context here e) _ none)
+  no_faults {here = here} (later_value e more s) none =
+      no_faults s (right-none (expression_faults context here e) _ none)
   no_faults {here = here} (first_operand op line e more s) none =
       no_faults s (left-none (expression_faults context here e) _ none)
   no_faults {here = here} (later_operand op line e more s) none =

@@ -1,5 +1,7 @@
 -- The length of a unit is its period times the length of its own unit.
-use Rattle.std.proofs.Common.{◌≡◌, ℕ, zero, suc, ◌+◌, ◌-◌, ◌<◌, ◌≤◌, pos, ◌*ℤ◌, Bool, true, false, true≢false, ◌||◌, cond, List, [], ◌∷◌, take, length, get_or, codes, Some, option_map, refl, ap, sym, ◌∙◌, subst, arith}
+use Rattle.std.proofs.Common.{◌≡◌, ℕ, zero, suc, ◌+◌, ◌-◌, ◌<◌, ◌≤◌, pos, ◌*ℤ◌, Bool, true, false, true≢false, ◌||◌}
+use Rattle.std.proofs.Common.{cond, List, [], ◌∷◌, take, length, get_or, codes, Some, option_map, refl, ap, sym, ◌∙◌}
+use Rattle.std.proofs.Common.{subst, arith}
 use Rattle.std.specs.Prelude.{slice_get}
 use Rattle.std.specs.Str.{bytes_eq}
 use Rattle.std.proofs.Math.Seq.{take-suc}
@@ -30,7 +32,8 @@ module _ (units : List TimeUnit) (none : units_faults units_path units ≡ []) w
   behind : (k : ℕ) → k < length units → IsBehind (take k units) (get_or units k no_unit)
   behind k inside =
       let unit = get_or units k no_unit in
-      let clear = each_none (λ i one. unit_faults (take i units) (at_number units_path i) one) units no_unit none k inside in
+      let clear =
+      each_none (λ i one. unit_faults (take i units) (at_number units_path i) one) units no_unit none k inside in
       record {
         new =
             no_test (is_among unit.name (unit_names (take k units))) Duplicate

@@ -32,7 +32,8 @@ no_round :
     → first_left n before ≡ None
     → ⊥
 no_round n before front last below chain none =
-    lt_irrefl (layer n before last) (chain_rises n before none front last last (last_below n front last below) below chain)
+    lt_irrefl (layer n before last)
+    (chain_rises n before none front last last (last_below n front last below) below chain)
 
 pub round_leaves_over :
     (n : ℕ) (before : Relation) (functions : List ℕ)

@@ -1,7 +1,10 @@
 -- Expressions and statements that are seen as the same are the same.
 use Rattle.std.proofs.Common.{◌≡◌, refl, sym, ap, ◌∙◌, List, [], ◌∷◌, map, subst}
-use Rattle.flame_spec.specs.declared.trees.Expr.{Expr, Number, Name, Field, Get, At, FieldAt, Unary, Chain, All, Any, roll-Expr, ind-Expr, map-Expr}
-use Rattle.flame_spec.specs.declared.trees.Expr.TheVariants.{rolls-Number, rolls-Name, rolls-Field, rolls-Get, rolls-At, rolls-FieldAt, rolls-Unary, rolls-Chain, rolls-All, rolls-Any}
+use Rattle.flame_spec.specs.declared.trees.Expr.{Expr, Number, Name, Field, Get, At, FieldAt, Unary, Chain, All, Any}
+use Rattle.flame_spec.specs.declared.trees.Expr.{roll-Expr, ind-Expr, map-Expr}
+use Rattle.flame_spec.specs.declared.trees.Expr.TheVariants.{rolls-Number, rolls-Name, rolls-Field, rolls-Get, rolls-At}
+use Rattle.flame_spec.specs.declared.trees.Expr.TheVariants.{rolls-FieldAt, rolls-Unary, rolls-Chain, rolls-All}
+use Rattle.flame_spec.specs.declared.trees.Expr.TheVariants.{rolls-Any}
 use Rattle.flame_spec.specs.declared.trees.Expr.TheOpen.{Expr-F}
 use Rattle.flame_spec.specs.declared.trees.Link.{Link}
 use Rattle.flame_spec.specs.declared.trees.Subscript.{Subscript}
@@ -9,8 +12,10 @@ use Rattle.flame_spec.specs.Trees.{Expression, number, name, field, get, field_a
 use Rattle.flame_spec.specs.Trees.{at as element}
 use Rattle.flame_spec.specs.Trees.{Expressions, no_parts, part, Links, no_links, link}
 use Rattle.flame_spec.specs.Seen.{expression, expressions, expressions_of, links_of, joined}
-use Rattle.flame_spec.proofs.SeenForms.{expression-Number, expression-Name, expression-Field, expression-Get, expression-At}
-use Rattle.flame_spec.proofs.SeenForms.{expression-FieldAt, expression-Unary, expression-Chain, expression-All, expression-Any}
+use Rattle.flame_spec.proofs.SeenForms.{expression-Number, expression-Name, expression-Field, expression-Get}
+use Rattle.flame_spec.proofs.SeenForms.{expression-At}
+use Rattle.flame_spec.proofs.SeenForms.{expression-FieldAt, expression-Unary, expression-Chain, expression-All}
+use Rattle.flame_spec.proofs.SeenForms.{expression-Any}
 
 -- ---- expressions
 

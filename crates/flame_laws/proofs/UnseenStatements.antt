@@ -10,14 +10,18 @@ use Rattle.flame_spec.specs.declared.trees.Arm.{Arm}
 use Rattle.flame_spec.specs.declared.trees.Head.{Head}
 use Rattle.flame_spec.specs.declared.trees.Stmt as form
 use Rattle.flame_spec.specs.declared.trees.Stmt.{Stmt, roll-Stmt, ind-Stmt, map-Stmt}
-use Rattle.flame_spec.specs.declared.trees.Stmt.TheVariants.{rolls-Empty, rolls-Declare, rolls-Assign, rolls-Call, rolls-Block, rolls-If, rolls-While, rolls-For, rolls-Do, rolls-Loop, rolls-Return, rolls-Break, rolls-Continue}
+use Rattle.flame_spec.specs.declared.trees.Stmt.TheVariants.{rolls-Empty, rolls-Declare, rolls-Assign, rolls-Call}
+use Rattle.flame_spec.specs.declared.trees.Stmt.TheVariants.{rolls-Block, rolls-If, rolls-While, rolls-For, rolls-Do}
+use Rattle.flame_spec.specs.declared.trees.Stmt.TheVariants.{rolls-Loop, rolls-Return, rolls-Break, rolls-Continue}
 use Rattle.flame_spec.specs.declared.trees.Stmt.TheOpen.{Stmt-F}
 use Rattle.flame_spec.specs.Trees.{Stored, plain, called, Indexed, Declared, Assigned}
-use Rattle.flame_spec.specs.Trees.{Statement, empty, declare, assign, call, block, branch, while, for, do_while, loop_over, return}
+use Rattle.flame_spec.specs.Trees.{Statement, empty, declare, assign, call, block, branch, while, for, do_while}
+use Rattle.flame_spec.specs.Trees.{loop_over, return}
 use Rattle.flame_spec.specs.Trees.{break, continue, Statements, no_more, also, Arms, no_arms, arm}
 use Rattle.flame_spec.specs.Seen.{expression, indexed, stored, declared, assigned, statement, statements, tested}
 use Rattle.flame_spec.specs.Seen.{statements_of, arms_of}
-use Rattle.flame_spec.proofs.SeenForms.{statement-Empty, statement-Declare, statement-Assign, statement-Call, statement-Block}
+use Rattle.flame_spec.proofs.SeenForms.{statement-Empty, statement-Declare, statement-Assign, statement-Call}
+use Rattle.flame_spec.proofs.SeenForms.{statement-Block}
 use Rattle.flame_spec.proofs.SeenForms.{statement-If, statement-While, statement-For, statement-Do, statement-Loop}
 use Rattle.flame_spec.proofs.SeenForms.{statement-Return, statement-Break, statement-Continue}
 use Rattle.flame_laws.proofs.Unseen.{data_of, parts_data, all_parts_back, expression_back}

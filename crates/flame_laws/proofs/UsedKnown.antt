@@ -12,8 +12,10 @@ use Rattle.flame_spec.specs.Paths.{root, at_key, at_number}
 use Rattle.flame_spec.specs.Leaves.{LeafNames, condition_faults}
 use Rattle.flame_spec.specs.UnitFaults.{units_faults}
 use Rattle.flame_spec.specs.MessageFaults.{constant_faults, messages_faults}
-use Rattle.flame_spec.specs.FunctionFaults.{condition_scope, sort_faults, input_faults, inputs_faults, outputs_faults, title_faults, function_faults}
-use Rattle.flame_spec.specs.NameFaults.{agent_faults, agents_faults, type_names, names_of_functions, environment_faults, name_faults}
+use Rattle.flame_spec.specs.FunctionFaults.{condition_scope, sort_faults, input_faults, inputs_faults, outputs_faults}
+use Rattle.flame_spec.specs.FunctionFaults.{title_faults, function_faults}
+use Rattle.flame_spec.specs.NameFaults.{agent_faults, agents_faults, type_names, names_of_functions, environment_faults}
+use Rattle.flame_spec.specs.NameFaults.{name_faults}
 use Rattle.flame_laws.specs.UsedNames.{knows, IsInputKnown, IsFunctionKnown, UsedNamesAreDeclared}
 use Rattle.flame_laws.proofs.Found.{left-none, right-none}
 use Rattle.flame_laws.proofs.NameKnowledge.{each_none, test_fails, not_false, condition_known}
@@ -90,13 +92,16 @@ input_known declared memory earlier path input none =
     }
 
 -- no part of the function has faults
-pub record HasNoneIn (declared : DeclaredNames) (memory : List (List ℕ)) (path : List ℕ) (function : Function) : Type 0 where
-  pub condition : condition_faults (condition_scope declared memory) (at_key path (codes "condition")) function.condition ≡ []
+pub record HasNoneIn (declared : DeclaredNames) (memory : List (List ℕ)) (path : List ℕ)
+    (function : Function) : Type 0 where
+  pub condition : condition_faults (condition_scope declared memory)
+      (at_key path (codes "condition")) function.condition ≡ []
   pub inputs : inputs_faults declared memory (at_key path (codes "inputs")) function.inputs ≡ []
   pub outputs : outputs_faults declared (at_key path (codes "outputs")) function.outputs ≡ []
 
 pub function_none :
-    (declared : DeclaredNames) (memory : List (List ℕ)) (is_taken : List ℕ → Bool) (earlier : List Function) (path : List ℕ)
+    (declared : DeclaredNames) (memory : List (List ℕ)) (is_taken : List ℕ
+    → Bool) (earlier : List Function) (path : List ℕ)
     (function : Function)
     → function_faults declared memory is_taken earlier path function ≡ []
     → HasNoneIn declared memory path function
@@ -123,16 +128,23 @@ function_none declared memory is_taken earlier path function none =
         → HasNoneIn declared memory path function
     behind_title more =
         behind_condition
-        (left-none (condition_faults (condition_scope declared memory) (at_key path (codes "condition")) function.condition) _ more)
-        (right-none (condition_faults (condition_scope declared memory) (at_key path (codes "condition")) function.condition) _ more)
+        (left-none
+        (condition_faults (condition_scope declared memory)
+        (at_key path (codes "condition")) function.condition) _ more)
+        (right-none
+        (condition_faults (condition_scope declared memory)
+        (at_key path (codes "condition")) function.condition) _ more)
 
 function_known :
     (declared : DeclaredNames) (memory : List (List ℕ)) (path : List ℕ) (function : Function)
     → HasNoneIn declared memory path function
     → IsFunctionKnown declared memory function
 function_known declared memory path function parts = record {
-  condition = condition_there (condition_scope declared memory) (at_key path (codes "condition")) function.condition parts.condition;
-  inputs = λ k input at. input_known _ _ _ _ input (each_none _ 0 function.inputs k input k parts.inputs at (omega arith));
+  condition =
+      condition_there (condition_scope declared memory)
+      (at_key path (codes "condition")) function.condition parts.condition;
+  inputs =
+      λ k input at. input_known _ _ _ _ input (each_none _ 0 function.inputs k input k parts.inputs at (omega arith));
   outputs = λ k message at.
       not_false (is_among message declared.messages)
       (test_fails _ _ _ _ (left-none _ _ (each_none _ 0 function.outputs k message k parts.outputs at (omega arith))));

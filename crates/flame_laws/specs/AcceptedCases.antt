@@ -8,7 +8,8 @@ use Rattle.flame_spec.specs.declared.outcomes.Source.{Source}
 use Rattle.flame_spec.specs.declared.trees.Expr as tree
 use Rattle.flame_spec.specs.declared.trees.Stmt as form
 use Rattle.flame_spec.specs.Names.{is_name}
-use Rattle.flame_spec.specs.WellFormed.{is_positive_int, is_well_formed_phase, is_well_formed_condition, is_well_formed_filter}
+use Rattle.flame_spec.specs.WellFormed.{is_positive_int, is_well_formed_phase, is_well_formed_condition}
+use Rattle.flame_spec.specs.WellFormed.{is_well_formed_filter}
 use Rattle.flame_laws.specs.SmallModels.{agent_type, function, lone_model, lone_file}
 use Rattle.flame_spec.specs.Accepted.{has_one_start, IsAccepted}
 

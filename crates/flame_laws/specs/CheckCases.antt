@@ -6,11 +6,14 @@ use Rattle.flame_spec.specs.declared.trees.Expr as tree
 use Rattle.flame_spec.specs.declared.trees.Stmt as form
 use Rattle.flame_spec.specs.declared.trees.Value.TheVariants.{Plain}
 use Rattle.flame_spec.specs.declared.faults.CheckFault.{CheckFault}
-use Rattle.flame_spec.specs.declared.faults.CheckKind.TheVariants.{MissingFunction, DefinedTwice, UnknownName, Redeclared, UnknownCall}
-use Rattle.flame_spec.specs.declared.faults.CheckKind.TheVariants.{WrongCount, NotOutput, NotInput, OutsideLoop, NestedSame}
+use Rattle.flame_spec.specs.declared.faults.CheckKind.TheVariants.{MissingFunction, DefinedTwice, UnknownName}
+use Rattle.flame_spec.specs.declared.faults.CheckKind.TheVariants.{Redeclared, UnknownCall}
+use Rattle.flame_spec.specs.declared.faults.CheckKind.TheVariants.{WrongCount, NotOutput, NotInput, OutsideLoop}
+use Rattle.flame_spec.specs.declared.faults.CheckKind.TheVariants.{NestedSame}
 use Rattle.flame_spec.specs.declared.faults.CheckKind.TheVariants.{LoopMismatch, StrayBreak, ReadOnly}
 use Rattle.flame_spec.specs.Trees.{number, name, field, get, signed, chain, all_of, any_of, link, no_links, plain}
-use Rattle.flame_spec.specs.Trees.{Statement, declare, block, branch, while, for, do_while, loop_over, return, break, continue}
+use Rattle.flame_spec.specs.Trees.{Statement, declare, block, branch, while, for, do_while, loop_over, return, break}
+use Rattle.flame_spec.specs.Trees.{continue}
 use Rattle.flame_spec.specs.Trees.{arm, no_arms}
 use Rattle.flame_spec.specs.Seen.{expressions_of, statements_of}
 use Rattle.flame_spec.specs.Definitions.{Definition}

@@ -1,5 +1,6 @@
 -- What holds of check faults, and of function files without them. [own]
-use Rattle.std.specs.Prelude.{◌≡◌, ◌≢◌, ℕ, ◌<◌, List, [], ◌∷◌, ◌++◌, length, codes, count_by, Contains, ◌⊎◌, Some, None, IsTrue, IsFalse}
+use Rattle.std.specs.Prelude.{◌≡◌, ◌≢◌, ℕ, ◌<◌, List, [], ◌∷◌, ◌++◌, length, codes, count_by, Contains, ◌⊎◌, Some, None}
+use Rattle.std.specs.Prelude.{IsTrue, IsFalse}
 use Rattle.flame_spec.specs.declared.models.Model.{Model}
 use Rattle.flame_spec.specs.declared.models.Variable.{Variable}
 use Rattle.flame_spec.specs.declared.models.MessageType.{MessageType}
@@ -11,18 +12,21 @@ use Rattle.flame_spec.specs.declared.faults.CheckFault.{CheckFault}
 use Rattle.flame_spec.specs.declared.faults.CheckKind.TheVariants.{MissingFunction}
 use Rattle.flame_ops.specs.Ascii.{capitals}
 use Rattle.flame_spec.specs.Functions.{Place, functions}
-use Rattle.flame_spec.specs.Trees.{Expression, name, get, field, field_at, Expressions, Indexed, Declared, Assigned, called}
+use Rattle.flame_spec.specs.Trees.{Expression, name, get, field, field_at, Expressions, Indexed, Declared, Assigned}
+use Rattle.flame_spec.specs.Trees.{called}
 use Rattle.flame_spec.specs.Trees.{call, Statements, loop_over, break, continue}
 use Rattle.flame_spec.specs.Trees.{at as element}
 use Rattle.flame_spec.specs.Definitions.{Definition, definitions, helpers, is_for, body_of}
 use Rattle.flame_spec.specs.LookUps.{constant, iteration, message_looped}
-use Rattle.flame_spec.specs.Scopes.{Context, memory_at, messages_at, given_at, over_message, Sight, at_entry, in_loop, is_local}
+use Rattle.flame_spec.specs.Scopes.{Context, memory_at, messages_at, given_at, over_message, Sight, at_entry, in_loop}
+use Rattle.flame_spec.specs.Scopes.{is_local}
 use Rattle.flame_spec.specs.ExpressionFaults.{names_array}
 use Rattle.flame_spec.specs.CallFaults.{count, length_given}
 use Rattle.flame_spec.specs.StatementFaults.{opened}
 use Rattle.flame_spec.specs.HelperFaults.{helper_context}
 use Rattle.flame_spec.specs.CheckFaults.{context, check_faults}
-use Rattle.flame_laws.specs.Parts.{Part, value, whole, storing, assigning, declaring, doing, sequence, defining, StandsIn}
+use Rattle.flame_laws.specs.BodyParts.{Part, value, whole, storing, assigning, declaring, doing, sequence, defining}
+use Rattle.flame_laws.specs.BodyParts.{StandsIn}
 
 -- ---- faults
 

@@ -3,7 +3,8 @@ use Rattle.std.specs.Prelude.{◌≡◌, ℕ, pos, List, [], ◌∷◌, codes, m
 use Rattle.flame_ops.specs.declared.integers.Op.TheVariants.{Add}
 use Rattle.flame_spec.specs.declared.trees.Parameter.{Parameter}
 use Rattle.flame_spec.specs.declared.faults.CheckFault.{CheckFault}
-use Rattle.flame_spec.specs.declared.faults.CheckKind.TheVariants.{UnknownName, UnknownCall, WrongCount, Redeclared, NeedsIndex}
+use Rattle.flame_spec.specs.declared.faults.CheckKind.TheVariants.{UnknownName, UnknownCall, WrongCount, Redeclared}
+use Rattle.flame_spec.specs.declared.faults.CheckKind.TheVariants.{NeedsIndex}
 use Rattle.flame_spec.specs.declared.faults.CheckKind.TheVariants.{DefinedTwice, HasParameters, Recursive}
 use Rattle.flame_spec.specs.Trees.{Expression, number, name, field, get, chain, link, no_links, called}
 use Rattle.flame_spec.specs.Trees.{Statement, declare, assign, block, loop_over, return}
@@ -125,7 +126,8 @@ called_helpers =
     ∷ c_function 11 (codes "both") (codes "a" ∷ codes "b" ∷ []) []
     ∷ []
 
--- a call has as many arguments as the helper has parameters, and in the value of an item its own name stands for nothing
+-- a call has as many arguments as the helper has parameters, and in the value of an item its own name stands for
+-- nothing
 abbrev pub CallingCase : Type 0
 CallingCase = HerdFaults calling_body called_helpers (
     found WrongCount 2 (codes "both")

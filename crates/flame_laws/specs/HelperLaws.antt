@@ -4,14 +4,15 @@ use Rattle.flame_spec.specs.declared.models.Model.{Model}
 use Rattle.flame_spec.specs.declared.trees.Unit as file
 use Rattle.flame_spec.specs.ModelOrder.{first_left}
 use Rattle.flame_ops.specs.Ascii.{capitals}
-use Rattle.flame_spec.specs.Trees.{Expression, name, get, field, field_at, Expressions, Assigned, call, Statements, loop_over}
+use Rattle.flame_spec.specs.Trees.{Expression, name, get, field, field_at, Expressions, Assigned, call, Statements}
+use Rattle.flame_spec.specs.Trees.{loop_over}
 use Rattle.flame_spec.specs.Trees.{at as element}
 use Rattle.flame_spec.specs.Definitions.{helpers}
 use Rattle.flame_spec.specs.Scopes.{Context, Sight, is_local}
 use Rattle.flame_spec.specs.HelperFaults.{is_called_by, call_cycle, call_height}
 use Rattle.flame_spec.specs.CheckFaults.{check_faults}
 use Rattle.flame_laws.specs.OrderLaws.{IsChain, IsRound, IsCycle, AreFunctions}
-use Rattle.flame_laws.specs.Parts.{Part, value, assigning, doing}
+use Rattle.flame_laws.specs.BodyParts.{Part, value, assigning, doing}
 use Rattle.flame_laws.specs.CheckLaws.{Everywhere, IsHelperCall}
 
 -- what holds wherever this part stands in a helper, of a model and function files without check faults
@@ -36,7 +37,9 @@ pub data MeansAside (at : Context) (sight : Sight) (word : List ℕ) : Type 0 wh
 
 -- a helper reads locals, constants and `iteration_loop`, and no memory
 abbrev pub HelpersReadNoMemory : Type 0
-HelpersReadNoMemory = (line : ℕ) (word : List ℕ) → InHelpers (value (name line word)) (λ at sight. MeansAside at sight word)
+HelpersReadNoMemory =
+    (line : ℕ) (word : List ℕ)
+    → InHelpers (value (name line word)) (λ at sight. MeansAside at sight word)
 
 -- a helper reads no element of an array
 abbrev pub HelpersReadNoElement : Type 0
@@ -81,8 +84,8 @@ HelpersOpenNoLoop =
 abbrev pub calls_in : Model → List file.Unit → ℕ → ℕ → Bool
 calls_in model units g h = is_called_by model (helpers model units) h g
 
--- where a helper is left over there is a cycle from caller to called helper, each once, begun with the first one in source
--- order
+-- where a helper is left over there is a cycle from caller to called helper, each once, begun with the first one in
+-- source order
 abbrev pub CallsComeRound : Type 0
 CallsComeRound =
     (n : ℕ) (before : ℕ → ℕ → Bool) (g : ℕ)

@@ -10,11 +10,12 @@ pub mod StateLaws
 pub mod OrderCases
 pub mod ViewCases
 pub mod TreeLaws
-pub mod Parts
+pub mod BodyParts
 pub mod CheckLaws
 pub mod HelperLaws
 pub mod SmallTrees
 pub mod CheckCases
+pub mod PlaceCases
 pub mod ArrayCases
 pub mod HelperCases
 pub mod AcceptedCases

@@ -1,5 +1,6 @@
 -- What holds of model order, cycles and layers: of any n functions and any `before`. [own]
-use Rattle.std.specs.Prelude.{◌≡◌, ◌↔◌, ℕ, suc, ◌<◌, ◌≤◌, Bool, true, false, List, [], ◌∷◌, ◌++◌, Some, None, length, take, slice_index}
+use Rattle.std.specs.Prelude.{◌≡◌, ◌↔◌, ℕ, suc, ◌<◌, ◌≤◌, Bool, true, false, List, [], ◌∷◌, ◌++◌, Some, None, length}
+use Rattle.std.specs.Prelude.{take, slice_index}
 use Rattle.flame_spec.specs.Below.{is_in, HasNoTwice}
 use Rattle.flame_spec.specs.ModelOrder.{next, order, rank, first_left, step_back, cycle}
 use Rattle.flame_spec.specs.Layers.{above, layer}

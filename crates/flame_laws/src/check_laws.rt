@@ -20,10 +20,10 @@ pub fn checked_functions()
     ensures parameters { FunctionsHaveNoParameters }
 {}
 
-/// Where function files have no check faults, each name that a C function reads is a local there, a memory variable or a
-/// constant in capitals, or `iteration_loop`, and not the name of the item in whose value it stands. Each name that it
-/// assigns is a local there or a memory variable in capitals. An array stands with an index, and nothing else does. Each
-/// name that it declares, as a local or as a parameter, is new in its scope and has no meaning from the model.
+/// Where function files have no check faults, each name that a C function reads is a local there, a memory variable or
+/// a constant in capitals, or `iteration_loop`, and not the name of the item in whose value it stands. Each name that
+/// it assigns is a local there or a memory variable in capitals. An array stands with an index, and nothing else does.
+/// Each name that it declares, as a local or as a parameter, is new in its scope and has no meaning from the model.
 pub fn checked_names()
     ensures visible { NamesReadAreVisible }
     ensures indexed { NamesIndexedAreArrays }
@@ -32,8 +32,9 @@ pub fn checked_names()
     ensures parameters { ParametersAreNew }
 {}
 
-/// Where function files have no check faults, each call gets or sets a memory variable that is no array, sends an output,
-/// bears an agent or calls a helper, with as many arguments as it takes; each argument for an array is one of its length.
+/// Where function files have no check faults, each call gets or sets a memory variable that is no array, sends an
+/// output, bears an agent or calls a helper, with as many arguments as it takes; each argument for an array is one of
+/// its length.
 pub fn checked_calls()
     ensures getters { GettersGet }
     ensures called { CalledAreHelpers }

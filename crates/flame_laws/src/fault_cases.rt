@@ -3,6 +3,7 @@
 ghost use Rattle.flame_laws.specs.CheckCases.{NamesCase, ExpressionsCase, ItemsCase, CallsCase, LoopsCase};
 ghost use Rattle.flame_laws.specs.CheckCases.{UnknownLoopCase, TurnsCase, BranchesCase, FilesCase, NoFilesCase};
 ghost use Rattle.flame_laws.specs.CheckCases.{LoneCallCase, TwoFilesCase, OwnNameCase, OwnNameInsideCase};
+ghost use Rattle.flame_laws.specs.PlaceCases.{LastNameStands};
 ghost use Rattle.flame_laws.specs.ArrayCases.{ElementsCase, RowsCase, ArgumentsCase};
 ghost use Rattle.flame_laws.specs.HelperCases.{ParametersCase, AloneCase, CallingCase, HavingCase};
 ghost use Rattle.flame_laws.specs.HelperCases.{RoundCase, SelfCase, TailCase, EndingCase};
@@ -23,6 +24,11 @@ pub fn check_cases()
     ensures two_files { TwoFilesCase }
     ensures own_name { OwnNameCase }
     ensures own_name_inside { OwnNameInsideCase }
+{}
+
+/// Where a name stands in a small function, and what it sees there.
+pub fn place_cases()
+    ensures { LastNameStands }
 {}
 
 /// Arrays of the memory and of messages, and arguments for them.

@@ -18,9 +18,9 @@ pub fn helpers_stand_alone()
     ensures loops { HelpersOpenNoLoop }
 {}
 
-/// Where a helper is left over, the cycle of calls has each of its helpers once, each before one that it calls, begun with
-/// the first one in source order. Where function files have no check faults, helpers call each other in no cycle, each is
-/// higher than those that it calls, and no more than 64 of them each call the next one.
+/// Where a helper is left over, the cycle of calls has each of its helpers once, each before one that it calls, begun
+/// with the first one in source order. Where function files have no check faults, helpers call each other in no cycle,
+/// each is higher than those that it calls, and no more than 64 of them each call the next one.
 pub fn helpers_end()
     ensures cycle { CallsComeRound }
     ensures no_round { HelpersCallInNoRound }

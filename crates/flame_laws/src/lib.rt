@@ -16,7 +16,7 @@ pub use accepted_laws::accepted_cases;
 pub use check_laws::{
     check_faults_stand_in_files, checked_calls, checked_functions, checked_loops, checked_names,
 };
-pub use fault_cases::{array_cases, check_cases, helper_cases};
+pub use fault_cases::{array_cases, check_cases, helper_cases, place_cases};
 pub use helper_laws::{helpers_end, helpers_stand_alone};
 pub use name_laws::{members_differ, names_differ, unit_lengths};
 pub use order_laws::{cycles, layers, order_cases, orders, ranks, start_states_of_types};

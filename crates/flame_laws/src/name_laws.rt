@@ -1,6 +1,7 @@
 //! Laws of models without name faults. A law is its contract: it computes nothing.
 
-ghost use Rattle.flame_laws.specs.NameLaws.{ConstantsDiffer, UnitsDiffer, MessagesDiffer, TypesDiffer, LengthsAreKnown, LengthsMultiply};
+ghost use Rattle.flame_laws.specs.NameLaws.{ConstantsDiffer, UnitsDiffer, MessagesDiffer, TypesDiffer, LengthsAreKnown};
+ghost use Rattle.flame_laws.specs.NameLaws.{LengthsMultiply};
 ghost use Rattle.flame_laws.specs.MemberLaws.{TypeVariablesDiffer, MessageVariablesDiffer, InputsDiffer, OutputsDiffer};
 ghost use Rattle.flame_laws.specs.MemberLaws.{FunctionsOfTypesDiffer, TransitionsDiffer};
 
@@ -13,8 +14,8 @@ pub fn names_differ()
     ensures types { TypesDiffer }
 {}
 
-/// In a model without name faults the variables of a type differ, in capitals too, and from the constants in capitals; the
-/// variables of a message differ; a function reads and outputs no message twice; functions of different types have
+/// In a model without name faults the variables of a type differ, in capitals too, and from the constants in capitals;
+/// the variables of a message differ; a function reads and outputs no message twice; functions of different types have
 /// different names, but for `idle`; and transitions of a type differ in their names or in their states.
 pub fn members_differ()
     ensures memory { TypeVariablesDiffer }

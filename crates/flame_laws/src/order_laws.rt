@@ -1,7 +1,9 @@
 //! Laws of model order, cycles, layers and start states. A law is its contract: it computes nothing.
 
 ghost use Rattle.flame_laws.specs.OrderCases.{WriterRunsFirst, CyclesAreMet, StartsAreFound};
-ghost use Rattle.flame_laws.specs.OrderLaws.{OrderListsFunctions, OrderListsNoneTwice, OrderRespectsBefore, OrderTakesFirst, OrderIsWhole, LeftOverStepsBack, LeftOverHasCycle, RoundLeavesOver, LayersAreAbove, LayersRise, LayersHaveNoGap};
+ghost use Rattle.flame_laws.specs.OrderLaws.{OrderListsFunctions, OrderListsNoneTwice, OrderRespectsBefore};
+ghost use Rattle.flame_laws.specs.OrderLaws.{OrderTakesFirst, OrderIsWhole, LeftOverStepsBack, LeftOverHasCycle};
+ghost use Rattle.flame_laws.specs.OrderLaws.{RoundLeavesOver, LayersAreAbove, LayersRise, LayersHaveNoGap};
 ghost use Rattle.flame_laws.specs.StateLaws.{StartsAreNotEntered, TypesHaveStarts, PlansHaveOneStart};
 ghost use Rattle.flame_laws.specs.OrderLaws.{RanksRise, OrderHasAtRank, RankIsPlace, LeftOverHasNoRank};
 
@@ -17,8 +19,8 @@ pub fn orders()
     ensures left { LeftOverStepsBack }
 {}
 
-/// What stands before a function has the smaller rank. The rank of a function is its place in the order, and at its rank
-/// stands the function; one that is left over has the length of the order for its rank.
+/// What stands before a function has the smaller rank. The rank of a function is its place in the order, and at its
+/// rank stands the function; one that is left over has the length of the order for its rank.
 pub fn ranks()
     ensures rise { RanksRise }
     ensures at_rank { OrderHasAtRank }

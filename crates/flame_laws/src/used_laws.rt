@@ -9,8 +9,8 @@ pub fn used_names()
     ensures { UsedNamesAreDeclared }
 {}
 
-/// Small models, worked by hand: a variable that is a constant in capitals, units that are unknown or too long, and a unit
-/// of a unit of a unit.
+/// Small models, worked by hand: a variable that is a constant in capitals, units that are unknown or too long, and a
+/// unit of a unit of a unit.
 pub fn used_names_cases()
     ensures clash { ConstantAndVariableClash }
     ensures units { UnitsAreMeasured }

@@ -1,7 +1,10 @@
 //! Laws of conditions, choices and views. A law is its contract: it computes nothing.
 
-ghost use Rattle.flame_spec.specs.ViewLaws.{TimeRepeats, ChoiceIsFirst, FirstIsChosen, NoChoiceWhereNone, TakersKeepCounts, ViewKeepsCounts, ViewAscends, ViewGoesByKey, ViewTiesByContent, ViewIsTheOne, PlainViewIsBoard};
-ghost use Rattle.flame_laws.specs.ViewCases.{SortedByKey, FilteredByMemory, HoldsInWeek, FirstOfTwo, NoneOfOne, NextWithoutCondition};
+ghost use Rattle.flame_spec.specs.ViewLaws.{TimeRepeats, ChoiceIsFirst, FirstIsChosen, NoChoiceWhereNone};
+ghost use Rattle.flame_spec.specs.ViewLaws.{TakersKeepCounts, ViewKeepsCounts, ViewAscends, ViewGoesByKey};
+ghost use Rattle.flame_spec.specs.ViewLaws.{ViewTiesByContent, ViewIsTheOne, PlainViewIsBoard};
+ghost use Rattle.flame_laws.specs.ViewCases.{SortedByKey, FilteredByMemory, HoldsInWeek, FirstOfTwo, NoneOfOne};
+ghost use Rattle.flame_laws.specs.ViewCases.{NextWithoutCondition};
 
 /// Whether a time condition holds is the same again after each period of its unit.
 pub fn time_conditions()

@@ -1,6 +1,6 @@
 -- What calls are in C functions without faults.
 use Rattle.flame_spec.specs.Trees.{get, call, called}
-use Rattle.flame_laws.specs.Parts.{value, whole, storing, doing}
+use Rattle.flame_laws.specs.BodyParts.{value, whole, storing, doing}
 use Rattle.flame_laws.proofs.CheckedBodies.{part-none}
 use Rattle.flame_laws.proofs.Calls.{getter, helper_call, is_call}
 use Rattle.flame_laws.proofs.Loops.{whole_array}

@@ -2,7 +2,7 @@
 use Rattle.std.proofs.Common.{codes}
 use Rattle.flame_spec.specs.declared.faults.CheckKind.TheVariants.{StrayBreak}
 use Rattle.flame_spec.specs.Trees.{field, field_at, loop_over, break, continue}
-use Rattle.flame_laws.specs.Parts.{value, doing}
+use Rattle.flame_laws.specs.BodyParts.{value, doing}
 use Rattle.flame_laws.proofs.Found.{left-none}
 use Rattle.flame_laws.proofs.NoFaults.{fault_where-none}
 use Rattle.flame_laws.proofs.CheckedBodies.{part-none}
@@ -39,7 +39,8 @@ returns-clause-continues c = λ line model units d at sight none is stands.
 
 pub returns-clause-nested : goal.returns-clause-nested
 returns-clause-nested c =
-    λ line word body end_line end_word inner_line inner_word inner_body inner_end inner_end_word model units d at sight none is stands there inside.
+    λ line word body end_line end_word inner_line inner_word inner_body inner_end inner_end_word model units d at sight
+    none is stands there inside.
     not_nested at sight there line word body end_line end_word
     inner_line inner_word inner_body inner_end inner_end_word
     (part-none (doing (loop_over line word body end_line end_word)) model units d at sight none is stands) inside

@@ -1,7 +1,7 @@
 -- What names stand for in C functions without faults.
 use Rattle.flame_spec.specs.Trees.{name}
 use Rattle.flame_spec.specs.Trees.{at as element}
-use Rattle.flame_laws.specs.Parts.{value, assigning, declaring, defining}
+use Rattle.flame_laws.specs.BodyParts.{value, assigning, declaring, defining}
 use Rattle.std.proofs.Common.{◌∷◌}
 use Rattle.flame_laws.proofs.CheckedBodies.{part-none}
 use Rattle.flame_laws.proofs.Names.{name_read, name_indexed, name_assigned, name_declared, parameter_declared}

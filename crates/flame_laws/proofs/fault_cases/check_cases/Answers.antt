@@ -1,6 +1,7 @@
 -- The cases on whole files: what their trees are seen as computes, form by form.
 use Rattle.std.proofs.Common.{refl}
-use Rattle.flame_spec.proofs.SeenForms.{expression-Number, expression-Name, statement-Declare, statement-Call, statement-Block}
+use Rattle.flame_spec.proofs.SeenForms.{expression-Number, expression-Name, statement-Declare, statement-Call}
+use Rattle.flame_spec.proofs.SeenForms.{statement-Block}
 use Rattle.flame_spec.proofs.SeenForms.{statement-Return, statement-Break}
 use Rattle.flame_laws.proofs.fault_cases.check_cases.Goals as goal
 

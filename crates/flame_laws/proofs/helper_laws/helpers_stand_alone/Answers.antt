@@ -1,7 +1,7 @@
 -- What stands in no helper.
 use Rattle.flame_spec.specs.Trees.{name, get, field, field_at, call, loop_over}
 use Rattle.flame_spec.specs.Trees.{at as element}
-use Rattle.flame_laws.specs.Parts.{value, assigning, doing}
+use Rattle.flame_laws.specs.BodyParts.{value, assigning, doing}
 use Rattle.flame_laws.proofs.Found.{left-none}
 use Rattle.flame_laws.proofs.CheckedBodies.{part-none}
 use Rattle.flame_laws.proofs.Names.{name_read, name_indexed, name_assigned}

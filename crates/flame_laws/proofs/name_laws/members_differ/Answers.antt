@@ -1,5 +1,6 @@
 -- Variables, functions, inputs and outputs differ.
-use Rattle.flame_laws.proofs.Members.{types_apart, message_distinct, inputs_distinct, outputs_distinct, functions_differ}
+use Rattle.flame_laws.proofs.Members.{types_apart, message_distinct, inputs_distinct, outputs_distinct}
+use Rattle.flame_laws.proofs.Members.{functions_differ}
 use Rattle.flame_laws.proofs.Members.{transitions_differ}
 use Rattle.flame_laws.proofs.name_laws.members_differ.Goals as goal
 

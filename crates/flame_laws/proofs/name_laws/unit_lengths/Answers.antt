@@ -4,7 +4,8 @@ use Rattle.flame_laws.proofs.Periods.{lengths_multiply}
 use Rattle.flame_laws.proofs.name_laws.unit_lengths.Goals as goal
 
 pub returns-clause-known : goal.returns-clause-known
-returns-clause-known c = λ model none well k d inside. lengths_known units_path model.units (units_none model none) well k d inside
+returns-clause-known c =
+    λ model none well k d inside. lengths_known units_path model.units (units_none model none) well k d inside
 
 pub returns-clause-product : goal.returns-clause-product
 returns-clause-product c = lengths_multiply

@@ -1,5 +1,6 @@
 -- What each step of the order keeps holds of the whole order.
-use Rattle.flame_spec.proofs.Orders.{order_is_order, order_takes, ready_taken, left_steps_back, none_left_over, all_ordered}
+use Rattle.flame_spec.proofs.Orders.{order_is_order, order_takes, ready_taken, left_steps_back, none_left_over}
+use Rattle.flame_spec.proofs.Orders.{all_ordered}
 use Rattle.flame_spec.specs.ModelOrder.{order}
 use Rattle.std.proofs.Common.{take}
 use Rattle.std.specs.Prelude.{slice_index}
@@ -12,7 +13,9 @@ pub returns-clause-once : goal.returns-clause-once
 returns-clause-once c = λ n before. (order_is_order n before).once
 
 pub returns-clause-after : goal.returns-clause-after
-returns-clause-after c = λ n before place f l q b. ready_taken n before (take place (order n before)) (slice_index (order n before) place) ((order_is_order n before).ready place l) f q b
+returns-clause-after c =
+    λ n before place f l q b. ready_taken n before (take place (order n before)) (slice_index (order n before) place)
+    ((order_is_order n before).ready place l) f q b
 
 pub returns-clause-first : goal.returns-clause-first
 returns-clause-first c = λ n before place l. order_takes n before place l

@@ -1,4 +1,5 @@
-use Rattle.flame_spec.proofs.Viewed.{view_keeps_counts, view_ascends, view_goes_by_key, view_ties_by_content, view_is_the_one, plain_view_is_board}
+use Rattle.flame_spec.proofs.Viewed.{view_keeps_counts, view_ascends, view_goes_by_key, view_ties_by_content}
+use Rattle.flame_spec.proofs.Viewed.{view_is_the_one, plain_view_is_board}
 use Rattle.flame_laws.proofs.view_laws.views.Goals as goal
 
 pub returns-clause-counts : goal.returns-clause-counts

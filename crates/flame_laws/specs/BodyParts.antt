@@ -7,10 +7,12 @@ use Rattle.flame_spec.specs.declared.trees.Sign.{Sign}
 use Rattle.flame_spec.specs.Trees.{Expression, field_at, signed, chain, all_of, any_of, Expressions, part, Links, link}
 use Rattle.flame_spec.specs.Trees.{Stored, plain, called, Indexed, Declared, Assigned}
 use Rattle.flame_spec.specs.Trees.{at as element}
-use Rattle.flame_spec.specs.Trees.{Statement, declare, assign, call, block, branch, while, for, do_while, loop_over, return}
+use Rattle.flame_spec.specs.Trees.{Statement, declare, assign, call, block, branch, while, for, do_while, loop_over}
+use Rattle.flame_spec.specs.Trees.{return}
 use Rattle.flame_spec.specs.Trees.{Statements, also, Arms, arm}
 use Rattle.flame_spec.specs.LookUps.{message_looped}
-use Rattle.flame_spec.specs.Scopes.{Context, over_none, Sight, in_scope, in_loop, in_value_of, after_name, after, after_all}
+use Rattle.flame_spec.specs.Scopes.{Context, over_none, Sight, in_scope, in_loop, in_value_of, after_name, after}
+use Rattle.flame_spec.specs.Scopes.{after_all}
 use Rattle.flame_spec.specs.Scopes.{messages_at}
 use Rattle.flame_spec.specs.CallFaults.{Deed, deed_of, places_of}
 use Rattle.flame_spec.specs.StatementFaults.{opened}
