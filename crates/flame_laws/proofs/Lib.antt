@@ -24,3 +24,4 @@ pub mod Places
 pub mod Periods
 pub mod Unseen
 pub mod UnseenStatements
+pub mod Columned

@@ -191,6 +191,15 @@ own (u ∷ units) (suc k) d inside =
     ap (λ b. bytes_eq (get_or units k d).name u.name || b) (own units k d (omega arith))
     ∙ or_true (bytes_eq (get_or units k d).name u.name)
 
+-- where units have no faults, the length of each name that is known is known
+pub all_known : (path : List ℕ) (units : List TimeUnit)
+    → units_faults path units ≡ []
+    → list_all is_well_formed_unit units ≡ true
+    → Known units
+all_known path units none well =
+    let P : List TimeUnit → Type 0 = λ us. Known us in
+    subst P (take_all units) (known_take path units none well (length units) (omega arith))
+
 -- each unit's length is known
 pub lengths_known : (path : List ℕ) (units : List TimeUnit)
     → units_faults path units ≡ []
@@ -199,8 +208,7 @@ pub lengths_known : (path : List ℕ) (units : List TimeUnit)
     → k < length units
     → Positive (unit_length units (get_or units k d).name)
 lengths_known path units none well k d inside =
-    let P : List TimeUnit → Type 0 = λ us. Known us in
-    let known : Known units = subst P (take_all units) (known_take path units none well (length units) (omega arith)) in
+    let known : Known units = all_known path units none well in
     let name = (get_or units k d).name in
     known.lengths name
     (ap (λ b. bytes_eq name (codes "iteration") || b) (own units k d inside)

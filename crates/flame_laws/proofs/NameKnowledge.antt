@@ -90,16 +90,16 @@ knows-Compare :
     → knows scope (Compare op a b) ≡ knows_operand scope a && knows_operand scope b
 knows-Compare scope op a b = search (rules, the_lemmas)
 
-knows-And : (scope : LeafNames) (a b : Condition) → knows scope (And a b) ≡ knows scope a && knows scope b
+pub knows-And : (scope : LeafNames) (a b : Condition) → knows scope (And a b) ≡ knows scope a && knows scope b
 knows-And scope a b = search (rules, the_lemmas)
 
-knows-Or : (scope : LeafNames) (a b : Condition) → knows scope (Or a b) ≡ knows scope a && knows scope b
+pub knows-Or : (scope : LeafNames) (a b : Condition) → knows scope (Or a b) ≡ knows scope a && knows scope b
 knows-Or scope a b = search (rules, the_lemmas)
 
-knows-Not : (scope : LeafNames) (a : Condition) → knows scope (Not a) ≡ knows scope a
+pub knows-Not : (scope : LeafNames) (a : Condition) → knows scope (Not a) ≡ knows scope a
 knows-Not scope a = search (rules, the_lemmas)
 
-knows-Time :
+pub knows-Time :
     (scope : LeafNames) (unit : List ℕ) (phase : Operand) (duration : ℤ)
     → knows scope (Time unit phase duration) ≡ is_among unit scope.units && knows_operand scope phase
 knows-Time scope unit phase duration = search (rules, the_lemmas)

@@ -34,8 +34,9 @@ pub data Part : Type 0 where
   tests : Arms → Part
   defining : List Parameter → Statements → Part
 
--- the part stands in another part, or is it: it sees `there` where the other one sees `here`; of an argument for an
--- array, which is a name or `word->variable`, no part is told [own]
+-- the part stands in another part, or is it: it sees `there` where the other one sees `here`. Of two places no part is
+-- told, since files without check faults have none there: inside an argument for an array, which is a name or
+-- `word->variable`, and in the arguments of a call statement that does nothing [own]
 pub data StandsIn (at : Context) (inner : Part) (there : Sight) : Part → Sight → Type 0 where
   itself : StandsIn at inner there inner there
   -- expressions

@@ -18,4 +18,5 @@ pub mod CheckCases
 pub mod PlaceCases
 pub mod ArrayCases
 pub mod HelperCases
+pub mod AcceptedLaws
 pub mod AcceptedCases

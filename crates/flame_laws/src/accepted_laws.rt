@@ -1,6 +1,14 @@
-//! Acceptance, on small sources. A law is its contract: it computes nothing.
+//! Laws of acceptance, and small sources. A law is its contract: it computes nothing.
 
+ghost use Rattle.flame_laws.specs.AcceptedLaws.{ConditionsAreReadable, FiltersAreReadable};
 ghost use Rattle.flame_laws.specs.AcceptedCases.{NothingIsAccepted, LoneFunctionIsAccepted, FormedCase, StartsCase};
+
+/// The conditions and filters of an accepted source can be read by columns, where memories and messages are not too wide:
+/// the unit of each time condition has a length, and a filter has no time condition.
+pub fn accepted_conditions()
+    ensures conditions { ConditionsAreReadable }
+    ensures filters { FiltersAreReadable }
+{}
 
 /// Sources that are accepted, parts of models that are well formed, and types with and without one start state, worked
 /// by hand.

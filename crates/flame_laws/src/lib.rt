@@ -12,7 +12,7 @@ mod tree_laws;
 mod used_laws;
 mod view_laws;
 
-pub use accepted_laws::accepted_cases;
+pub use accepted_laws::{accepted_cases, accepted_conditions};
 pub use check_laws::{
     check_faults_stand_in_files, checked_calls, checked_functions, checked_loops, checked_names,
 };
