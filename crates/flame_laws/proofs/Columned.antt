@@ -9,7 +9,8 @@ use denote.Hole.Carrier.{hidden}
 use Rattle.flame_ops.specs.declared.integers.Op.{Op}
 use Rattle.flame_spec.specs.declared.conditions.Condition.{Condition, Compare, And, Or, Not, Time, And', Or', Not'}
 use Rattle.flame_spec.specs.declared.conditions.Condition.{more_of-Condition, end_of-Condition, the_lemmas}
-use Rattle.flame_spec.specs.declared.conditions.Condition.TheBlock.{shape-the_row-Condition-0, hidden-the_row-Condition-0}
+use Rattle.flame_spec.specs.declared.conditions.Condition.TheBlock.{shape-the_row-Condition-0}
+use Rattle.flame_spec.specs.declared.conditions.Condition.TheBlock.{hidden-the_row-Condition-0}
 use Rattle.flame_spec.specs.declared.conditions.Operand.{Operand}
 use Rattle.flame_spec.specs.declared.models.Model.{Model}
 use Rattle.flame_spec.specs.declared.models.MessageType.{MessageType}
@@ -24,7 +25,8 @@ use Rattle.flame_spec.specs.TimeUnits.{unit_length}
 use Rattle.flame_spec.specs.Conditions.{agent_scope, input_scope, is_length, has_lengths, IsReadable}
 use Rattle.flame_spec.specs.FunctionFaults.{condition_scope}
 use Rattle.flame_spec.specs.Leaves.{LeafNames}
-use Rattle.flame_spec.specs.WellFormed.{is_well_formed, is_well_formed_unit, is_well_formed_agent, is_well_formed_function}
+use Rattle.flame_spec.specs.WellFormed.{is_well_formed, is_well_formed_unit, is_well_formed_agent}
+use Rattle.flame_spec.specs.WellFormed.{is_well_formed_function}
 use Rattle.flame_spec.specs.WellFormed.{is_well_formed_input, is_well_formed_filter, is_well_formed_condition}
 use Rattle.flame_spec.specs.WellFormed.{is_well_formed_variable, is_well_formed_message}
 use Rattle.flame_spec.specs.Names.{is_name, is_filled}
@@ -93,7 +95,8 @@ formed-Or a b = search (rules, the_lemmas)
 formed-Not : (a : Condition) → is_well_formed_filter (Not a) ≡ is_well_formed_filter a
 formed-Not a = search (rules, the_lemmas)
 
-formed-Time : (unit : List ℕ) (phase : Operand) (duration : ℤ) → is_well_formed_filter (Time unit phase duration) ≡ false
+formed-Time : (unit : List ℕ) (phase : Operand) (duration : ℤ)
+    → is_well_formed_filter (Time unit phase duration) ≡ false
 formed-Time unit phase duration = search (rules, the_lemmas)
 
 -- ---- lengths
@@ -176,7 +179,8 @@ inputs_formed function h =
     (right_true (is_filled function.next) _ (right_true (is_filled function.current) _
     (right_true (is_name function.name) _ h))))
 
-filter_formed : (input : Input) → is_well_formed_input input ≡ true → option_map_or is_well_formed_filter input.filter true ≡ true
+filter_formed : (input : Input) → is_well_formed_input input ≡ true
+    → option_map_or is_well_formed_filter input.filter true ≡ true
 filter_formed input h =
     left_true (option_map_or is_well_formed_filter input.filter true) _ (right_true (is_name input.message) _ h)
 
@@ -202,7 +206,8 @@ condition_readable source i j type function condition is at_type at_function giv
     = used_declared model i j type function is.named at_type at_function in
     record {
       lengths =
-          condition_lengths (condition_scope (declared_by model) (variable_names type.memory)) model.units condition refl
+          condition_lengths
+          (condition_scope (declared_by model) (variable_names type.memory)) model.units condition refl
           (all_known units_path model.units (units_none model is.named) formed) (used.condition condition given);
       periods = λ k d inside.
           period_positive (get_or model.units k d)
@@ -224,8 +229,10 @@ pub filter_readable :
     → width message.variables < 2 ^ 32
     → IsReadable (input_scope type message) filter
 filter_readable source i j k type function input filter message is at_type at_function at_input given narrow thin =
-    let of_type = all_at is_well_formed_agent source.model.agents i type (agents_formed source.model is.formed) at_type in
-    let of_function = all_at is_well_formed_function type.functions j function (functions_formed type of_type) at_function in
+    let of_type =
+    all_at is_well_formed_agent source.model.agents i type (agents_formed source.model is.formed) at_type in
+    let of_function =
+    all_at is_well_formed_function type.functions j function (functions_formed type of_type) at_function in
     let of_input = all_at is_well_formed_input function.inputs k input (inputs_formed function of_function) at_input in
     record {
       lengths =

@@ -21,7 +21,8 @@ ConditionsAreReadable =
     → width type.memory < 2 ^ 32
     → IsReadable (agent_scope type source.model.units) condition
 
--- the filter of an input of an accepted source can be read, where the memory and the message are not too wide for columns
+-- the filter of an input of an accepted source can be read, where the memory and the message are not too wide for
+-- columns
 abbrev pub FiltersAreReadable : Type 0
 FiltersAreReadable =
     (source : Source) (i j k : ℕ) (type : AgentType) (function : Function) (input : Input) (filter : Condition)

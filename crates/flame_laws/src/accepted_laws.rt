@@ -3,8 +3,8 @@
 ghost use Rattle.flame_laws.specs.AcceptedLaws.{ConditionsAreReadable, FiltersAreReadable};
 ghost use Rattle.flame_laws.specs.AcceptedCases.{NothingIsAccepted, LoneFunctionIsAccepted, FormedCase, StartsCase};
 
-/// The conditions and filters of an accepted source can be read by columns, where memories and messages are not too wide:
-/// the unit of each time condition has a length, and a filter has no time condition.
+/// The conditions and filters of an accepted source can be read by columns, where memories and messages are not too
+/// wide: the unit of each time condition has a length, and a filter has no time condition.
 pub fn accepted_conditions()
     ensures conditions { ConditionsAreReadable }
     ensures filters { FiltersAreReadable }
