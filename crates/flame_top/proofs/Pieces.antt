@@ -2,7 +2,7 @@
 use Rattle.std.proofs.Common.{◌≡◌, ◌≢◌, ℕ, zero, suc, ◌<◌, List, [], ◌∷◌, length, take, drop, get_or, Bool, true, false, nat_eq, refl, sym, ap, ◌∙◌, subst, arith}
 use Rattle.std.specs.List.{prefix_len}
 use Rattle.std.proofs.lemmas.Bool.{and_left, ne_eqb}
-use Rattle.flame_spec.specs.Names.{is_word_byte}
+use Rattle.flame_ops.specs.Ascii.{is_word_byte}
 use Rattle.flame_top.specs.NarrowPieces.{joined, pieces_of, space, newline, tokens_from}
 use Rattle.std.specs.Str.{bytes_eq}
 use Rattle.flame_top.specs.Blanks.{BeginsWithNoBlank}

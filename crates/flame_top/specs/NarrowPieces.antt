@@ -1,7 +1,7 @@
 -- The pieces of a function file: the longest words and numbers, and each other byte by itself.
 use Rattle.std.specs.Prelude.{ℕ, ◌+◌, List, [], ◌∷◌, ◌++◌, ◌&&◌, if◌then◌else◌}
 use Rattle.std.specs.Str.{bytes_eq}
-use Rattle.flame_spec.specs.Names.{is_word_byte}
+use Rattle.flame_ops.specs.Ascii.{is_word_byte}
 
 -- a byte put before pieces: it joins the first of them where both are of letters, digits and `_` [C, 6.4]
 abbrev pub joined : ℕ → List (List ℕ) → List (List ℕ)

@@ -3,7 +3,7 @@
 ghost use Rattle.std.specs.Prelude.{◌≡◌, ◌<◌, ◌≤◌, ◌+◌, ◌^◌, ◌==◌, [], ◌∷◌, length, take, drop, map, codes, IfOk, MatchOption};
 ghost use Rattle.std.specs.List.{prefix_len};
 ghost use Rattle.flame_top.specs.Blanks.{BeginsWithNoBlank};
-ghost use Rattle.flame_spec.specs.Names.{is_word_byte};
+ghost use Rattle.flame_ops.specs.Ascii.{is_word_byte};
 ghost use Rattle.flame_top.specs.NarrowPieces.{pieces_of, tokens_from, tokens_of};
 ghost use Rattle.flame_top.specs.NarrowReading.{after_texts, has_leading_zero, is_numeral, number_after, number_of, operand_of, op_of, sign_of, links_of, sum_of, value_of, assignments_of, body_of, source_of};
 

@@ -1,7 +1,7 @@
 -- The piece at the front is a word or one mark.
 use Rattle.std.proofs.Common.{sym, ◌∙◌, arith}
 use Rattle.std.proofs.lemmas.List.Sums.{prefix_len-le-length}
-use Rattle.flame_spec.specs.Names.{is_word_byte}
+use Rattle.flame_ops.specs.Ascii.{is_word_byte}
 use Rattle.flame_top.proofs.Pieces.{pieces_of-word, pieces_of-mark}
 use Rattle.flame_top.proofs.function_file.piece_len.Goals as goal
 

@@ -1,6 +1,6 @@
 -- A function file is read as what its pieces spell, and as nothing else.
 use Rattle.std.proofs.Common.{◌≡◌, ℕ, List, [], ◌∷◌, true, false, ◌&&◌, cond, refl, ap, ◌∙◌}
-use Rattle.flame_spec.specs.Names.{is_word_byte}
+use Rattle.flame_ops.specs.Ascii.{is_word_byte}
 use Rattle.flame_top.specs.NarrowPieces.{joined, pieces_of, laid}
 use Rattle.flame_top.proofs.Spelling.{source_of-spelled, source_of-read}
 use Rattle.flame_top.proofs.laws.function_files.Goals as goal
