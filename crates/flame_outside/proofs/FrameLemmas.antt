@@ -16,7 +16,9 @@ pub with_bytes-none : (written : Option (List ℕ)) → with_bytes [] written �
 with_bytes-none None = refl
 with_bytes-none (Some bytes) = ap Some (append-nil bytes)
 
-pub with_bytes-both : (x y : List ℕ) (written : Option (List ℕ)) → with_bytes y (with_bytes x written) ≡ with_bytes (x ++ y) written
+pub with_bytes-both :
+    (x y : List ℕ) (written : Option (List ℕ))
+    → with_bytes y (with_bytes x written) ≡ with_bytes (x ++ y) written
 with_bytes-both x y None = refl
 with_bytes-both x y (Some bytes) = ap Some (append_assoc bytes x y)
 
@@ -128,10 +130,17 @@ reads_fall old new only = record { reads = only.reads; puts = le_same old.put_fa
 pub puts_fall : (old new : SeenDepot) → OnlyPuts old new → NeverFall old new
 puts_fall old new only = record { reads = le_same old.read_faults new.read_faults only.reads; puts = only.puts }
 
-pub reads_go_on : (old new : SeenDepot) (out : SeenSink) → OnlyReads old new → GoesOn (outside old out) (outside new out)
+pub reads_go_on :
+    (old new : SeenDepot) (out : SeenSink)
+    → OnlyReads old new
+    → GoesOn (outside old out) (outside new out)
 reads_go_on old new out only = record { counts = reads_fall old new only; calm = only.calm; output = grows_same out }
 
-pub puts_go_on : (old new : SeenDepot) (out out' : SeenSink) → OnlyPuts old new → Grows out out' → GoesOn (outside old out) (outside new out')
+pub puts_go_on :
+    (old new : SeenDepot) (out out' : SeenSink)
+    → OnlyPuts old new
+    → Grows out out'
+    → GoesOn (outside old out) (outside new out')
 puts_go_on old new out out' only grows = record { counts = puts_fall old new only; calm = only.calm; output = grows }
 
 pub frames_go_on : FramesGoOn
@@ -144,7 +153,12 @@ not_calm_before : (old new : Bool) → (IsTrue old → IsTrue new) → IsFalse n
 not_calm_before false new stays not_calm = refl
 not_calm_before true new stays not_calm = absurd (true≢false (sym (stays refl) ∙ not_calm))
 
-pub read_last : (old mid new : SeenDepot) → NeverFall old mid → StaysCalm old mid → ReadFailed mid new → ReadFailed old new
+pub read_last :
+    (old mid new : SeenDepot)
+    → NeverFall old mid
+    → StaysCalm old mid
+    → ReadFailed mid new
+    → ReadFailed old new
 read_last old mid new counts calm failed = record {
   rose = Rose_within old.read_faults mid.read_faults new.read_faults new.read_faults counts.reads (le_refl new.read_faults) failed.rose;
   not_calm = not_calm_before old.calm mid.calm calm.stays failed.not_calm;

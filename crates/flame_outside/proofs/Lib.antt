@@ -1,5 +1,6 @@
 pub mod FrameLemmas
 pub mod ScriptLemmas
+pub mod TellingLemmas
 mod AnswerLemmas
 mod PutLemmas
 mod RaisedLemmas

@@ -29,7 +29,9 @@ get-insert_other files name bytes other differs =
     ] refl
 
 -- to insert a file leaves every other name
-OthersStay-insert : (files : Files) (name bytes : List ℕ) → OthersStay name (Some files) (Some (insert files name bytes))
+OthersStay-insert :
+    (files : Files) (name bytes : List ℕ)
+    → OthersStay name (Some files) (Some (insert files name bytes))
 OthersStay-insert files name bytes other differs = ap Some (get-insert_other files name bytes other differs)
 
 -- and so does a put, whatever it answers
@@ -45,7 +47,10 @@ OthersStay-put old new name bytes =
     (λ other differs. refl) (OthersStay-insert old.files name _) (OthersStay-insert old.files name _)
 
 -- where a call fails, some are listed
-not_calm_listed : (failing : List ℕ) (counted : ℕ) → IsTrue (fails_next (record { failing = failing; counted = counted })) → IsFalse (never_fails (record { failing = failing; counted = counted }))
+not_calm_listed :
+    (failing : List ℕ) (counted : ℕ)
+    → IsTrue (fails_next (record { failing = failing; counted = counted }))
+    → IsFalse (never_fails (record { failing = failing; counted = counted }))
 not_calm_listed [] counted fails = absurd (true≢false (sym fails ∙ and_right (nat_lt counted (2 ^ 64 - 1)) false refl))
 not_calm_listed (number ∷ failing) counted fails = grind arith
 

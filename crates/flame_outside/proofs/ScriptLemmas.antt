@@ -308,10 +308,16 @@ scripts_join = record {
 
 -- ---- reads
 
-same_by_reads : (old new : SeenDepot) (out : SeenSink) → OnlyReads old new → told (outside new out) ≡ told (outside old out)
+same_by_reads :
+    (old new : SeenDepot) (out : SeenSink)
+    → OnlyReads old new
+    → told (outside new out) ≡ told (outside old out)
 same_by_reads old new out only = ap (λ files. both files out.written) only.files
 
-pub only_reads_stand : (acts : List Act) (old new : SeenDepot) (out : SeenSink) → OnlyReads old new → StandsAt acts 0 (outside old out) (outside new out)
+pub only_reads_stand :
+    (acts : List Act) (old new : SeenDepot) (out : SeenSink)
+    → OnlyReads old new
+    → StandsAt acts 0 (outside old out) (outside new out)
 only_reads_stand acts old new out only =
     nothing_stands acts (outside old out) (outside new out) (same_by_reads old new out only)
 
@@ -349,7 +355,9 @@ stands_on acts done old mid new s same on = record { few = s.few; stands = still
     stood : Told
     stood = after_acts (take done acts) (told old)
 
-    still : (told mid ≡ stood) ⊎ BreaksOff (drop done acts) stood old mid → (told new ≡ stood) ⊎ BreaksOff (drop done acts) stood old new
+    still :
+        (told mid ≡ stood) ⊎ BreaksOff (drop done acts) stood old mid
+        → (told new ≡ stood) ⊎ BreaksOff (drop done acts) stood old new
     still (inl whole) = inl (same ∙ whole)
     still (inr off) = inr (breaks_before (drop done acts) stood old mid new same on off)
 

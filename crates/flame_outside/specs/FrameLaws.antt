@@ -37,8 +37,18 @@ pub record FramesGoOn : Type 0 where
 
 -- a failure in what is done last, or before other calls, is one in the whole [own]
 pub record FailuresStay : Type 0 where
-  pub read_last : (old mid new : SeenDepot) → NeverFall old mid → StaysCalm old mid → ReadFailed mid new → ReadFailed old new
-  pub put_last : (old mid new : SeenDepot) → NeverFall old mid → StaysCalm old mid → PutFailed mid new → PutFailed old new
+  pub read_last :
+      (old mid new : SeenDepot)
+      → NeverFall old mid
+      → StaysCalm old mid
+      → ReadFailed mid new
+      → ReadFailed old new
+  pub put_last :
+      (old mid new : SeenDepot)
+      → NeverFall old mid
+      → StaysCalm old mid
+      → PutFailed mid new
+      → PutFailed old new
   pub write_last : (old mid new : SeenSink) → Grows old mid → WriteFailed mid new → WriteFailed old new
   pub read_first : (old mid new : SeenDepot) → NeverFall mid new → ReadFailed old mid → ReadFailed old new
   pub put_first : (old mid new : SeenDepot) → NeverFall mid new → PutFailed old mid → PutFailed old new

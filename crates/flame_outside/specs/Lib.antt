@@ -10,6 +10,7 @@ pub mod Frames
 pub mod Scripts
 pub mod FrameLaws
 pub mod ScriptLaws
+pub mod WhatIsTold
 -- The devices of this crate: in memory, and the real ones.
 pub mod Calls
 pub mod Memory

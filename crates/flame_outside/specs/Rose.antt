@@ -2,7 +2,7 @@
 use Rattle.std.specs.Prelude.{ℕ, ◌<◌, ◌≤◌, ◌-◌, ◌^◌, ◌⊎◌}
 use Rattle.std.proofs.Common.{inl, inr, arith}
 
--- a count went up, or stands at the last number that it can count to
+-- a count went up, or stands at the last number that it can count to [own]
 abbrev pub Rose : ℕ → ℕ → Type 0
 Rose old new = (old < new) ⊎ (2 ^ 64 - 1 ≤ new)
 

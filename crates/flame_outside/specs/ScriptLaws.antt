@@ -7,7 +7,7 @@ use Rattle.flame_outside.specs.Frames.{OnlyReads}
 use Rattle.flame_outside.specs.Failures.{PutFailed, WriteFailed}
 use Rattle.flame_outside.specs.Scripts.{Act, puts, prints, puts_in, Outside, outside, told, StandsWhole, StandsAt, FailsAt, GoesOn}
 
--- where nothing is told to have changed, no act of the script stands; of a script of no acts nothing else can stand [own]
+-- where nothing is told to have changed, no act stands yet; of a script of no acts nothing else can stand [own]
 pub record NoActs : Type 0 where
   pub nothing_done : (acts : List Act) (old new : Outside) → told new ≡ told old → StandsAt acts 0 old new
   pub no_acts : (done : ℕ) (old new : Outside) → StandsAt [] done old new → (done ≡ 0) × (told new ≡ told old)
@@ -52,7 +52,10 @@ pub record LoneActs : Type 0 where
 -- a script that stands whole stands with all its acts, and the other way round [own]
 pub record WholeScripts : Type 0 where
   pub all_stand : (acts : List Act) (old new : Outside) → StandsWhole acts old new → StandsAt acts (length acts) old new
-  pub stands_all : (acts : List Act) (old new : Outside) → StandsAt acts (length acts) old new → StandsWhole acts old new
+  pub stands_all :
+      (acts : List Act) (old new : Outside)
+      → StandsAt acts (length acts) old new
+      → StandsWhole acts old new
   pub first_stand :
       (acts : List Act) (done : ℕ) (old new : Outside)
       → done ≤ length acts
@@ -89,7 +92,10 @@ pub record ScriptsJoin : Type 0 where
 
 -- reads leave a script as it stood: before it, and behind it [own]
 pub record ReadsStandAside : Type 0 where
-  pub only_reads : (acts : List Act) (old new : SeenDepot) (out : SeenSink) → OnlyReads old new → StandsAt acts 0 (outside old out) (outside new out)
+  pub only_reads :
+      (acts : List Act) (old new : SeenDepot) (out : SeenSink)
+      → OnlyReads old new
+      → StandsAt acts 0 (outside old out) (outside new out)
   pub before :
       (acts : List Act) (done : ℕ) (old mid : SeenDepot) (out : SeenSink) (new : Outside)
       → OnlyReads old mid

@@ -22,6 +22,7 @@ pub record Outside : Type 0 where
   pub depot : SeenDepot
   pub output : SeenSink
 
+-- this depot with this output [own]
 abbrev pub outside : SeenDepot → SeenSink → Outside
 outside depot output = record { depot = depot; output = output }
 
@@ -30,6 +31,7 @@ pub record Told : Type 0 where
   pub files : Option Files
   pub written : Option (List ℕ)
 
+-- what is told of both [own]
 abbrev pub told : Outside → Told
 told out = record { files = out.depot.files; written = out.output.written }
 

@@ -10,8 +10,7 @@ ghost use Rattle.flame_outside.specs.Told.{bytes_of};
 ghost use Rattle.flame_outside.specs.declared.depot.ReadFail.TheVariants as read_fail;
 ghost use Rattle.flame_outside.specs.declared.depot.PutFail.TheVariants as put_fail;
 
-use flame_rows::NoMemory;
-use flame_rows::Blob;
+use flame_rows::{Blob, NoMemory};
 use thiserror::Error;
 
 /// What a read found.

@@ -6,8 +6,7 @@ ghost use Rattle.flame_outside.specs.Told.{bytes_of};
 ghost use Rattle.flame_outside.specs.Memory.{total_of};
 
 use crate::depot::Got;
-use flame_rows::NoMemory;
-use flame_rows::Blob;
+use flame_rows::{Blob, NoMemory};
 use std::alloc::Global;
 use std::collections::BTreeMap;
 use std::marker::Model;

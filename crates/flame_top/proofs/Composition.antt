@@ -60,7 +60,12 @@ reaches_more files all rest last name bytes line old mid new turned r stands on 
 
 -- ---- what stands
 
-ends_behind : (ending : Ending) (all rest : Report) → rest.status ≡ all.status → rest.error ≡ all.error → Ends ending rest → Ends ending all
+ends_behind :
+    (ending : Ending) (all rest : Report)
+    → rest.status ≡ all.status
+    → rest.error ≡ all.error
+    → Ends ending rest
+    → Ends ending all
 ends_behind Done all rest status error e = (sym status ∙ e.0, sym error ∙ e.1)
 ends_behind (Refused early) all rest status error e = (sym status ∙ e.0, sym error ∙ e.1)
 ends_behind (Faulted line) all rest status error e = (sym status ∙ e.0, sym error ∙ e.1)

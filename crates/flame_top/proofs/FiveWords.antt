@@ -1,7 +1,7 @@
 -- Command lines of five words.
 use Rattle.std.proofs.Common.{◌≡◌, ◌≢◌, List, [], ◌∷◌, length, map, None, refl, sym, String, string_bytes, arith, get_or}
 use Rattle.std.specs.declared.alloc.Global.{Global}
-use Rattle.flame_top.specs.Orders.{order_of, run_of}
+use Rattle.flame_top.specs.RunOrders.{order_of, run_of}
 
 abbrev Word : Type 0
 Word = String Global

@@ -22,13 +22,20 @@ module _ (model : NarrowModel) (sums : List Sum) (out : List ℕ) where
       ap (λ n. after_turn model out (itno + 1) (iteration sums agents) (run model sums out n (itno + 1))) same
 
   -- what is left where no iteration is
-  pub run-nothing : (left itno : ℕ) (agents : List (List ℤ)) → left ≡ 0 → run model sums out left itno agents ≡ ended [] 0
+  pub run-nothing :
+      (left itno : ℕ) (agents : List (List ℤ))
+      → left ≡ 0
+      → run model sums out left itno agents ≡ ended [] 0
   run-nothing left itno agents none = ap (λ n. run model sums out n itno agents) none
 
   abbrev pub turn_of : ℕ → List (List ℤ) → Report → Report
   turn_of itno next = with_turn (file_name out itno) (file_text model itno next) (line_text itno next)
 
-  pub run-Ok : (left itno : ℕ) (agents next : List (List ℤ)) → 0 < left → iteration sums agents ≡ Ok next → run model sums out left itno agents ≡ turn_of (itno + 1) next (run model sums out (left - 1) (itno + 1) next)
+  pub run-Ok :
+      (left itno : ℕ) (agents next : List (List ℤ))
+      → 0 < left
+      → iteration sums agents ≡ Ok next
+      → run model sums out left itno agents ≡ turn_of (itno + 1) next (run model sums out (left - 1) (itno + 1) next)
   run-Ok left itno agents next more turned =
       run-turn left itno agents more
       ∙ ap (λ r. after_turn model out (itno + 1) r (run model sums out (left - 1) (itno + 1))) turned
@@ -37,7 +44,11 @@ module _ (model : NarrowModel) (sums : List Sum) (out : List ℕ) where
   abbrev pub left_of : ℕ → ℕ → ℕ → List (List ℤ) → Report
   left_of turns itno done agents = run model sums out (turns - done) (itno + done) agents
 
-  left-next : (turns itno done : ℕ) (agents next : List (List ℤ)) → done < turns → iteration sums agents ≡ Ok next → left_of turns itno done agents ≡ turn_of (itno + done + 1) next (left_of turns itno (done + 1) next)
+  left-next :
+      (turns itno done : ℕ) (agents next : List (List ℤ))
+      → done < turns
+      → iteration sums agents ≡ Ok next
+      → left_of turns itno done agents ≡ turn_of (itno + done + 1) next (left_of turns itno (done + 1) next)
   left-next turns itno done agents next more turned =
       let fewer : turns - done - 1 ≡ turns - (done + 1) = omega arith in
       let later : itno + done + 1 ≡ itno + (done + 1) = omega arith in
@@ -59,7 +70,8 @@ module _ (model : NarrowModel) (sums : List Sum) (out : List ℕ) where
 
   -- an iteration that stops, after those that are done
   pub stops_at :
-      (ending : Ending) (files : ℕ) (all : Report) (turns itno done : ℕ) (agents : List (List ℤ)) (old mid new : Outside)
+      (ending :
+      Ending) (files : ℕ) (all : Report) (turns itno done : ℕ) (agents : List (List ℤ)) (old mid new : Outside)
       → done < turns
       → Reaches done all (left_of turns itno done agents) old mid
       → ((rest : List (List ℤ) → Report)

@@ -10,14 +10,17 @@ use Rattle.flame_top.specs.NarrowRuns.{Report}
 use Rattle.flame_top.specs.declared.early.Early.TheVariants.{Words, Missing, NotJson, NotBuilt}
 use Rattle.flame_top.specs.declared.ending.Ending.{Ending}
 use Rattle.flame_top.specs.declared.ending.Ending.TheVariants.{Done, Refused, Faulted, ReadFault, FileFault, OutputFault, NoMemory}
-use Rattle.flame_top.specs.Orders.{Run}
-use Rattle.flame_top.specs.Endings.{status_of, line_of}
+use Rattle.flame_top.specs.RunOrders.{Run}
+use Rattle.flame_top.specs.EndingLines.{status_of, line_of}
 use Rattle.flame_top.specs.Standing.{IsReported, Ends, IsWhole, Blames, Stands}
 use Rattle.flame_top.specs.Carrying.{ReachesInput, RefusesWords, IsOrdered, IsCaused}
 use Rattle.flame_top.specs.Telling.{Tells, TellsEnding, Answers}
-use Rattle.flame_top.specs.Failing.{FailsToRead, FailsToWrite, Leaves}
+use Rattle.flame_top.specs.DeviceFaults.{FailsToRead, FailsToWrite, Leaves}
 
-pub leaves : (ending : Ending) (files : ℕ) (report : Report) (old new : Outside) → Stands ending files report old new → Leaves report.acts files old new
+pub leaves :
+    (ending : Ending) (files : ℕ) (report : Report) (old new : Outside)
+    → Stands ending files report old new
+    → Leaves report.acts files old new
 leaves ending files report old new s = record { done = s.done; has_done = s.has_done }
 
 -- ---- the whole report
@@ -76,11 +79,21 @@ module _ (ending : Ending) (files : ℕ) (report : Report) (old new : Outside) (
 
   -- ---- causes
 
-  pub fails_to_read : (told : Files) (order : Option Run) → ReachesInput told order ending → Answers ending status err err' → status ≡ 5 → FailsToRead told order err err'
+  pub fails_to_read :
+      (told : Files) (order : Option Run)
+      → ReachesInput told order ending
+      → Answers ending status err err'
+      → status ≡ 5
+      → FailsToRead told order err err'
   fails_to_read told order reached (inr lacks) five = absurd (omega (arith, lacks.status_is, five))
   fails_to_read told order reached (inl tells) five = by_ending ending order (sym tells.status_is ∙ five) reached tells.line
     where
-      by_ending : (e : Ending) (o : Option Run) → status_of e ≡ 5 → ReachesInput told o e → Tells (line_of e) err err' → FailsToRead told o err err'
+      by_ending :
+          (e : Ending) (o : Option Run)
+          → status_of e ≡ 5
+          → ReachesInput told o e
+          → Tells (line_of e) err err'
+          → FailsToRead told o err err'
       by_ending Done o n r t = absurd (omega (arith, n))
       by_ending (Refused Words) o n r t = absurd (omega (arith, n))
       by_ending (Refused (Missing name)) o n r t = absurd (omega (arith, n))
@@ -98,7 +111,12 @@ module _ (ending : Ending) (files : ℕ) (report : Report) (old new : Outside) (
   fails_to_write (inr lacks) six = absurd (omega (arith, lacks.status_is, six))
   fails_to_write (inl tells) six = by_ending ending (sym tells.status_is ∙ six) s.blames tells.line
     where
-      by_ending : (e : Ending) → status_of e ≡ 6 → Blames e report.acts s.done old new → Tells (line_of e) err err' → FailsToWrite report.acts files old new err err'
+      by_ending :
+          (e : Ending)
+          → status_of e ≡ 6
+          → Blames e report.acts s.done old new
+          → Tells (line_of e) err err'
+          → FailsToWrite report.acts files old new err err'
       by_ending Done n b t = absurd (omega (arith, n))
       by_ending (Refused Words) n b t = absurd (omega (arith, n))
       by_ending (Refused (Missing name)) n b t = absurd (omega (arith, n))
@@ -139,12 +157,22 @@ words_by_two OutputFault n = absurd (omega (arith, n))
 words_by_two NoMemory n = absurd (omega (arith, n))
 
 module _ (ending : Ending) (status : ℕ) (err err' : SeenSink) where
-  pub refused_words : (order : Option Run) → IsOrdered order ending → Answers ending status err err' → IsNone order → (status ≡ 2) ⊎ (status ≡ 4)
+  pub refused_words :
+      (order : Option Run)
+      → IsOrdered order ending
+      → Answers ending status err err'
+      → IsNone order
+      → (status ≡ 2) ⊎ (status ≡ 4)
   refused_words None ordered (inl told) none = inl (told.status_is ∙ two_by_words ending ordered)
   refused_words None ordered (inr lacks) none = inr lacks.status_is
   refused_words (Some order) ordered a none = absurd (cc none)
 
-  pub words_refused : (order : Option Run) → IsOrdered order ending → Answers ending status err err' → status ≡ 2 → IsNone order
+  pub words_refused :
+      (order : Option Run)
+      → IsOrdered order ending
+      → Answers ending status err err'
+      → status ≡ 2
+      → IsNone order
   words_refused None ordered a two = refl
   words_refused (Some order) ordered (inl told) two = absurd (ordered (words_by_two ending (sym told.status_is ∙ two)))
   words_refused (Some order) ordered (inr lacks) two = absurd (omega (arith, lacks.status_is, two))
@@ -152,7 +180,12 @@ module _ (ending : Ending) (status : ℕ) (err err' : SeenSink) where
 -- ---- no device to blame
 
 module _ (report : Report) (status : ℕ) (old new : Outside) (reads : ¬ ReadFailed old.depot new.depot) (puts : ¬ PutFailed old.depot new.depot) (writes : ¬ WriteFailed old.output new.output) where
-  complete_by : (ending : Ending) → Ends ending report → IsCaused ending old new → status ≡ status_of ending → (status ≡ report.status) ⊎ (status ≡ 4)
+  complete_by :
+      (ending : Ending)
+      → Ends ending report
+      → IsCaused ending old new
+      → status ≡ status_of ending
+      → (status ≡ report.status) ⊎ (status ≡ 4)
   complete_by Done e c same = inl (same ∙ sym e.0)
   complete_by (Refused early) e c same = inl (same ∙ sym e.0)
   complete_by (Faulted line) e c same = inl (same ∙ sym e.0)
@@ -161,6 +194,11 @@ module _ (report : Report) (status : ℕ) (old new : Outside) (reads : ¬ ReadFa
   complete_by OutputFault e c same = absurd (writes c)
   complete_by NoMemory e c same = inr same
 
-  pub complete : (ending : Ending) (err err' : SeenSink) → Ends ending report → IsCaused ending old new → Answers ending status err err' → (status ≡ report.status) ⊎ (status ≡ 4)
+  pub complete :
+      (ending : Ending) (err err' : SeenSink)
+      → Ends ending report
+      → IsCaused ending old new
+      → Answers ending status err err'
+      → (status ≡ report.status) ⊎ (status ≡ 4)
   complete ending err err' e c (inl told) = complete_by ending e c told.status_is
   complete ending err err' e c (inr lacks) = inr lacks.status_is

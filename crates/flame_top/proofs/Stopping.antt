@@ -6,7 +6,7 @@ use Rattle.flame_top.specs.declared.early.Early.{Early}
 use Rattle.flame_top.specs.declared.ending.Ending.{Ending}
 use Rattle.flame_top.specs.declared.ending.Ending.TheVariants.{Done, Refused, Faulted, ReadFault, FileFault, OutputFault, NoMemory}
 use Rattle.flame_top.specs.declared.load.Inputs.{Inputs}
-use Rattle.flame_top.specs.Orders.{Run}
+use Rattle.flame_top.specs.RunOrders.{Run}
 use Rattle.flame_top.specs.Loading.{inputs_of, IsReached}
 use Rattle.flame_top.specs.Loaded.{Stops}
 use Rattle.flame_top.specs.Reports.{run_report, order_report}
@@ -15,7 +15,10 @@ use Rattle.flame_top.specs.Standing.{Stands}
 use Rattle.flame_top.proofs.Composition.{unchanged}
 
 module _ (run : Run) (told_files : Files) (old new : Outside) (same : told new ≡ told old) where
-  stands_at : (ending : Ending) (reading : Result Inputs Early) → Stops (IsReached told_files run) ending reading → Stands ending 0 (run_report run reading) old new
+  stands_at :
+      (ending : Ending) (reading : Result Inputs Early)
+      → Stops (IsReached told_files run) ending reading
+      → Stands ending 0 (run_report run reading) old new
   stands_at Done reading stops = absurd stops
   stands_at (Refused early) reading stops =
       subst (λ (r : Result Inputs Early). Stands (Refused early) 0 (run_report run r) old new) (sym stops)
@@ -27,11 +30,18 @@ module _ (run : Run) (told_files : Files) (old new : Outside) (same : told new �
   stands_at NoMemory reading stops = unchanged NoMemory (run_report run reading) old new same tt (λ w. absurd w) tt
 
   -- loading that stops leaves of the report what an order without files leaves
-  pub stands_before_run : (ending : Ending) (order : Option Run) → Some run ≡ order → Stops (IsReached told_files run) ending (inputs_of told_files run) → Stands ending 0 (order_report told_files order) old new
+  pub stands_before_run :
+      (ending : Ending) (order : Option Run)
+      → Some run ≡ order
+      → Stops (IsReached told_files run) ending (inputs_of told_files run)
+      → Stands ending 0 (order_report told_files order) old new
   stands_before_run ending order given stops =
       subst (λ (o : Option Run). Stands ending 0 (order_report told_files o) old new) given (stands_at ending (inputs_of told_files run) stops)
 
-reaches_at : (told : Files) (run : Run) (ending : Ending) (reading : Result Inputs Early) → Stops (IsReached told run) ending reading → ReachesInput told (Some run) ending
+reaches_at :
+    (told : Files) (run : Run) (ending : Ending) (reading : Result Inputs Early)
+    → Stops (IsReached told run) ending reading
+    → ReachesInput told (Some run) ending
 reaches_at told run Done reading stops = tt
 reaches_at told run (Refused early) reading stops = tt
 reaches_at told run (Faulted line) reading stops = tt
@@ -41,7 +51,11 @@ reaches_at told run OutputFault reading stops = tt
 reaches_at told run NoMemory reading stops = tt
 
 -- an input that loading could not read is one that it reached
-pub reaches_before_run : (told : Files) (run : Run) (ending : Ending) (order : Option Run) → Some run ≡ order → Stops (IsReached told run) ending (inputs_of told run) → ReachesInput told order ending
+pub reaches_before_run :
+    (told : Files) (run : Run) (ending : Ending) (order : Option Run)
+    → Some run ≡ order
+    → Stops (IsReached told run) ending (inputs_of told run)
+    → ReachesInput told order ending
 reaches_before_run told run ending order same stops =
     subst (λ (o : Option Run). ReachesInput told o ending) same (reaches_at told run ending (inputs_of told run) stops)
 

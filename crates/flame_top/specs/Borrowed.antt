@@ -2,6 +2,7 @@
 use Rattle.flame_top.specs.declared.model.NarrowModel.{NarrowModel}
 use Rattle.flame_top.specs.declared.narrow.Names.{Names}
 
+-- those names by themselves [own]
 abbrev pub names_view : Names → NarrowModel
 names_view names = record {
   file = names.file.now;

@@ -4,13 +4,13 @@ use Rattle.flame_outside.specs.Scripts.{Act, puts, prints, puts_in, Outside, Sta
 use Rattle.flame_top.specs.NarrowRuns.{Report}
 use Rattle.flame_top.specs.declared.ending.Ending.{Ending}
 use Rattle.flame_top.specs.declared.ending.Ending.TheVariants.{Done, Refused, Faulted, ReadFault, FileFault, OutputFault, NoMemory}
-use Rattle.flame_top.specs.Endings.{status_of, line_of}
+use Rattle.flame_top.specs.EndingLines.{status_of, line_of}
 
--- the report has this ending's status and its line
+-- the report has this ending's status and its line [own]
 abbrev pub IsReported : Ending → Report → Type 0
 IsReported ending report = (report.status ≡ status_of ending) × (report.error ≡ line_of ending)
 
--- an ending that blames no device and no want of memory is the report's
+-- an ending that blames no device and no want of memory is the report's [own]
 abbrev pub Ends : Ending → Report → Type 0
 Ends (ReadFault name) report = Unit {0}
 Ends (FileFault name) report = Unit {0}
@@ -18,35 +18,35 @@ Ends OutputFault report = Unit {0}
 Ends NoMemory report = Unit {0}
 Ends ending report = IsReported ending report
 
--- the ending leaves the whole report
+-- the ending leaves the whole report [own]
 abbrev pub IsWhole : Ending → Type 0
 IsWhole Done = Unit {0}
 IsWhole (Refused early) = Unit {0}
 IsWhole (Faulted line) = Unit {0}
 IsWhole ending = ⊥
 
--- the next act puts the file of this name, and the put failed
+-- the next act puts the file of this name, and the put failed [own]
 pub record FailsAtFile (name : List ℕ) (acts : List Act) (done : ℕ) (old new : Outside) : Type 0 where
   pub bytes : List ℕ
   pub fails : FailsAt acts done (puts name bytes) old new
 
--- the next act prints, and the write failed
+-- the next act prints, and the write failed [own]
 pub record FailsAtOutput (acts : List Act) (done : ℕ) (old new : Outside) : Type 0 where
   pub text : List ℕ
   pub fails : FailsAt acts done (prints text) old new
 
--- the device that the ending blames, if any, is the next act's, and it failed
+-- the device that the ending blames, if any, is the next act's, and it failed [own]
 abbrev pub Blames : Ending → List Act → ℕ → Outside → Outside → Type 0
 Blames (FileFault name) acts done old new = FailsAtFile name acts done old new
 Blames OutputFault acts done old new = FailsAtOutput acts done old new
 Blames ending acts done old new = Unit {0}
 
--- so many acts stand, and among them so many files were put
+-- so many acts stand, and among them so many files were put [own]
 pub record HasDone (acts : List Act) (done files : ℕ) (old new : Outside) : Type 0 where
   pub stands : StandsAt acts done old new
   pub count : files ≡ puts_in (take done acts)
 
--- what stands of a report when it ends so, with so many files put
+-- what stands of a report when it ends so, with so many files put [own]
 pub record Stands (ending : Ending) (files : ℕ) (report : Report) (old new : Outside) : Type 0 where
   pub done : ℕ
   pub has_done : HasDone report.acts done files old new

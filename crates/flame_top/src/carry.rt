@@ -3,7 +3,7 @@
 ghost use Rattle.std.specs.Prelude.{◌≡◌, Some, map, string_bytes};
 ghost use Rattle.flame_outside.specs.Files.{Files};
 ghost use Rattle.flame_outside.specs.Scripts.{outside, GoesOn};
-ghost use Rattle.flame_top.specs.Orders.{order_of};
+ghost use Rattle.flame_top.specs.RunOrders.{order_of};
 ghost use Rattle.flame_top.specs.Reports.{report};
 ghost use Rattle.flame_top.specs.Loaded.{IsReadFault};
 ghost use Rattle.flame_top.specs.Standing.{Stands};

@@ -19,8 +19,7 @@ use crate::source::Sum;
 use crate::start::Start;
 use crate::texts;
 use flame_outside::{Depot, PutFail, Sink, WriteFail};
-use flame_rows::Bag;
-use flame_rows::Text;
+use flame_rows::{Bag, Text};
 use std::alloc::Global;
 
 /// What a run goes by: the model, the assignments of its function, and what the names of its files begin with.

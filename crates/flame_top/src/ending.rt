@@ -3,8 +3,7 @@
 ghost use Rattle.std.specs.Prelude.{◌≡◌};
 
 use crate::early::Early;
-use flame_rows::NoMemory;
-use flame_rows::Text;
+use flame_rows::{NoMemory, Text};
 
 /// How the carrying out of an order ends.
 #[derive(Debug, Drop)]

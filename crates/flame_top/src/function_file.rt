@@ -12,8 +12,7 @@ use crate::names::is_word_byte;
 use crate::source::{Link, Operand, Sum};
 use crate::words::has_digits;
 use flame_ops::Op;
-use flame_rows::NoMemory;
-use flame_rows::Seq;
+use flame_rows::{NoMemory, Seq};
 use std::alloc::Global;
 use std::marker::Model;
 

@@ -21,9 +21,7 @@ use crate::source::Sum;
 use crate::start::Start;
 use crate::words::Order;
 use flame_outside::{Depot, Got, ReadFail};
-use flame_rows::Blob;
-use flame_rows::Seq;
-use flame_rows::Text;
+use flame_rows::{Blob, Seq, Text};
 use serde_json::Value;
 use std::alloc::Global;
 

@@ -5,9 +5,7 @@ ghost use Rattle.flame_top.specs.NarrowMeaning.{operand_value, sum_value, assign
 
 use crate::source::{Operand, Sum};
 use flame_ops::apply;
-use flame_rows::NoMemory;
-use flame_rows::Bag;
-use flame_rows::Row;
+use flame_rows::{Bag, NoMemory, Row};
 use flame_spec::Fault;
 use std::alloc::Global;
 use std::marker::Model;

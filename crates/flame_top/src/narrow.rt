@@ -11,8 +11,7 @@ ghost use Rattle.flame_top.specs.Borrowed.{names_view};
 use crate::model::NarrowModel;
 use crate::names::{is_filled, is_function_name, is_name};
 use crate::readers::{is_sized, lone, sole_at, str_at};
-use flame_rows::NoMemory;
-use flame_rows::Text;
+use flame_rows::{NoMemory, Text};
 use serde_json::Value;
 use std::alloc::Global;
 

@@ -9,9 +9,7 @@ ghost use Rattle.flame_top.specs.Populations.{int_of, memory_of, memories_of, it
 use crate::model::NarrowModel;
 use crate::readers::{is_sized, lone, str_at};
 use crate::start::Start;
-use flame_rows::NoMemory;
-use flame_rows::Bag;
-use flame_rows::Row;
+use flame_rows::{Bag, NoMemory, Row};
 use serde_json::Value;
 use std::alloc::Global;
 

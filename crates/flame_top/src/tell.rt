@@ -3,7 +3,7 @@
 ghost use Rattle.std.specs.Prelude.{◌≡◌, ◌≤◌, ◌++◌, OnOk, OnErr, codes};
 ghost use Rattle.flame_outside.specs.Printed.{PrintsFront};
 ghost use Rattle.flame_outside.specs.Frames.{Grows};
-ghost use Rattle.flame_top.specs.Endings.{status_of, line_of, no_memory_text};
+ghost use Rattle.flame_top.specs.EndingLines.{status_of, line_of, no_memory_text};
 ghost use Rattle.flame_top.specs.Reports.{refusal_text};
 ghost use Rattle.flame_top.specs.Telling.{Tells, Answers};
 
@@ -11,8 +11,7 @@ use crate::early::Early;
 use crate::ending::{Carried, Ending};
 use crate::top::Ended;
 use flame_outside::{Sink, WriteFail};
-use flame_rows::NoMemory;
-use flame_rows::Text;
+use flame_rows::{NoMemory, Text};
 use std::alloc::Global;
 
 /// What is written where memory was not found. It is a fixed text, and takes none.

@@ -6,8 +6,7 @@ ghost use Rattle.flame_top.specs.RunTexts.{agent_text, agents_text, file_text, f
 use crate::meaning::held;
 use crate::model::NarrowModel;
 use flame_ops::Cause;
-use flame_rows::NoMemory;
-use flame_rows::Row;
+use flame_rows::{NoMemory, Row};
 use flame_spec::Fault;
 use itoa::Buffer;
 use std::alloc::Global;

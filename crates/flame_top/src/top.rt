@@ -6,11 +6,11 @@ ghost use Rattle.flame_outside.specs.Printed.{PrintsFront};
 ghost use Rattle.flame_outside.specs.Frames.{Grows};
 ghost use Rattle.flame_outside.specs.Failures.{ReadFailed, PutFailed, WriteFailed};
 ghost use Rattle.flame_outside.specs.Scripts.{outside, puts_in, StandsWhole, GoesOn};
-ghost use Rattle.flame_top.specs.Orders.{order_of};
+ghost use Rattle.flame_top.specs.RunOrders.{order_of};
 ghost use Rattle.flame_top.specs.Reports.{report};
 ghost use Rattle.flame_top.specs.Telling.{Tells};
-ghost use Rattle.flame_top.specs.Endings.{no_memory_text};
-ghost use Rattle.flame_top.specs.Failing.{FailsToRead, FailsToWrite, Leaves};
+ghost use Rattle.flame_top.specs.EndingLines.{no_memory_text};
+ghost use Rattle.flame_top.specs.DeviceFaults.{FailsToRead, FailsToWrite, Leaves};
 
 use crate::carry::carry;
 use crate::tell::tell;

@@ -3,7 +3,7 @@
 ghost use Rattle.std.specs.Prelude.{◌≡◌, ◌≤◌, map, string_bytes, IfSome, option_map};
 ghost use Rattle.std.specs.List.{list_all};
 ghost use Rattle.std.specs.Char.{is_ascii_digit};
-ghost use Rattle.flame_top.specs.Orders.{turns_of, is_option, run_of, order_of};
+ghost use Rattle.flame_top.specs.RunOrders.{turns_of, is_option, run_of, order_of};
 ghost use Rattle.flame_top.specs.Ordered.{order_view};
 
 /// The order `run MODEL POP OUT N`: which model and population to run, for how many iterations, and what the names of

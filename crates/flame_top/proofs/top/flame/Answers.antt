@@ -1,5 +1,5 @@
 use Rattle.std.proofs.Common.{map, string_bytes}
-use Rattle.flame_top.specs.Orders.{order_of}
+use Rattle.flame_top.specs.RunOrders.{order_of}
 use Rattle.flame_top.proofs.Reported.{whole_status, whole_acts, whole_count, whole_error, leaves, fails_to_read, fails_to_write, refused_words, words_refused, complete}
 use Rattle.flame_top.proofs.top.flame.Goals as goal
 
