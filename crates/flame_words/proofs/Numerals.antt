@@ -6,7 +6,7 @@ use Rattle.std.specs.Result.{OkIff}
 use Rattle.std.specs.Str.Parse.{ParsesUnsigned}
 use Rattle.std.proofs.lemmas.Bool.{and_parts, ltb-true}
 use Rattle.std.proofs.lemmas.Str.Parse.{IsNumeralModel, numerals_by_fold, parse_digits}
-use Rattle.flame_words.specs.Values.{is_number, value_behind, number_value}
+use Rattle.flame_words.specs.WordValues.{is_number, value_behind, number_value}
 
 by_fold : IsNumeralModel (λ digits. list_all is_ascii_digit digits ≡ true) number_value
 by_fold = numerals_by_fold _ (search rules) value_behind (search rules)

@@ -1,9 +1,12 @@
-pub mod Table
-pub mod Values
-pub mod Roles
-pub mod Faults
-pub mod Orders
-pub mod Limits
-pub mod Laws
-pub mod Suits
-pub mod Steps
+pub mod CommandLines
+pub mod CommandTable
+pub mod WordRoles
+pub mod WordValues
+pub mod UsageFaults
+pub mod GivenOrders
+pub mod OrderLimits
+pub mod UsageTexts
+pub mod UsageLaws
+-- the program's own words
+pub mod TakenWords
+pub mod WordSteps

@@ -1,7 +1,7 @@
 //! Laws of command lines. Each function is its contract: it computes nothing.
 
-ghost use Rattle.flame_words.specs.Laws.{FirstFaultRefuses, OrderWithoutFaults, OneFaultPerWord, FaultsNameWords};
-ghost use Rattle.flame_words.specs.Laws.{ManyWordsAreRefused, OrdersAreWithin};
+ghost use Rattle.flame_words.specs.UsageLaws.{FirstFaultRefuses, OrderWithoutFaults, OneFaultPerWord, FaultsNameWords};
+ghost use Rattle.flame_words.specs.UsageLaws.{ManyWordsAreRefused, OrdersAreWithin};
 
 /// Words give an order exactly where they have no fault, and else are refused for the first of their faults.
 pub fn first_fault()

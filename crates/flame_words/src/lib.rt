@@ -1,13 +1,17 @@
 //! The command line: which order the words give, or the first fault of their usage.
 #![tactic(auto)]
 
+mod faults;
 pub mod laws;
 mod make;
-pub mod orders;
-pub mod reader;
+mod orders;
+mod reader;
 mod reading;
 mod table;
 #[cfg(test)]
 mod tests;
-pub mod usage;
 mod value;
+
+pub use faults::Usage;
+pub use orders::{How, Order, RunOrder, TrialOrder, Way};
+pub use reader::order;

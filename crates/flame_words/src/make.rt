@@ -1,17 +1,16 @@
 //! Making the order of the words that were read.
 
 ghost use Rattle.std.specs.Prelude.{◌≡◌, ◌<◌, ◌≤◌, length, IfOk};
-ghost use Rattle.flame_words.specs.Orders.{value_of, how_of, word_at, run_of, trial_of, order_from};
-ghost use Rattle.flame_words.specs.Values.{number_value};
-ghost use Rattle.flame_words.specs.Suits.{IsSmallNumber, OptionsSuit};
-ghost use Rattle.flame_words.specs.Steps.{seen_of, IsComplete};
+ghost use Rattle.flame_words.specs.GivenOrders.{value_of, how_of, word_at, run_of, trial_of, order_from};
+ghost use Rattle.flame_words.specs.WordValues.{number_value};
+ghost use Rattle.flame_words.specs.TakenWords.{IsSmallNumber, OptionsSuit};
+ghost use Rattle.flame_words.specs.WordSteps.{seen_of, IsComplete};
 
 use crate::orders::{How, Order, RunOrder, TrialOrder};
 use crate::reading::Reading;
 use crate::table::{Command, Flag};
 use crate::value::{number_value, way_of};
-use flame_rows::NoMemory;
-use flame_rows::Text;
+use flame_rows::{NoMemory, Text};
 use std::alloc::Global;
 
 /// The order of words that have no fault.

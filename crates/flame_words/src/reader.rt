@@ -1,18 +1,18 @@
 //! The reader of command lines.
 
 ghost use Rattle.std.specs.Prelude.{◌≡◌, map, string_bytes, IfOk, IfErr};
-ghost use Rattle.flame_words.specs.Roles.{roles};
-ghost use Rattle.flame_words.specs.Faults.{line_behind};
-ghost use Rattle.flame_words.specs.Orders.{answer_of, order_of, IsRefused};
-ghost use Rattle.flame_words.specs.Limits.{IsWithin};
-ghost use Rattle.flame_words.specs.Steps.{seen_of, IsRead};
+ghost use Rattle.flame_words.specs.WordRoles.{roles};
+ghost use Rattle.flame_words.specs.UsageFaults.{line_behind};
+ghost use Rattle.flame_words.specs.CommandLines.{answer_of, order_of, IsRefused};
+ghost use Rattle.flame_words.specs.OrderLimits.{IsWithin};
+ghost use Rattle.flame_words.specs.WordSteps.{seen_of, IsRead};
 
+use crate::faults::Usage;
 use crate::make::order_from;
 use crate::orders::Order;
 use crate::reading::Reading;
 use crate::table::Command;
-use crate::usage::{Fail, Usage};
-use flame_rows::Text;
+use flame_rows::{Fail, Text};
 use std::alloc::Global;
 
 /// The order that the words of a command line give, the program's name not among them.
@@ -21,7 +21,7 @@ use std::alloc::Global;
 /// it begins with; else it is an option where it begins with `--`, and else the next positional word. `Fault` is the
 /// first fault of usage, and comes exactly where there is one; `NoMemory` is want of memory. There may be any number of
 /// words: the first fault lies among the first thirty, and no word behind it is looked at.
-pub fn order(alloc: Global, words: &[String]) -> Result<Order, Fail>
+pub fn order(alloc: Global, words: &[String]) -> Result<Order, Fail<Usage>>
     ensures order { IfOk result (λ order. order_of (map string_bytes words.now) ≡ Ok order) }
     ensures limits { IfOk result IsWithin }
     ensures fault { IfErr result (IsRefused (order_of (map string_bytes words.now))) }
@@ -36,7 +36,7 @@ pub fn order(alloc: Global, words: &[String]) -> Result<Order, Fail>
 }
 
 /// The order that a command and the words behind it give.
-fn order_behind(alloc: Global, command: Command, words: &[String]) -> Result<Order, Fail>
+fn order_behind(alloc: Global, command: Command, words: &[String]) -> Result<Order, Fail<Usage>>
     ensures order { IfOk result
         (λ order. answer_of (line_behind command (map string_bytes words.now)) ≡ Ok order) }
     ensures fault { IfErr result
@@ -50,7 +50,11 @@ fn order_behind(alloc: Global, command: Command, words: &[String]) -> Result<Ord
 }
 
 /// Reads all words behind a command.
-fn read_all<'a>(alloc: Global, command: Command, words: &'a [String]) -> Result<Reading<'a>, Fail>
+fn read_all<'a>(
+    alloc: Global,
+    command: Command,
+    words: &'a [String],
+) -> Result<Reading<'a>, Fail<Usage>>
     ensures read { IfOk result (λ reading. IsRead (roles (map string_bytes words.now)) (seen_of reading)) }
     ensures command { IfOk result (λ reading. reading.command ≡ command) }
     ensures fault { IfErr result

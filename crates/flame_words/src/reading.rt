@@ -3,11 +3,12 @@
 ghost use Rattle.std.specs.Prelude.{◌≡◌, ◌<◌, length, None, option_map, OnOk, IfErr};
 ghost use Rattle.std.specs.List.{list_any, find};
 ghost use Rattle.std.specs.Str.{bytes_eq};
-ghost use Rattle.flame_words.specs.Roles.{begins_option};
+ghost use Rattle.flame_words.specs.WordRoles.{begins_option};
 
+use crate::faults::Usage;
 use crate::table::{Command, Flag};
-use crate::usage::{Fail, Usage};
 use crate::value::fault_as;
+use flame_rows::Fail;
 use std::alloc::Global;
 
 /// An option and the value that was given for it.
@@ -27,10 +28,11 @@ pub(crate) struct Reading<'a> {
 }
 
 impl<'a> Reading<'a> {
-    ghost use Rattle.flame_words.specs.Table.{flag_name};
-    ghost use Rattle.flame_words.specs.Orders.{word_at, value_of};
-    ghost use Rattle.flame_words.specs.Steps.{seen_of, nothing_behind, fault_at, option_fault, place_fault, read_on};
-    ghost use Rattle.flame_words.specs.Steps.{missing_at, FailsBy};
+    ghost use Rattle.flame_words.specs.CommandTable.{flag_name};
+    ghost use Rattle.flame_words.specs.GivenOrders.{word_at, value_of};
+    ghost use Rattle.flame_words.specs.WordSteps.{seen_of, nothing_behind, fault_at, option_fault, place_fault};
+    ghost use Rattle.flame_words.specs.WordSteps.{read_on};
+    ghost use Rattle.flame_words.specs.WordSteps.{missing_at, FailsBy};
 
     /// Nothing yet.
     pub fn new(alloc: Global, command: Command) -> Reading<'a>
@@ -45,7 +47,7 @@ impl<'a> Reading<'a> {
     }
 
     /// Reads the next word, which has this number among the words.
-    pub fn read(&mut self, number: u32, word: &'a str) -> Result<(), Fail>
+    pub fn read(&mut self, number: u32, word: &'a str) -> Result<(), Fail<Usage>>
         ensures read { OnOk result (seen_of self.new ≡ read_on self.old.pending (seen_of self.old) word.now) }
         ensures no_fault { OnOk result (fault_at self.old.pending (seen_of self.old) number word.now ≡ None) }
         ensures fault { IfErr result (FailsBy (fault_at self.old.pending (seen_of self.old) number word.now)) }

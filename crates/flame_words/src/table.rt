@@ -4,8 +4,9 @@
 ghost use Rattle.std.specs.Prelude.{◌≡◌, ◌==◌, IfSome};
 ghost use Rattle.std.specs.List.{find, list_any};
 ghost use Rattle.std.specs.Str.{bytes_eq};
-ghost use Rattle.flame_words.specs.Table.{command_of, spelling, places, options, place_name, place_takes, flag_name};
-ghost use Rattle.flame_words.specs.Table.{flag_takes, default, flag_of, is_among};
+ghost use Rattle.flame_words.specs.CommandTable.{command_of, spelling, places, options, place_name, place_takes};
+ghost use Rattle.flame_words.specs.CommandTable.{flag_name};
+ghost use Rattle.flame_words.specs.CommandTable.{flag_takes, default, flag_of, is_among};
 
 /// A command.
 #[derive(Clone, Copy, Debug)]

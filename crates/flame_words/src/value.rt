@@ -4,11 +4,11 @@ ghost use Rattle.std.specs.Prelude.{◌≡◌, ◌<◌, ◌^◌, IsTrue};
 ghost use Rattle.std.specs.List.{list_all};
 ghost use Rattle.std.specs.Char.{is_ascii_digit};
 ghost use Rattle.std.specs.Option.{SomeIff};
-ghost use Rattle.flame_words.specs.Values.{is_number, number_value, way_of, fault_as};
+ghost use Rattle.flame_words.specs.WordValues.{is_number, number_value, way_of, fault_as};
 
+use crate::faults::Usage;
 use crate::orders::Way;
 use crate::table::Takes;
-use crate::usage::Usage;
 
 /// Why the word of this number cannot be taken so, if it cannot.
 pub(crate) fn fault_as(takes: Takes, number: u32, word: &str) -> Option<Usage>

@@ -1,4 +1,4 @@
-use Rattle.flame_words.proofs.Answering.{order_refuses, order_orders}
+use Rattle.flame_words.proofs.FirstFaults.{order_refuses, order_orders}
 use Rattle.flame_words.proofs.laws.first_fault.Goals as goal
 
 pub returns-clause-refuses : goal.returns-clause-refuses

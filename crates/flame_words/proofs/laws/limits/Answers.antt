@@ -1,4 +1,4 @@
-use Rattle.flame_words.proofs.Limiting.{orders_within}
+use Rattle.flame_words.proofs.Bounds.{orders_within}
 use Rattle.flame_words.proofs.laws.limits.Goals as goal
 
 pub returns : goal.returns

@@ -1,4 +1,4 @@
-use Rattle.flame_words.proofs.Ending.{many_refused}
+use Rattle.flame_words.proofs.Ends.{many_refused}
 use Rattle.flame_words.proofs.laws.many_words.Goals as goal
 
 pub returns : goal.returns

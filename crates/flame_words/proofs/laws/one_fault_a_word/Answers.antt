@@ -1,8 +1,8 @@
 -- The numbers of the faults climb.
 use Rattle.std.proofs.Common.{length}
-use Rattle.flame_words.specs.Faults.{usage_faults}
-use Rattle.flame_words.specs.Laws.{words_at_fault}
-use Rattle.flame_words.proofs.Numbering.{numbered, climbs_increasing, climbs_within}
+use Rattle.flame_words.specs.UsageFaults.{usage_faults}
+use Rattle.flame_words.specs.UsageLaws.{words_at_fault}
+use Rattle.flame_words.proofs.FaultNumbers.{numbered, climbs_increasing, climbs_within}
 use Rattle.flame_words.proofs.laws.one_fault_a_word.Goals as goal
 
 pub returns-clause-order : goal.returns-clause-order

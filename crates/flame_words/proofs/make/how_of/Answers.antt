@@ -1,5 +1,5 @@
-use Rattle.flame_words.specs.Steps.{seen_of}
-use Rattle.flame_words.proofs.Completing.{workers_small, fuel_small}
+use Rattle.flame_words.specs.WordSteps.{seen_of}
+use Rattle.flame_words.proofs.SmallNumbers.{workers_small, fuel_small}
 use Rattle.flame_words.proofs.make.how_of.Goals as goal
 
 pub number-requires : goal.number-requires

@@ -1,5 +1,5 @@
-use Rattle.flame_words.specs.Steps.{seen_of}
-use Rattle.flame_words.proofs.Completing.{run_number, run_options}
+use Rattle.flame_words.specs.WordSteps.{seen_of}
+use Rattle.flame_words.proofs.SmallNumbers.{run_number, run_options}
 use Rattle.flame_words.proofs.make.run_of.Goals as goal
 
 pub number_at-requires-clause-number : goal.number_at-requires-clause-number

@@ -1,5 +1,5 @@
-use Rattle.flame_words.specs.Steps.{seen_of}
-use Rattle.flame_words.proofs.Completing.{trial_seed, trial_size, trial_turns, trial_options}
+use Rattle.flame_words.specs.WordSteps.{seen_of}
+use Rattle.flame_words.proofs.SmallNumbers.{trial_seed, trial_size, trial_turns, trial_options}
 use Rattle.flame_words.proofs.make.trial_of.Goals as goal
 
 pub number_at-requires-clause-number : goal.number_at-requires-clause-number

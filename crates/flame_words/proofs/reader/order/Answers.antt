@@ -1,5 +1,5 @@
 use Rattle.std.proofs.Common.{map, string_bytes}
-use Rattle.flame_words.proofs.Limiting.{answered_within}
+use Rattle.flame_words.proofs.Bounds.{answered_within}
 use Rattle.flame_words.proofs.reader.order.Goals as goal
 
 pub returns-in-Some-of-clause-limits : goal.returns-in-Some-of-clause-limits

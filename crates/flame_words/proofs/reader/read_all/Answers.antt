@@ -1,9 +1,9 @@
 use Rattle.std.proofs.Common.{◌+◌, ◌∙◌, map, drop, string_bytes, sym, ap, subst, arith}
 use Rattle.std.proofs.lemmas.Result.{err_from_is_err_and}
-use Rattle.flame_words.specs.Steps.{Seen, seen_of}
-use Rattle.flame_words.proofs.Following.{Follows, follows_first, follows_on, read_on-command}
-use Rattle.flame_words.proofs.Reached.{few_read}
-use Rattle.flame_words.proofs.Refusing.{refused, words_from}
+use Rattle.flame_words.specs.WordSteps.{Seen, seen_of}
+use Rattle.flame_words.proofs.Progress.{Follows, follows_first, follows_on, read_on-command}
+use Rattle.flame_words.proofs.Reach.{few_read}
+use Rattle.flame_words.proofs.Refusals.{refused, words_from}
 use Rattle.flame_words.proofs.reader.read_all.Goals as goal
 
 pub loop-word-init : goal.loop-word-init

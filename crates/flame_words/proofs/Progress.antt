@@ -14,19 +14,19 @@ use Rattle.std.proofs.lemmas.List.Elements.{filter_map-append}
 use Rattle.flame_words.specs.declared.table.Command.{Command}
 use Rattle.flame_words.specs.declared.table.Flag.{Flag}
 use Rattle.flame_words.specs.declared.table.Place.{Place}
-use Rattle.flame_words.specs.declared.usage.Usage.{Usage}
-use Rattle.flame_words.specs.declared.usage.Usage.TheVariants.{Extra, Repeated, UnknownOption}
-use Rattle.flame_words.specs.Table.{flag_name, flag_of, flag_takes, options, places, place_takes}
-use Rattle.flame_words.specs.Values.{fault_as}
-use Rattle.flame_words.specs.Roles.{Role, option, value, positional, roles, roles_behind, begins_option, Given}
-use Rattle.flame_words.specs.Roles.{option_word, positional_word, given_value, options_among, positionals_among}
-use Rattle.flame_words.specs.Roles.{givens_among}
-use Rattle.flame_words.specs.Faults.{is_given, fault_of, faults_behind, lacking_option}
-use Rattle.flame_words.specs.Steps.{Seen, nothing_behind, given_of, fault_at, read_on}
-use Rattle.flame_words.specs.Suits.{words_suit, given_suits}
+use Rattle.flame_words.specs.declared.faults.Usage.{Usage}
+use Rattle.flame_words.specs.declared.faults.Usage.TheVariants.{Extra, Repeated, UnknownOption}
+use Rattle.flame_words.specs.CommandTable.{flag_name, flag_of, flag_takes, options, places, place_takes}
+use Rattle.flame_words.specs.WordValues.{fault_as}
+use Rattle.flame_words.specs.WordRoles.{Role, option, value, positional, roles, roles_behind, begins_option, Given}
+use Rattle.flame_words.specs.WordRoles.{option_word, positional_word, given_value, options_among, positionals_among}
+use Rattle.flame_words.specs.WordRoles.{givens_among}
+use Rattle.flame_words.specs.UsageFaults.{is_given, fault_of, faults_behind, lacking_option}
+use Rattle.flame_words.specs.WordSteps.{Seen, nothing_behind, given_of, fault_at, read_on}
+use Rattle.flame_words.specs.TakenWords.{words_suit, given_suits}
 use Rattle.flame_words.proofs.Lists.{any_mapped, last_or-push, find_passes}
-use Rattle.flame_words.proofs.Suiting.{suits_there, words_suit-push}
-use Rattle.flame_words.proofs.Counting.{unused, unused-le, unused_falls}
+use Rattle.flame_words.proofs.Suits.{suits_there, words_suit-push}
+use Rattle.flame_words.proofs.SpareOptions.{unused, unused-le, unused_falls}
 
 -- the roles of the words that are not read yet
 abbrev pub roles_left : Seen → List (List ℕ) → List Role

@@ -7,9 +7,9 @@ use Rattle.std.proofs.lemmas.Bool.{cases_Bool}
 use Rattle.std.proofs.lemmas.List.Folds.{list_any-append}
 use Rattle.std.proofs.lemmas.Slice.Eq.{bytes_eq-Decides}
 use Rattle.flame_words.specs.declared.table.Flag.{Flag}
-use Rattle.flame_words.specs.Table.{flag_name}
-use Rattle.flame_words.specs.Faults.{is_given}
-use Rattle.flame_words.specs.Roles.{Role, option, value, positional, options_among, positionals_among, givens_among}
+use Rattle.flame_words.specs.CommandTable.{flag_name}
+use Rattle.flame_words.specs.UsageFaults.{is_given}
+use Rattle.flame_words.specs.WordRoles.{Role, option, value, positional, options_among, positionals_among, givens_among}
 
 -- how many of the options have names that are not among these
 abbrev pub unused : List (List ℕ) → List Flag → ℕ

@@ -8,18 +8,18 @@ use Rattle.std.specs.List.{slice_get}
 use Rattle.std.proofs.lemmas.List.{append-nil}
 use Rattle.flame_words.specs.declared.orders.Order.{Order}
 use Rattle.flame_words.specs.declared.table.Command.{Command}
-use Rattle.flame_words.specs.declared.usage.Usage.{Usage}
-use Rattle.flame_words.specs.declared.usage.Usage.TheVariants.{UnknownCommand}
-use Rattle.flame_words.specs.Table.{command_of}
-use Rattle.flame_words.specs.Roles.{roles}
-use Rattle.flame_words.specs.Faults.{line_behind, faults_behind, missing}
-use Rattle.flame_words.specs.Orders.{first_or, line_order, answer_of, answer_in, order_of}
-use Rattle.flame_words.specs.Laws.{word_number}
-use Rattle.flame_words.specs.Steps.{Seen, nothing_behind, fault_at, read_on}
-use Rattle.flame_words.proofs.Following.{Follows, follows_first, follows_on, read_on-command}
-use Rattle.flame_words.proofs.Finding.{fault_found}
-use Rattle.flame_words.proofs.Reached.{few_read}
-use Rattle.flame_words.proofs.Numbering.{cases_Option, fault_at_number, length-roles_behind}
+use Rattle.flame_words.specs.declared.faults.Usage.{Usage}
+use Rattle.flame_words.specs.declared.faults.Usage.TheVariants.{UnknownCommand}
+use Rattle.flame_words.specs.CommandTable.{command_of}
+use Rattle.flame_words.specs.WordRoles.{roles}
+use Rattle.flame_words.specs.UsageFaults.{line_behind, faults_behind, missing}
+use Rattle.flame_words.specs.CommandLines.{first_or, line_order, answer_of, answer_in, order_of}
+use Rattle.flame_words.specs.UsageTexts.{word_number}
+use Rattle.flame_words.specs.WordSteps.{Seen, nothing_behind, fault_at, read_on}
+use Rattle.flame_words.proofs.Progress.{Follows, follows_first, follows_on, read_on-command}
+use Rattle.flame_words.proofs.FoundFaults.{fault_found}
+use Rattle.flame_words.proofs.Reach.{few_read}
+use Rattle.flame_words.proofs.FaultNumbers.{cases_Option, fault_at_number, length-roles_behind}
 
 -- all words were read
 pub record Finishes (command : Command) (all : List (List ℕ)) : Type 0 where

@@ -14,16 +14,18 @@ use Rattle.flame_words.specs.declared.table.Flag.{Flag}
 use Rattle.flame_words.specs.declared.table.Place.{Place}
 use Rattle.flame_words.specs.declared.table.Takes.{Takes}
 use Rattle.flame_words.specs.declared.table.Takes.TheVariants.{Text, Number, OneOf}
-use Rattle.flame_words.specs.declared.usage.Usage.{Usage}
-use Rattle.flame_words.specs.declared.usage.Usage.TheVariants.{UnknownCommand, Missing, Extra, BadNumber, OutOfRange}
-use Rattle.flame_words.specs.declared.usage.Usage.TheVariants.{Repeated, UnknownOption, BadChoice}
-use Rattle.flame_words.specs.Table.{command_of, flag_of, flag_takes, places, place_takes, is_among}
-use Rattle.flame_words.specs.Values.{is_number, number_value, fault_as}
-use Rattle.flame_words.specs.Roles.{Role, option, value, positional, roles, roles_behind, begins_option, options_among}
-use Rattle.flame_words.specs.Faults.{fault_of, faults_behind, number_behind, missing, lacking_option}
-use Rattle.flame_words.specs.Faults.{absent_place, line_behind, faults_in, usage_faults}
-use Rattle.flame_words.specs.Laws.{word_number, words_at_fault}
-use Rattle.flame_words.specs.Steps.{Seen, fault_at}
+use Rattle.flame_words.specs.declared.faults.Usage.{Usage}
+use Rattle.flame_words.specs.declared.faults.Usage.TheVariants.{UnknownCommand, Missing, Extra, BadNumber, OutOfRange}
+use Rattle.flame_words.specs.declared.faults.Usage.TheVariants.{Repeated, UnknownOption, BadChoice}
+use Rattle.flame_words.specs.CommandTable.{command_of, flag_of, flag_takes, places, place_takes, is_among}
+use Rattle.flame_words.specs.WordValues.{is_number, number_value, fault_as}
+use Rattle.flame_words.specs.WordRoles.{Role, option, value, positional, roles, roles_behind, begins_option}
+use Rattle.flame_words.specs.WordRoles.{options_among}
+use Rattle.flame_words.specs.UsageFaults.{fault_of, faults_behind, number_behind, missing, lacking_option}
+use Rattle.flame_words.specs.UsageFaults.{absent_place, line_behind, faults_in, usage_faults}
+use Rattle.flame_words.specs.UsageTexts.{word_number}
+use Rattle.flame_words.specs.UsageLaws.{words_at_fault}
+use Rattle.flame_words.specs.WordSteps.{Seen, fault_at}
 
 number_named :
     (is within : Bool) (number : ℕ) (usage : Usage)

@@ -7,15 +7,15 @@ use Rattle.std.specs.List.{slice_get}
 use Rattle.std.proofs.Math.Seq.{drop-cons}
 use Rattle.flame_words.specs.declared.orders.Order.{Order}
 use Rattle.flame_words.specs.declared.table.Command.{Command}
-use Rattle.flame_words.specs.declared.usage.Usage.{Usage}
-use Rattle.flame_words.specs.declared.usage.Fail.{Fail}
-use Rattle.flame_words.specs.declared.usage.Fail.TheVariants.{Fault, NoMemory}
-use Rattle.flame_words.specs.Roles.{roles}
-use Rattle.flame_words.specs.Faults.{faults_behind, line_behind, missing}
-use Rattle.flame_words.specs.Orders.{first_or, answer_of, line_order, IsRefused}
-use Rattle.flame_words.specs.Steps.{Seen, fault_at, FailsBy}
-use Rattle.flame_words.proofs.Following.{Follows}
-use Rattle.flame_words.proofs.Finding.{fault_found}
+use Rattle.flame_words.specs.declared.faults.Usage.{Usage}
+use Rattle.flame_rows.specs.declared.fails.Fail.{Fail}
+use Rattle.flame_rows.specs.declared.fails.Fail.TheVariants.{Fault, NoMemory}
+use Rattle.flame_words.specs.WordRoles.{roles}
+use Rattle.flame_words.specs.UsageFaults.{faults_behind, line_behind, missing}
+use Rattle.flame_words.specs.CommandLines.{first_or, answer_of, line_order, IsRefused}
+use Rattle.flame_words.specs.WordSteps.{Seen, fault_at, FailsBy}
+use Rattle.flame_words.proofs.Progress.{Follows}
+use Rattle.flame_words.proofs.FoundFaults.{fault_found}
 
 first_refused :
     (faults more : List Usage) (order : Order) (usage : Usage)
@@ -27,7 +27,7 @@ first_refused (fault ∷ faults) more order usage first = let same : fault ≡ u
 -- the failure of the next word is that of the whole line
 pub refused :
     (command : Command) (all : List (List ℕ)) (seen : Seen) (number : ℕ) (word : List ℕ) (rest : List (List ℕ))
-    (fail : Fail)
+    (fail : Fail Usage)
     → seen.command ≡ command
     → Follows all seen number (word ∷ rest)
     → FailsBy (fault_at seen.pending seen (number + 1) word) fail

@@ -6,14 +6,14 @@ use Rattle.std.specs.List.{slice_get}
 use Rattle.std.proofs.lemmas.Bool.{cases_Bool}
 use Rattle.flame_words.specs.declared.table.Command.{Command}
 use Rattle.flame_words.specs.declared.table.Flag.{Flag}
-use Rattle.flame_words.specs.declared.usage.Usage.{Usage}
-use Rattle.flame_words.specs.Table.{flag_name, flag_of, flag_takes}
-use Rattle.flame_words.specs.Values.{fault_as}
-use Rattle.flame_words.specs.Roles.{option, value, positional, roles, begins_option, Given}
-use Rattle.flame_words.specs.Roles.{options_among}
-use Rattle.flame_words.specs.Faults.{fault_of, faults_behind}
-use Rattle.flame_words.specs.Steps.{Seen, fault_at, option_fault, place_fault}
-use Rattle.flame_words.proofs.Following.{Follows, seen_with, used_before}
+use Rattle.flame_words.specs.declared.faults.Usage.{Usage}
+use Rattle.flame_words.specs.CommandTable.{flag_name, flag_of, flag_takes}
+use Rattle.flame_words.specs.WordValues.{fault_as}
+use Rattle.flame_words.specs.WordRoles.{option, value, positional, roles, begins_option, Given}
+use Rattle.flame_words.specs.WordRoles.{options_among}
+use Rattle.flame_words.specs.UsageFaults.{fault_of, faults_behind}
+use Rattle.flame_words.specs.WordSteps.{Seen, fault_at, option_fault, place_fault}
+use Rattle.flame_words.proofs.Progress.{Follows, seen_with, used_before}
 
 -- the fault of the next word is that of the word in its role
 value_fault :

@@ -8,28 +8,28 @@ use Rattle.flame_words.specs.declared.orders.Way.{Way}
 use Rattle.flame_words.specs.declared.orders.Way.TheVariants.{Layers, Flow}
 use Rattle.flame_words.specs.declared.table.Takes.{Takes}
 use Rattle.flame_words.specs.declared.table.Takes.TheVariants.{Text, Number, OneOf}
-use Rattle.flame_words.specs.declared.usage.Usage.{Usage}
-use Rattle.flame_words.specs.declared.usage.Usage.TheVariants.{BadNumber, OutOfRange, BadChoice}
-use Rattle.flame_words.specs.Table.{is_among}
+use Rattle.flame_words.specs.declared.faults.Usage.{Usage}
+use Rattle.flame_words.specs.declared.faults.Usage.TheVariants.{BadNumber, OutOfRange, BadChoice}
+use Rattle.flame_words.specs.CommandTable.{is_among}
 
--- one or more digits; leading zeros are allowed
+-- one or more digits; leading zeros are allowed [own]
 abbrev pub is_number : List ℕ → Bool
 is_number word = nat_lt 0 (length word) && list_all is_ascii_digit word
 
--- the number that these digits write behind those that write a number
+-- the number that these digits write behind those that write a number [own]
 abbrev pub value_behind : ℕ → List ℕ → ℕ
 value_behind number [] = number
 value_behind number (digit ∷ digits) = value_behind (10 * number + digit_value digit) digits
 
--- the number that digits write, of any length
+-- the number that digits write, of any length [own]
 abbrev pub number_value : List ℕ → ℕ
 number_value digits = value_behind 0 digits
 
--- the way that a word names; a word that names none has a fault
+-- the way that a word names; a word that names none has a fault [own]
 abbrev pub way_of : List ℕ → Way
 way_of word = if bytes_eq word (codes "flow") then Flow else Layers
 
--- why the word of this number, counted from 1, cannot be taken so
+-- why the word of this number, counted from 1, cannot be taken so [own]
 abbrev pub fault_as : Takes → ℕ → List ℕ → Option Usage
 fault_as Text number word = None
 fault_as (Number least most) number word =

@@ -13,12 +13,12 @@ use Rattle.flame_words.specs.declared.table.Place.TheVariants.{Turns, Seed, Size
 use Rattle.flame_words.specs.declared.table.Flag.{Flag}
 use Rattle.flame_words.specs.declared.table.Flag.TheVariants.{Workers, Fuel, Sync}
 use Rattle.flame_words.specs.declared.table.Takes.TheVariants.{Number}
-use Rattle.flame_words.specs.Table.{places, place_takes, flag_of, flag_name, flag_takes, default}
-use Rattle.flame_words.specs.Values.{is_number, number_value}
-use Rattle.flame_words.specs.Roles.{Given}
-use Rattle.flame_words.specs.Orders.{word_at, value_of}
-use Rattle.flame_words.specs.Suits.{suits, words_suit, given_suits, IsSmallNumber, OptionsSuit}
-use Rattle.flame_words.specs.Steps.{Seen, IsComplete}
+use Rattle.flame_words.specs.CommandTable.{places, place_takes, flag_of, flag_name, flag_takes, default}
+use Rattle.flame_words.specs.WordValues.{is_number, number_value}
+use Rattle.flame_words.specs.WordRoles.{Given}
+use Rattle.flame_words.specs.GivenOrders.{word_at, value_of}
+use Rattle.flame_words.specs.TakenWords.{suits, words_suit, given_suits, IsSmallNumber, OptionsSuit}
+use Rattle.flame_words.specs.WordSteps.{Seen, IsComplete}
 
 -- a positional word can be taken as its place asks
 pub suits_at :

@@ -4,9 +4,9 @@ use Rattle.std.proofs.Common.{ap, IsOk, rules}
 use Rattle.std.specs.Prelude.{◌↔◌}
 use Rattle.std.specs.List.{slice_get}
 use Rattle.flame_words.specs.declared.orders.Order.{Order}
-use Rattle.flame_words.specs.declared.usage.Usage.{Usage}
-use Rattle.flame_words.specs.Faults.{Line, line_of, line_faults, faults_in, usage_faults}
-use Rattle.flame_words.specs.Orders.{first_or, line_order, answer_in, order_of}
+use Rattle.flame_words.specs.declared.faults.Usage.{Usage}
+use Rattle.flame_words.specs.UsageFaults.{Line, line_of, line_faults, faults_in, usage_faults}
+use Rattle.flame_words.specs.CommandLines.{first_or, line_order, answer_in, order_of}
 
 first_refuses : (faults : List Usage) (order : Order) (fault : Usage)
     → (first_or faults order ≡ Err fault) ↔ (slice_get faults 0 ≡ Some fault)

@@ -13,9 +13,11 @@ use Rattle.flame_words.specs.declared.table.Choice.TheVariants.{Ways}
 use Rattle.flame_words.specs.declared.table.Takes.{Takes}
 use Rattle.flame_words.specs.declared.table.Takes.TheVariants.{Text, Number, OneOf}
 
+-- the commands, in the order of their table [own]
 abbrev pub commands : List Command
 commands = Run ∷ Check ∷ Graph ∷ Code ∷ Trial ∷ []
 
+-- how a command is spelled [own]
 abbrev pub spelling : Command → List ℕ
 spelling Run = codes "run"
 spelling Check = codes "check"
@@ -23,7 +25,7 @@ spelling Graph = codes "graph"
 spelling Code = codes "code"
 spelling Trial = codes "trial"
 
--- the positional words of a command, in order
+-- the positional words of a command, in order [own]
 abbrev pub places : Command → List Place
 places Run = Model ∷ Population ∷ Out ∷ Turns ∷ []
 places Check = Model ∷ []
@@ -31,7 +33,7 @@ places Graph = Model ∷ []
 places Code = Model ∷ []
 places Trial = Seed ∷ Size ∷ TrialTurns ∷ []
 
--- the options of a command
+-- the options of a command [own]
 abbrev pub options : Command → List Flag
 options Run = Workers ∷ Fuel ∷ Sync ∷ []
 options Check = []
@@ -39,7 +41,7 @@ options Graph = []
 options Code = []
 options Trial = Workers ∷ Fuel ∷ Sync ∷ []
 
--- what a positional word is called where it is missing
+-- what a positional word is called where it is missing [own]
 abbrev pub place_name : Place → List ℕ
 place_name Model = codes "MODEL"
 place_name Population = codes "POP"
@@ -49,7 +51,7 @@ place_name Seed = codes "SEED"
 place_name Size = codes "SIZE"
 place_name TrialTurns = codes "N"
 
--- what a positional word is taken as: any text, or a number from the first to the second
+-- what a positional word is taken as: any text, or a number from the first to the second [own]
 abbrev pub place_takes : Place → Takes
 place_takes Model = Text
 place_takes Population = Text
@@ -59,35 +61,36 @@ place_takes Seed = Number 0 4294967295
 place_takes Size = Number 0 10000
 place_takes TrialTurns = Number 0 20
 
+-- how an option is spelled [own]
 abbrev pub flag_name : Flag → List ℕ
 flag_name Workers = codes "--workers"
 flag_name Fuel = codes "--fuel"
 flag_name Sync = codes "--sync"
 
--- what an option's value is taken as
+-- what an option's value is taken as [own]
 abbrev pub flag_takes : Flag → Takes
 flag_takes Workers = Number 1 64
 flag_takes Fuel = Number 0 1000000000
 flag_takes Sync = OneOf Ways
 
--- the value that an option has where none is given
+-- the value that an option has where none is given [own]
 abbrev pub default : Flag → List ℕ
 default Workers = codes "1"
 default Fuel = codes "1000000"
 default Sync = codes "layers"
 
--- the words of which one is taken
+-- the words of which one is taken [own]
 abbrev pub choices : Choice → List (List ℕ)
 choices Ways = codes "layers" ∷ codes "flow" ∷ []
 
--- the command that is spelled so
+-- the command that is spelled so [own]
 abbrev pub command_of : List ℕ → Option Command
 command_of word = find (λ command. bytes_eq (spelling command) word) commands
 
--- the command's option of this spelling
+-- the command's option of this spelling [own]
 abbrev pub flag_of : Command → List ℕ → Option Flag
 flag_of command word = find (λ flag. bytes_eq (flag_name flag) word) (options command)
 
--- the word is one of those of which one is taken
+-- the word is one of those of which one is taken [own]
 abbrev pub is_among : Choice → List ℕ → Bool
 is_among choice word = list_any (λ taken. bytes_eq word taken) (choices choice)

@@ -6,34 +6,34 @@ use Rattle.flame_words.specs.declared.table.Flag.{Flag}
 use Rattle.flame_words.specs.declared.table.Place.{Place}
 use Rattle.flame_words.specs.declared.table.Takes.{Takes}
 use Rattle.flame_words.specs.declared.table.Takes.TheVariants.{Text, Number, OneOf}
-use Rattle.flame_words.specs.Table.{flag_of, flag_takes, place_takes, is_among}
-use Rattle.flame_words.specs.Values.{is_number, number_value}
-use Rattle.flame_words.specs.Roles.{Given}
-use Rattle.flame_words.specs.Orders.{value_of}
+use Rattle.flame_words.specs.CommandTable.{flag_of, flag_takes, place_takes, is_among}
+use Rattle.flame_words.specs.WordValues.{is_number, number_value}
+use Rattle.flame_words.specs.WordRoles.{Given}
+use Rattle.flame_words.specs.GivenOrders.{value_of}
 
--- the word can be taken so
+-- the word can be taken so [own]
 abbrev pub suits : Takes → List ℕ → Bool
 suits Text word = true
 suits (Number least most) word =
     is_number word && (nat_le least (number_value word) && nat_le (number_value word) most)
 suits (OneOf choice) word = is_among choice word
 
--- each word can be taken as its place asks, and no word lacks a place
+-- each word can be taken as its place asks, and no word lacks a place [own]
 abbrev pub words_suit : List Place → List (List ℕ) → Bool
 words_suit places [] = true
 words_suit [] (word ∷ words) = false
 words_suit (place ∷ places) (word ∷ words) = suits (place_takes place) word && words_suit places words
 
--- the value can be taken as its option asks
+-- the value can be taken as its option asks [own]
 abbrev pub given_suits : Command → Given → Bool
 given_suits command given =
     option_map_or (λ flag. suits (flag_takes flag) given.word) (flag_of command given.name) false
 
--- the word is a number that 32 bits hold
+-- the word is a number that 32 bits hold [own]
 pub record IsSmallNumber (word : List ℕ) : Type 0 where
   pub number : IsTrue (is_number word)
   pub small : number_value word < 2 ^ 32
 
--- each option has a value that it can have
+-- each option has a value that it can have [own]
 abbrev pub OptionsSuit : List Given → Type 0
 OptionsSuit givens = (flag : Flag) → suits (flag_takes flag) (value_of givens flag) ≡ true

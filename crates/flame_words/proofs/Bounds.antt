@@ -11,19 +11,21 @@ use Rattle.flame_words.specs.declared.table.Place.{Place}
 use Rattle.flame_words.specs.declared.table.Place.TheVariants.{Turns, Seed, Size, TrialTurns}
 use Rattle.flame_words.specs.declared.table.Flag.TheVariants.{Workers, Fuel}
 use Rattle.flame_words.specs.declared.table.Takes.TheVariants.{Number}
-use Rattle.flame_words.specs.declared.usage.Usage.{Usage}
-use Rattle.flame_words.specs.declared.usage.Usage.TheVariants.{UnknownCommand, Missing}
-use Rattle.flame_words.specs.Table.{command_of, flag_of, flag_name, places, place_name, place_takes}
-use Rattle.flame_words.specs.Values.{is_number, number_value}
-use Rattle.flame_words.specs.Roles.{Role, roles, Given, positionals_among, givens_among}
-use Rattle.flame_words.specs.Faults.{line_behind, faults_behind, missing, lacking_option, absent_place}
-use Rattle.flame_words.specs.Orders.{first_or, value_of, word_at, how_of, line_order, answer_of, answer_in}
-use Rattle.flame_words.specs.Orders.{order_from, order_of}
-use Rattle.flame_words.specs.Limits.{HowIsWithin, IsWithin}
-use Rattle.flame_words.specs.Suits.{suits, words_suit, given_suits}
-use Rattle.flame_words.proofs.Reached.{read_to_end}
-use Rattle.flame_words.proofs.Completing.{suits_at, option_suits}
-use Rattle.flame_words.proofs.Ending.{ends}
+use Rattle.flame_words.specs.declared.faults.Usage.{Usage}
+use Rattle.flame_words.specs.declared.faults.Usage.TheVariants.{UnknownCommand, Missing}
+use Rattle.flame_words.specs.CommandTable.{command_of, flag_of, flag_name, places, place_name, place_takes}
+use Rattle.flame_words.specs.WordValues.{is_number, number_value}
+use Rattle.flame_words.specs.WordRoles.{Role, roles, Given, positionals_among, givens_among}
+use Rattle.flame_words.specs.UsageFaults.{line_behind, faults_behind, missing, lacking_option, absent_place}
+use Rattle.flame_words.specs.CommandLines.{first_or, line_order, answer_of, answer_in}
+use Rattle.flame_words.specs.GivenOrders.{value_of, word_at, how_of}
+use Rattle.flame_words.specs.GivenOrders.{order_from}
+use Rattle.flame_words.specs.CommandLines.{order_of}
+use Rattle.flame_words.specs.OrderLimits.{HowIsWithin, IsWithin}
+use Rattle.flame_words.specs.TakenWords.{suits, words_suit, given_suits}
+use Rattle.flame_words.proofs.Reach.{read_to_end}
+use Rattle.flame_words.proofs.SmallNumbers.{suits_at, option_suits}
+use Rattle.flame_words.proofs.Ends.{ends}
 
 number_within : (least most : ℕ) (word : List ℕ)
     → suits (Number least most) word ≡ true

@@ -6,16 +6,16 @@ use Rattle.std.specs.Option.{option_map, option_to_list}
 use Rattle.std.proofs.lemmas.List.{append-nil, length-map}
 use Rattle.flame_words.specs.declared.table.Command.{Command}
 use Rattle.flame_words.specs.declared.table.Command.TheVariants.{Run, Check, Graph, Code, Trial}
-use Rattle.flame_words.specs.Table.{flag_name, options, places}
-use Rattle.flame_words.specs.Roles.{roles}
-use Rattle.flame_words.specs.Roles.{options_among, positionals_among}
-use Rattle.flame_words.specs.Roles.{givens_among}
-use Rattle.flame_words.specs.Faults.{lacking_option}
-use Rattle.flame_words.specs.Steps.{Seen}
-use Rattle.flame_words.specs.Steps.{IsRead}
-use Rattle.flame_words.proofs.Suiting.{words_suit-length}
-use Rattle.flame_words.proofs.Counting.{length-roles}
-use Rattle.flame_words.proofs.Following.{Follows}
+use Rattle.flame_words.specs.CommandTable.{flag_name, options, places}
+use Rattle.flame_words.specs.WordRoles.{roles}
+use Rattle.flame_words.specs.WordRoles.{options_among, positionals_among}
+use Rattle.flame_words.specs.WordRoles.{givens_among}
+use Rattle.flame_words.specs.UsageFaults.{lacking_option}
+use Rattle.flame_words.specs.WordSteps.{Seen}
+use Rattle.flame_words.specs.WordSteps.{IsRead}
+use Rattle.flame_words.proofs.Suits.{words_suit-length}
+use Rattle.flame_words.proofs.SpareOptions.{length-roles}
+use Rattle.flame_words.proofs.Progress.{Follows}
 
 -- where no word is left, all were read
 pub read_to_end :

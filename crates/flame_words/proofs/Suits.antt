@@ -7,11 +7,11 @@ use Rattle.std.proofs.lemmas.Bool.{and_from, and_parts}
 use Rattle.flame_words.specs.declared.table.Place.{Place}
 use Rattle.flame_words.specs.declared.table.Takes.{Takes}
 use Rattle.flame_words.specs.declared.table.Takes.TheVariants.{Text, Number, OneOf}
-use Rattle.flame_words.specs.declared.usage.Usage.{Usage}
-use Rattle.flame_words.specs.declared.usage.Usage.TheVariants.{BadNumber, OutOfRange, BadChoice}
-use Rattle.flame_words.specs.Table.{place_takes, is_among}
-use Rattle.flame_words.specs.Values.{is_number, number_value, fault_as}
-use Rattle.flame_words.specs.Suits.{suits, words_suit}
+use Rattle.flame_words.specs.declared.faults.Usage.{Usage}
+use Rattle.flame_words.specs.declared.faults.Usage.TheVariants.{BadNumber, OutOfRange, BadChoice}
+use Rattle.flame_words.specs.CommandTable.{place_takes, is_among}
+use Rattle.flame_words.specs.WordValues.{is_number, number_value, fault_as}
+use Rattle.flame_words.specs.TakenWords.{suits, words_suit}
 
 number_suits :
     (is within : Bool) (bad out : Usage)
