@@ -15,7 +15,8 @@ fn order_of_line(alloc: Global, line: &str) -> Result<Order, Fail<Usage>> {
 
 #[test]
 fn each_call_once(rt: HostRuntime) {
-    match order_of_line(rt.alloc(), "run --workers 4 m p --sync flow o 5") {
+    let order = order_of_line(rt.alloc(), "run --workers 4 m p --sync flow o 5");
+    match &order {
         Ok(Order::Run(run)) => {
             assert_eq!(rt; run.model.as_str(), "m");
             assert_eq!(rt; run.pop.as_str(), "p");
@@ -28,7 +29,8 @@ fn each_call_once(rt: HostRuntime) {
         }
         _ => assert!(rt; false, "no order"),
     }
-    match order_of_line(rt.alloc(), "run m") {
+    let refused = order_of_line(rt.alloc(), "run m");
+    match &refused {
         Err(Fail::Fault(usage)) => {
             assert_eq!(rt; usage.name(), "Missing");
             assert_eq!(rt; (usage.word(), usage.missing()), (None, Some("POP")));
