@@ -30,7 +30,8 @@ answer_step (Test-F.Compare op a b) now = compares op (term_value a now) (term_v
 answer_step (Test-F.And left right) now = left now && right now
 answer_step (Test-F.Or left right) now = left now || right now
 answer_step (Test-F.Not part) now = not (part now)
-answer_step (Test-F.Time period phase duration) now = in_time period.length (term_value phase now) duration now.iteration
+answer_step (Test-F.Time period phase duration) now =
+    in_time period.length (term_value phase now) duration now.iteration
 
 -- whether the test holds [own]
 abbrev pub answer : Test → Moment → Bool
@@ -39,7 +40,8 @@ answer = fold-Test (Moment → Bool) answer_step
 -- what is compared has the value of what is written [own]
 abbrev pub SaysOperand : Term → Operand → List Variable → List Variable → Type 0
 SaysOperand term operand memory message =
-    (units : List TimeUnit) (now : Moment) → term_value term now ≡ operand_value (names memory message units) operand now
+    (units : List TimeUnit) (now : Moment)
+    → term_value term now ≡ operand_value (names memory message units) operand now
 
 -- the test holds where the condition does [own]
 abbrev pub SaysTruth : Test → Condition → Scope → Type 0

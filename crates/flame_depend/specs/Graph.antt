@@ -1,22 +1,23 @@
 -- What the lists of successors say of what stands before what, and how many predecessors are open.
-use Rattle.std.specs.Prelude.{◌≡◌, ℕ, zero, suc, ◌+◌, ◌<◌, ◌&&◌, not, Bool, List, [], length, slice_index, slice_index_or, if◌then◌else◌}
+use Rattle.std.specs.Prelude.{◌≡◌, ℕ, zero, suc, ◌+◌, ◌<◌, ◌&&◌, not, Bool, List, [], length, slice_index}
+use Rattle.std.specs.Prelude.{slice_index_or, if◌then◌else◌}
 use Rattle.flame_spec.specs.Below.{is_in}
 use Rattle.flame_depend.specs.Links.{AreSuccessors}
 
--- g is in the list of f
+-- g is in the list of f [own]
 abbrev pub follows : List (List ℕ) → ℕ → ℕ → Bool
 follows lists f g = is_in g (slice_index_or lists f [])
 
--- each list ascends, and its members are functions that have lists
+-- each list ascends, and its members are functions that have lists [own]
 abbrev pub AreAscending : List (List ℕ) → Type 0
 AreAscending lists = AreSuccessors (length lists) (follows lists) lists
 
--- how many functions below k stand before g and are not taken
+-- how many functions below k stand before g and are not taken [own]
 abbrev pub open_count : ℕ → (ℕ → ℕ → Bool) → List ℕ → ℕ → ℕ
 open_count zero before taken g = 0
 open_count (suc k) before taken g = open_count k before taken g + (if before k g && not (is_in k taken) then 1 else 0)
 
--- for each of n functions how many functions below k stand before it and are not taken
+-- for each of n functions how many functions below k stand before it and are not taken [own]
 pub record AreWaiting (k n : ℕ) (before : ℕ → ℕ → Bool) (taken counts : List ℕ) : Type 0 where
   pub len : length counts ≡ n
   pub at : (g : ℕ) → g < n → slice_index counts g ≡ open_count k before taken g

@@ -4,8 +4,8 @@ use Rattle.flame_spec.specs.declared.faults.NameFault.{NameFault}
 use Rattle.flame_spec.specs.declared.models.Function.{Function}
 use Rattle.flame_spec.specs.KnownNames.{DeclaredNames}
 use Rattle.flame_spec.specs.FunctionFaults.{function_faults}
-use Rattle.flame_names.specs.Tables.{transition_of, is_same_transition}
-use Rattle.flame_names.specs.Titles.{function_at}
+use Rattle.flame_names.specs.NameLooks.{transition_of, is_same_transition}
+use Rattle.flame_names.specs.FunctionTitles.{function_at}
 use Rattle.flame_names.proofs.Among.{list_any-map}
 
 -- behind a table of the earlier functions, a function has the faults that it has behind those

@@ -11,13 +11,13 @@ use Rattle.flame_spec.specs.KnownNames.{is_among}
 use Rattle.flame_spec.specs.Refusals.{name_fault, fault_where}
 use Rattle.flame_spec.specs.MessageFaults.{apart_faults}
 use Rattle.flame_spec.specs.NameFaults.{memory_name_faults}
-use Rattle.flame_names.specs.declared.fault.Fail.{Fail}
-use Rattle.flame_names.specs.declared.fault.Fail.TheVariants.{Fault, NoMemory}
-use Rattle.flame_names.specs.Failing.{FailsBy, FailsFirst}
+use Rattle.flame_rows.specs.declared.fails.Fail.{Fail}
+use Rattle.flame_rows.specs.declared.fails.Fail.TheVariants.{Fault, NoMemory}
+use Rattle.flame_names.specs.FirstFaults.{FailsBy, FailsFirst}
 use Rattle.flame_spec.proofs.Alike.{clashes-new}
 
 -- a fault that is the first
-pub fails_first : (fault : NameFault) (faults : List NameFault) (fail : Fail)
+pub fails_first : (fault : NameFault) (faults : List NameFault) (fail : Fail NameFault)
     → first faults ≡ Some fault → FailsBy fault fail → FailsFirst faults fail
 fails_first fault faults (Fault other) h e = h ∙ ap Some (sym e)
 fails_first fault faults NoMemory h e = tt

@@ -2,7 +2,7 @@
 use Rattle.std.proofs.Common.{◌≡◌, ℕ, ◌*◌, ◌≤◌, ◌<◌, suc, zero, ℤ, pos, negsuc, ◌*ℤ◌, refl, sym, ap, ◌∙◌, Bool, true, false, cond, true≢false, nat_lt, arith, neg_ℤ}
 use Rattle.std.proofs.Math.IntN.{zero-*ℤ}
 use Rattle.flame_spec.specs.UnitFaults.{is_long}
-use Rattle.flame_names.specs.Lengths.{floored}
+use Rattle.flame_names.specs.UnitTables.{floored}
 
 not_below : (m k : ℕ) → nat_lt m k ≡ false → k ≤ m
 not_below m k h = grind arith

@@ -8,7 +8,7 @@ use Rattle.std.proofs.lemmas.Slice.Eq.{bytes_eq-Decides}
 use Rattle.std.proofs.lemmas.List.{map_push}
 use Rattle.flame_spec.specs.declared.models.MessageType.{MessageType}
 use Rattle.flame_spec.specs.KnownNames.{is_among, message_names}
-use Rattle.flame_names.specs.Tables.{look, names_of, message_entry}
+use Rattle.flame_names.specs.NameLooks.{look, names_of, message_entry}
 
 -- an entry of a map, as its table shows it
 abbrev pub shown : {X : Type 0} → Bor (List ℕ) × X → List ℕ × X

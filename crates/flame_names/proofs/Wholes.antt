@@ -9,7 +9,7 @@ use Rattle.flame_spec.specs.KnownNames.{unit_names, variable_names, names_in, De
 use Rattle.flame_spec.specs.Paths.{at_key}
 use Rattle.flame_spec.specs.MessageFaults.{messages_faults}
 use Rattle.flame_spec.specs.NameFaults.{agents_faults, environment_faults, model_faults}
-use Rattle.flame_names.specs.Tables.{look, names_of, message_entry}
+use Rattle.flame_names.specs.NameLooks.{look, names_of, message_entry}
 use Rattle.flame_names.proofs.Looks.{names_of-messages}
 
 unwrap_choice : {X : Type 0} (b : Bool) (x d : X) (o : Option X)

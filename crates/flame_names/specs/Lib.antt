@@ -1,6 +1,8 @@
-pub mod Places
-pub mod Failing
-pub mod Tables
-pub mod Lengths
-pub mod Scopes
-pub mod Titles
+-- The promise: a refusal names the first fault of the model's names.
+pub mod FirstFaults
+-- The words that only bodies and proofs use.
+pub mod PlacePaths
+pub mod NameLooks
+pub mod UnitTables
+pub mod TableScopes
+pub mod FunctionTitles

@@ -4,18 +4,17 @@ ghost use Rattle.std.specs.Prelude.{◌≡◌, ◌++◌, ◌||◌, [], ◌∷◌
 ghost use Rattle.flame_ops.specs.Ascii.{capitals};
 ghost use Rattle.flame_spec.specs.KnownNames.{is_among, variable_names};
 ghost use Rattle.flame_spec.specs.NameFaults.{memory_name_faults, memory_faults, function_names, agent_faults, agents_faults};
-ghost use Rattle.flame_names.specs.Places.{text_of};
-ghost use Rattle.flame_names.specs.Failing.{FailsFirst};
-ghost use Rattle.flame_names.specs.Scopes.{declared_of};
+ghost use Rattle.flame_names.specs.PlacePaths.{text_of};
+ghost use Rattle.flame_names.specs.FirstFaults.{FailsFirst};
+ghost use Rattle.flame_names.specs.TableScopes.{declared_of};
 
-use crate::fault::{Fail, add_new, fault, refuse};
+use crate::faults::{add_new, fault, refuse};
 use crate::functions::{Tables, functions};
 use crate::messages::capitals_of;
 use crate::path::Place;
 use crate::table::{Capitals, Names};
-use flame_rows::NoMemory;
-use flame_spec::NameKind;
-use flame_spec::{AgentType, Function, Variable};
+use flame_rows::{Fail, NoMemory};
+use flame_spec::{AgentType, Function, NameFault, NameKind, Variable};
 use std::alloc::Global;
 
 /// The name of a memory variable that stands at this place, behind the earlier ones of its type.
@@ -26,7 +25,7 @@ fn add_variable<'a>(
     name: &'a str,
     earlier: &mut Names<'a>,
     own: &mut Capitals,
-) -> Result<(), Fail>
+) -> Result<(), Fail<NameFault>>
     requires { own.old ≡ map capitals earlier.old }
     ensures none { OnOk result
         (memory_name_faults constants.now earlier.old (text_of place.now) name.now ≡ []) }
@@ -50,7 +49,7 @@ fn memory<'a, 'p>(
     constants: &Capitals,
     place: &'p Place<'p>,
     variables: &'a [Variable],
-) -> Result<Names<'a>, Fail>
+) -> Result<Names<'a>, Fail<NameFault>>
     ensures none { OnOk result (memory_faults constants.now (text_of place.now) variables.now ≡ []) }
     ensures names { IfOk result (λ table. table ≡ variable_names variables.now) }
     ensures first { IfErr result (FailsFirst (memory_faults constants.now (text_of place.now) variables.now)) }
@@ -91,7 +90,7 @@ fn add_agent<'a>(
     agent: &'a AgentType,
     types: &mut Names<'a>,
     shared: &mut Names<'a>,
-) -> Result<(), Fail>
+) -> Result<(), Fail<NameFault>>
     ensures none { OnOk result (agent_faults
         (declared_of tables.now)
         types.old
@@ -139,7 +138,7 @@ pub fn agents<'p>(
     tables: &Tables<'_, '_>,
     place: &'p Place<'p>,
     agents: &[AgentType],
-) -> Result<(), Fail>
+) -> Result<(), Fail<NameFault>>
     ensures none { OnOk result (agents_faults (declared_of tables.now) (text_of place.now) agents.now ≡ []) }
     ensures first { IfErr result
         (FailsFirst (agents_faults (declared_of tables.now) (text_of place.now) agents.now)) }

@@ -4,22 +4,20 @@ ghost use Rattle.std.specs.Prelude.{◌≡◌, ◌++◌, [], ◌∷◌, ℕ, Lis
 ghost use Rattle.flame_spec.specs.KnownNames.{is_among};
 ghost use Rattle.flame_spec.specs.Leaves.{condition_faults};
 ghost use Rattle.flame_spec.specs.FunctionFaults.{condition_scope, sort_faults, reading_faults, use_faults, input_faults, inputs_faults, outputs_faults, functions_faults};
-ghost use Rattle.flame_names.specs.Places.{text_of};
-ghost use Rattle.flame_names.specs.Failing.{FailsFirst};
-ghost use Rattle.flame_names.specs.Tables.{transition_of};
-ghost use Rattle.flame_names.specs.Scopes.{scope_of, declared_of};
-ghost use Rattle.flame_names.specs.Titles.{title_at, function_at};
+ghost use Rattle.flame_names.specs.PlacePaths.{text_of};
+ghost use Rattle.flame_names.specs.FirstFaults.{FailsFirst};
+ghost use Rattle.flame_names.specs.NameLooks.{transition_of};
+ghost use Rattle.flame_names.specs.TableScopes.{scope_of, declared_of};
+ghost use Rattle.flame_names.specs.FunctionTitles.{title_at, function_at};
 
-use crate::fault::{Fail, add_new, fault, refuse};
+use crate::faults::{add_new, fault, refuse};
 use crate::leaves::{Scope, condition};
 use crate::lengths::Lengths;
 use crate::messages::MessageTable;
 use crate::path::Place;
 use crate::table::{Capitals, Names, Transitions};
-use flame_rows::Text;
-use flame_spec::Condition;
-use flame_spec::NameKind;
-use flame_spec::{Function, Input, Sort};
+use flame_rows::{Fail, Text};
+use flame_spec::{Condition, Function, Input, NameFault, NameKind, Sort};
 use std::alloc::Global;
 
 /// What a model declares for its agent types.
@@ -39,7 +37,7 @@ fn sort(
     variables: &Names<'_>,
     place: &Place<'_>,
     sort: &Option<Sort>,
-) -> Result<(), Fail>
+) -> Result<(), Fail<NameFault>>
     ensures none { OnOk result (sort_faults variables.now (text_of place.now) sort.now ≡ []) }
     ensures first { IfErr result (FailsFirst (sort_faults variables.now (text_of place.now) sort.now)) }
 {
@@ -65,7 +63,7 @@ fn reading(
     scope: &Scope<'_, '_>,
     place: &Place<'_>,
     input: &Input,
-) -> Result<(), Fail>
+) -> Result<(), Fail<NameFault>>
     ensures none { OnOk result (reading_faults (scope_of scope.now) (text_of place.now) input.now ≡ []) }
     ensures first { IfErr result
         (FailsFirst (reading_faults (scope_of scope.now) (text_of place.now) input.now)) }
@@ -95,7 +93,7 @@ fn add_input<'a>(
     place: &Place<'_>,
     input: &'a Input,
     earlier: &mut Names<'a>,
-) -> Result<(), Fail>
+) -> Result<(), Fail<NameFault>>
     ensures none { OnOk result
         (input_faults (declared_of tables.now) memory.now earlier.old (text_of place.now) input.now ≡ []) }
     ensures names { OnOk result (earlier.new ≡ earlier.old ++ input.now.message ∷ []) }
@@ -127,7 +125,7 @@ fn inputs<'p>(
     memory: &Names<'_>,
     place: &'p Place<'p>,
     inputs: &[Input],
-) -> Result<(), Fail>
+) -> Result<(), Fail<NameFault>>
     ensures none { OnOk result
         (inputs_faults (declared_of tables.now) memory.now (text_of place.now) inputs.now ≡ []) }
     ensures first { IfErr result
@@ -154,7 +152,7 @@ fn add_output<'a>(
     place: &Place<'_>,
     name: &'a str,
     earlier: &mut Names<'a>,
-) -> Result<(), Fail>
+) -> Result<(), Fail<NameFault>>
     ensures none { OnOk result
         (use_faults (declared_of tables.now) earlier.old (text_of place.now) name.now ≡ []) }
     ensures names { OnOk result (earlier.new ≡ earlier.old ++ name.now ∷ []) }
@@ -178,7 +176,7 @@ fn outputs<'p>(
     tables: &Tables<'_, '_>,
     place: &'p Place<'p>,
     outputs: &[Text],
-) -> Result<(), Fail>
+) -> Result<(), Fail<NameFault>>
     ensures none { OnOk result
         (outputs_faults (declared_of tables.now) (text_of place.now) outputs.now ≡ []) }
     ensures first { IfErr result
@@ -204,7 +202,7 @@ fn add_title<'a>(
     place: &Place<'_>,
     function: &'a Function,
     earlier: &mut Transitions<'a>,
-) -> Result<(), Fail>
+) -> Result<(), Fail<NameFault>>
     ensures none { OnOk result
         (title_at (λ name. is_among name shared.now) earlier.old (text_of place.now) function.now ≡ []) }
     ensures names { OnOk result (earlier.new ≡ earlier.old ++ transition_of function.now ∷ []) }
@@ -227,7 +225,7 @@ fn function_condition(
     memory: &Names<'_>,
     place: &Place<'_>,
     value: &Option<Condition>,
-) -> Result<(), Fail>
+) -> Result<(), Fail<NameFault>>
     ensures none { OnOk result (condition_faults
         (condition_scope (declared_of tables.now) memory.now) (text_of place.now) value.now ≡ []) }
     ensures first { IfErr result (FailsFirst (condition_faults
@@ -251,7 +249,7 @@ fn add_function<'a, 'p>(
     place: &'p Place<'p>,
     function: &'a Function,
     earlier: &mut Transitions<'a>,
-) -> Result<(), Fail>
+) -> Result<(), Fail<NameFault>>
     ensures none { OnOk result (function_at
         (declared_of tables.now)
         memory.now
@@ -300,7 +298,7 @@ pub fn functions<'p>(
     shared: &Names<'_>,
     place: &'p Place<'p>,
     functions: &[Function],
-) -> Result<(), Fail>
+) -> Result<(), Fail<NameFault>>
     ensures none { OnOk result (functions_faults
         (declared_of tables.now)
         memory.now

@@ -5,17 +5,16 @@ ghost use Rattle.flame_spec.specs.Paths.{at_key};
 ghost use Rattle.flame_spec.specs.declared.faults.NameKind.TheVariants.{UnknownVariable};
 ghost use Rattle.flame_spec.specs.Refusals.{fault_where};
 ghost use Rattle.flame_spec.specs.Leaves.{operand_faults, time_faults, leaf_faults, condition_faults};
-ghost use Rattle.flame_names.specs.Places.{text_of};
-ghost use Rattle.flame_names.specs.Failing.{FailsFirst};
-ghost use Rattle.flame_names.specs.Scopes.{scope_of};
+ghost use Rattle.flame_names.specs.PlacePaths.{text_of};
+ghost use Rattle.flame_names.specs.FirstFaults.{FailsFirst};
+ghost use Rattle.flame_names.specs.TableScopes.{scope_of};
 
-use crate::fault::{Fail, prefixed_fault, refuse};
+use crate::faults::{prefixed_fault, refuse};
 use crate::lengths::Lengths;
 use crate::path::Place;
 use crate::table::Names;
-use flame_rows::Text;
-use flame_spec::{Condition, Operand};
-use flame_spec::NameKind;
+use flame_rows::{Fail, Text};
+use flame_spec::{Condition, NameFault, NameKind, Operand};
 use std::alloc::Global;
 
 /// The names that a condition can read.
@@ -36,7 +35,7 @@ fn variable(
     place: &Place<'_>,
     prefix: &str,
     name: &Text,
-) -> Result<(), Fail>
+) -> Result<(), Fail<NameFault>>
     ensures none { OnOk result
         (fault_where (not is_known) UnknownVariable (text_of place.now) (prefix.now ++ name.now) ≡ []) }
     ensures first { IfErr result
@@ -60,7 +59,7 @@ fn operand(
     scope: &Scope<'_, '_>,
     place: &Place<'_>,
     operand: &Operand,
-) -> Result<(), Fail>
+) -> Result<(), Fail<NameFault>>
     ensures none { OnOk result (operand_faults (scope_of scope.now) (text_of place.now) operand.now ≡ []) }
     ensures first { IfErr result
         (FailsFirst (operand_faults (scope_of scope.now) (text_of place.now) operand.now)) }
@@ -84,7 +83,7 @@ fn side(
     scope: &Scope<'_, '_>,
     place: &Place<'_>,
     value: &Operand,
-) -> Result<(), Fail>
+) -> Result<(), Fail<NameFault>>
     ensures none { OnOk result
         (operand_faults (scope_of scope.now) (at_key (text_of place.now) (codes "value")) value.now ≡ []) }
     ensures first { IfErr result
@@ -100,7 +99,7 @@ fn time(
     place: &Place<'_>,
     period: &Text,
     phase: &Operand,
-) -> Result<(), Fail>
+) -> Result<(), Fail<NameFault>>
     ensures none { OnOk result (time_faults (scope_of scope.now) (text_of place.now) period.now phase.now ≡ []) }
     ensures first { IfErr result
         (FailsFirst (time_faults (scope_of scope.now) (text_of place.now) period.now phase.now)) }
@@ -123,7 +122,7 @@ fn leaves(
     scope: &Scope<'_, '_>,
     condition: &Condition,
     place: &Place<'_>,
-) -> Result<(), Fail>
+) -> Result<(), Fail<NameFault>>
     ensures none { OnOk result (leaf_faults (scope_of scope.now) condition.now (text_of place.now) ≡ []) }
     ensures first { IfErr result
         (FailsFirst (leaf_faults (scope_of scope.now) condition.now (text_of place.now))) }
@@ -154,7 +153,7 @@ pub fn condition(
     scope: &Scope<'_, '_>,
     place: &Place<'_>,
     condition: &Option<Condition>,
-) -> Result<(), Fail>
+) -> Result<(), Fail<NameFault>>
     ensures none { OnOk result (condition_faults (scope_of scope.now) (text_of place.now) condition.now ≡ []) }
     ensures first { IfErr result
         (FailsFirst (condition_faults (scope_of scope.now) (text_of place.now) condition.now)) }

@@ -2,17 +2,16 @@
 
 ghost use Rattle.std.specs.Prelude.{◌≡◌, ◌++◌, ◌*ℤ◌, ◌≤ℤ◌, pos, [], ◌∷◌, ℕ, List, IfOk, IfErr, OnOk, None, Some, is_some, not, if◌then◌else◌};
 ghost use Rattle.flame_spec.specs.UnitFaults.{units_faults};
-ghost use Rattle.flame_names.specs.Places.{text_of};
-ghost use Rattle.flame_names.specs.Failing.{FailsFirst};
-ghost use Rattle.flame_names.specs.Tables.{look, names_of};
-ghost use Rattle.flame_names.specs.Lengths.{started, unit_at, with_unit, floored};
+ghost use Rattle.flame_names.specs.PlacePaths.{text_of};
+ghost use Rattle.flame_names.specs.FirstFaults.{FailsFirst};
+ghost use Rattle.flame_names.specs.NameLooks.{look, names_of};
+ghost use Rattle.flame_names.specs.UnitTables.{started, unit_at, with_unit, floored};
 ghost use Rattle.flame_spec.specs.KnownNames.{is_among, unit_names};
 
-use crate::fault::{Fail, fault, refuse};
+use crate::faults::{fault, refuse};
 use crate::path::Place;
-use flame_rows::NoMemory;
-use flame_spec::NameKind;
-use flame_spec::TimeUnit;
+use flame_rows::{Fail, NoMemory};
+use flame_spec::{NameFault, NameKind, TimeUnit};
 use indexmap::IndexMap;
 use std::alloc::Global;
 use std::marker::Model;
@@ -89,7 +88,7 @@ fn add_unit<'a>(
     place: &Place<'_>,
     unit: &'a TimeUnit,
     known: &mut Lengths<'a>,
-) -> Result<(), Fail>
+) -> Result<(), Fail<NameFault>>
     ensures none { OnOk result (unit_at known.old (text_of place.now) unit.now ≡ []) }
     ensures after { OnOk result (known.new ≡ with_unit known.old unit.now) }
     ensures first { IfErr result (FailsFirst (unit_at known.old (text_of place.now) unit.now)) }
@@ -130,7 +129,7 @@ pub fn units<'a, 'p>(
     alloc: Global,
     place: &'p Place<'p>,
     units: &'a [TimeUnit],
-) -> Result<Lengths<'a>, Fail>
+) -> Result<Lengths<'a>, Fail<NameFault>>
     ensures none { OnOk result (units_faults (text_of place.now) units.now ≡ []) }
     ensures names { IfOk result (λ table. names_of table ≡ unit_names units.now) }
     ensures first { IfErr result (FailsFirst (units_faults (text_of place.now) units.now)) }

@@ -2,13 +2,15 @@
 #![tactic(auto)]
 
 mod agents;
-pub mod fault;
+mod faults;
 mod functions;
 mod leaves;
 mod lengths;
 mod messages;
-pub mod names;
+mod naming;
 mod path;
 mod table;
 #[cfg(test)]
 mod tests;
+
+pub use naming::names;

@@ -5,17 +5,15 @@ ghost use Rattle.std.specs.Option.{option_copied};
 ghost use Rattle.flame_ops.specs.Ascii.{capitals};
 ghost use Rattle.flame_spec.specs.KnownNames.{is_among, variable_names, message_names};
 ghost use Rattle.flame_spec.specs.MessageFaults.{apart_faults, constant_faults, variables_faults, message_faults, messages_faults};
-ghost use Rattle.flame_names.specs.Places.{text_of};
-ghost use Rattle.flame_names.specs.Failing.{FailsFirst};
-ghost use Rattle.flame_names.specs.Tables.{look, names_of, message_entry};
+ghost use Rattle.flame_names.specs.PlacePaths.{text_of};
+ghost use Rattle.flame_names.specs.FirstFaults.{FailsFirst};
+ghost use Rattle.flame_names.specs.NameLooks.{look, names_of, message_entry};
 
-use crate::fault::{Fail, fault};
+use crate::faults::fault;
 use crate::path::Place;
 use crate::table::{Capitals, Names};
-use flame_rows::NoMemory;
-use flame_rows::Text;
-use flame_spec::NameKind;
-use flame_spec::{MessageType, Variable};
+use flame_rows::{Fail, NoMemory, Text};
+use flame_spec::{MessageType, NameFault, NameKind, Variable};
 use indexmap::IndexMap;
 use std::alloc::Global;
 use std::marker::Model;
@@ -82,7 +80,7 @@ fn add_apart<'a>(
     name: &'a str,
     earlier: &mut Names<'a>,
     shouted: &mut Capitals,
-) -> Result<(), Fail>
+) -> Result<(), Fail<NameFault>>
     requires { shouted.old ≡ map capitals earlier.old }
     ensures none { OnOk result (apart_faults earlier.old (text_of place.now) name.now ≡ []) }
     ensures added { OnOk result (is_among name.now earlier.old ≡ false) }
@@ -104,7 +102,7 @@ pub fn constants<'p>(
     alloc: Global,
     place: &'p Place<'p>,
     constants: &[Text],
-) -> Result<Capitals, Fail>
+) -> Result<Capitals, Fail<NameFault>>
     ensures none { OnOk result (constant_faults (text_of place.now) constants.now ≡ []) }
     ensures capitals { IfOk result (λ table. table ≡ map capitals constants.now) }
     ensures first { IfErr result (FailsFirst (constant_faults (text_of place.now) constants.now)) }
@@ -129,7 +127,7 @@ fn variables<'a, 'p>(
     alloc: Global,
     place: &'p Place<'p>,
     variables: &'a [Variable],
-) -> Result<Names<'a>, Fail>
+) -> Result<Names<'a>, Fail<NameFault>>
     ensures none { OnOk result (variables_faults (text_of place.now) variables.now ≡ []) }
     ensures names { IfOk result (λ table. table ≡ variable_names variables.now) }
     ensures first { IfErr result (FailsFirst (variables_faults (text_of place.now) variables.now)) }
@@ -157,7 +155,7 @@ fn add_message<'a>(
     message: &'a MessageType,
     earlier: &mut Names<'a>,
     shouted: &mut Capitals,
-) -> Result<Names<'a>, Fail>
+) -> Result<Names<'a>, Fail<NameFault>>
     requires { shouted.old ≡ map capitals earlier.old }
     ensures none { OnOk result (message_faults earlier.old (text_of place.now) message.now ≡ []) }
     ensures added { OnOk result (is_among message.now.name earlier.old ≡ false) }
@@ -185,7 +183,7 @@ pub fn messages<'a, 'p>(
     alloc: Global,
     place: &'p Place<'p>,
     messages: &'a [MessageType],
-) -> Result<MessageTable<'a>, Fail>
+) -> Result<MessageTable<'a>, Fail<NameFault>>
     ensures none { OnOk result (messages_faults (text_of place.now) messages.now ≡ []) }
     ensures messages { IfOk result (λ table. table ≡ map message_entry messages.now) }
     ensures first { IfErr result (FailsFirst (messages_faults (text_of place.now) messages.now)) }

@@ -1,10 +1,9 @@
 //! Places in a model file.
 
 ghost use Rattle.std.specs.Prelude.{◌≡◌, ◌++◌, IfOk, OnOk, string_bytes};
-ghost use Rattle.flame_names.specs.Places.{text_of};
+ghost use Rattle.flame_names.specs.PlacePaths.{text_of};
 
-use flame_rows::NoMemory;
-use flame_rows::Text;
+use flame_rows::{NoMemory, Text};
 use std::alloc::Global;
 use std::fmt::Write;
 

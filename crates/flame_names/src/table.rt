@@ -3,7 +3,7 @@
 ghost use Rattle.std.specs.Prelude.{◌≡◌, ◌++◌, [], ◌∷◌, IfOk, not, if◌then◌else◌, string_bytes};
 ghost use Rattle.std.specs.List.{list_any};
 ghost use Rattle.flame_spec.specs.KnownNames.{is_among};
-ghost use Rattle.flame_names.specs.Tables.{transition_of, is_same_transition};
+ghost use Rattle.flame_names.specs.NameLooks.{transition_of, is_same_transition};
 
 use flame_rows::NoMemory;
 use flame_spec::Function;

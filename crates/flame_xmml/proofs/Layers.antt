@@ -1,24 +1,19 @@
 -- A condition opened by one layer.
 use Rattle.std.proofs.Common.{◌≡◌, ℕ, max, ◌<◌, ◌≤◌, List, Bool, true, false, Option, Some, None, cond, refl}
 use Rattle.std.proofs.Common.{sym, ap, ◌∙◌, codes, arith}
-use Rattle.std.specs.Prelude.{Box, unwrap_or}
-use Rattle.std.specs.declared.alloc.Global.{Global}
+use Rattle.std.specs.Prelude.{unwrap_or}
 use Rattle.std.specs.Ordering.{nat_cmp, match_ordering}
 use Rattle.std.specs.Cmp.Lexicographic.{slice_cmp}
 use Rattle.std.specs.declared.cmp.Ordering.TheVariants.{Less, Equal, Greater}
 use Rattle.serde_json.specs.Data.{Data, null, boolean, number, string, array, object, Members, no_members, member}
 use Rattle.serde_json.specs.Data.{depth, members_depth}
 use Rattle.serde_json.specs.Find.{get_member}
-use Rattle.flame_spec.specs.declared.conditions.Condition.{Condition, roll-Condition}
-use Rattle.flame_spec.specs.declared.conditions.Condition.TheVariants.{Not, rolls-Not}
-use Rattle.flame_spec.specs.declared.conditions.Condition.TheFolds.{fold-roll-Condition}
-use Rattle.flame_spec.specs.declared.conditions.Condition.TheOpen.{Condition-F}
-use Rattle.flame_xmml.specs.declared.fault.Want.TheVariants.{Condition as ConditionWant}
-use Rattle.flame_xmml.specs.Parts.{part, has, is_object, object_of, wanted, required}
-use Rattle.flame_xmml.specs.Bare.{boxed, bare_step, bare_condition}
-use Rattle.flame_xmml.specs.Conditions.{by_keys, at_keys, condition_keys, condition_faults, condition_parts}
-use Rattle.flame_xmml.specs.Conditions.{no_condition, condition_of, time_faults, time_of, operation_faults}
-use Rattle.flame_xmml.specs.Conditions.{operation_of}
+use Rattle.flame_spec.specs.declared.conditions.Condition.{Not as negation}
+use Rattle.flame_xmml.specs.declared.faults.Want.TheVariants.{Condition as ConditionWant}
+use Rattle.flame_xmml.specs.ValueParts.{part, has, is_object, object_of, wanted, required}
+use Rattle.flame_xmml.specs.ConditionShapes.{by_keys, at_keys, condition_keys, condition_faults, condition_parts}
+use Rattle.flame_xmml.specs.ConditionShapes.{no_condition, condition_of, time_faults, time_of, operation_faults}
+use Rattle.flame_xmml.specs.ConditionShapes.{operation_of}
 
 -- what a key gives is what the value there gives
 at_keys-part :
@@ -100,7 +95,7 @@ pub negated :
     → Some found ≡ object_of whole
     → has (codes "not") found ≡ true
     → (condition_faults in_filter path whole ≡ required (condition_faults in_filter) (codes "not") path found)
-    × (condition_of whole ≡ roll-Condition (Condition-F.Not (boxed (condition_of (part (codes "not") found)))))
+    × (condition_of whole ≡ negation (condition_of (part (codes "not") found)))
 negated in_filter path found whole is there =
     let opened = found-whole found whole is in
     let here : found ≡ whole = opened.1 in
@@ -143,9 +138,3 @@ operated in_filter path found whole is no_not no_time =
       condition_faults-open in_filter path whole ∙ rw (object, no_not', no_time', here) refl,
       condition_of-open whole ∙ rw (no_not', no_time', here) refl,
     )
-
-pub bare-Not :
-    (inner : Box Condition Global)
-    → bare_condition (Not inner) ≡ roll-Condition (Condition-F.Not (boxed (bare_condition inner.value)))
-bare-Not inner =
-    ap bare_condition (sym (rolls-Not inner)) ∙ fold-roll-Condition Condition bare_step (Condition-F.Not inner)

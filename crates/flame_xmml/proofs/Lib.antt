@@ -1,4 +1,5 @@
 pub mod Firsts
+pub mod Formed
 pub mod Layers
 pub mod Members
 pub mod Parsed

@@ -10,49 +10,52 @@ use Rattle.flame_spec.specs.declared.models.AgentType.{AgentType}
 use Rattle.flame_spec.specs.declared.models.Function.{Function}
 use Rattle.flame_spec.specs.declared.models.Input.{Input}
 use Rattle.flame_spec.specs.declared.models.Sort.{Sort}
-use Rattle.flame_xmml.specs.declared.model.Environment.{Environment}
-use Rattle.flame_xmml.specs.Parts.{part, has, members}
+use Rattle.flame_xmml.specs.declared.reader.Environment.{Environment}
+use Rattle.flame_xmml.specs.ValueParts.{part, has, members}
 use Rattle.flame_xmml.specs.Wants.{name_of, filled_of, positive_of, truth_of, order_of}
-use Rattle.flame_xmml.specs.Conditions.{condition_of}
+use Rattle.flame_xmml.specs.ConditionShapes.{condition_of}
 
 -- ---- what stands at keys
 
--- the name at a key
+-- the name at a key [XMML]
 abbrev pub name_at : List ℕ → Data → List ℕ
 name_at key value = unwrap_or (name_of (part key value)) []
 
--- a text of at least one byte
+-- a text of at least one byte [XMML]
 abbrev pub filled : Data → List ℕ
 filled value = unwrap_or (filled_of value) []
 
+-- the text of at least one byte at a key [XMML]
 abbrev pub filled_at : List ℕ → Data → List ℕ
 filled_at key value = filled (part key value)
 
--- the period of a time unit
+-- the period of a time unit [XMML]
 abbrev pub period_at : Data → ℤ
 period_at value = unwrap_or (positive_of (part (codes "period") value)) (pos 1)
 
--- whether a random order is asked for; it is not where that is missing
+-- whether a random order is asked for; it is not where that is missing [XMML]
 abbrev pub random_at : Data → Bool
 random_at value = unwrap_or (truth_of (part (codes "random") value)) false
 
--- whether the greatest comes first
+-- whether the greatest comes first [XMML]
 abbrev pub descending_at : Data → Bool
 descending_at value = unwrap_or (order_of (part (codes "order") value)) false
 
--- what the members of the list at a key stand for; none where the list is missing
+-- what the members of the list at a key stand for; none where the list is missing [XMML]
 abbrev pub list_at : {X : Type 0} → (Data → X) → List ℕ → Data → List X
 list_at read key value = map read (unwrap_or (members (part key value)) [])
 
--- what stands at a key, if something does
+-- what stands at a key, if something does [own]
 abbrev pub there : List ℕ → Data → Option Data
 there key value = if has key value then Some (part key value) else None
 
 -- ---- the objects
 
+-- a variable [XMML]
 abbrev pub variable_of : Data → Variable
 variable_of value = record { name = name_at (codes "name") value; length = None }
 
+-- a time unit [XMML]
 abbrev pub unit_of : Data → TimeUnit
 unit_of value = record {
   name = name_at (codes "name") value;
@@ -60,18 +63,21 @@ unit_of value = record {
   period = period_at value;
 }
 
+-- a message type [XMML]
 abbrev pub message_of : Data → MessageType
 message_of value = record {
   name = name_at (codes "name") value;
   variables = list_at variable_of (codes "variables") value;
 }
 
+-- a sort of an input [XMML]
 abbrev pub sort_of : Data → Sort
 sort_of value = record {
   key = name_at (codes "key") value;
   descending = descending_at value;
 }
 
+-- an input [XMML]
 abbrev pub input_of : Data → Input
 input_of value = record {
   message = name_at (codes "messageName") value;
@@ -80,6 +86,7 @@ input_of value = record {
   sort = option_map sort_of (there (codes "sort") value);
 }
 
+-- a function [XMML]
 abbrev pub function_of : Data → Function
 function_of value = record {
   name = name_at (codes "name") value;
@@ -90,6 +97,7 @@ function_of value = record {
   outputs = list_at (name_at (codes "messageName")) (codes "outputs") value;
 }
 
+-- an agent type [XMML]
 abbrev pub agent_of : Data → AgentType
 agent_of value = record {
   name = name_at (codes "name") value;
@@ -97,7 +105,7 @@ agent_of value = record {
   functions = list_at function_of (codes "functions") value;
 }
 
--- the environment; of a missing one each list is empty
+-- the environment; of a missing one each list is empty [XMML]
 abbrev pub environment_of : Data → Environment
 environment_of value = record {
   constants = list_at (name_at (codes "name")) (codes "constants") value;
@@ -105,6 +113,7 @@ environment_of value = record {
   units = list_at unit_of (codes "timeUnits") value;
 }
 
+-- the model [XMML]
 abbrev pub xmodel_of : Data → Model
 xmodel_of value =
     let environment = environment_of (part (codes "environment") value) in
@@ -116,6 +125,6 @@ xmodel_of value =
       agents = list_at agent_of (codes "agents") value;
     }
 
--- the model of the whole value
+-- the model of the whole value [XMML]
 abbrev pub model_of : Data → Model
 model_of value = xmodel_of (part (codes "xmodel") value)

@@ -14,35 +14,36 @@ use Rattle.flame_spec.specs.Names.{is_name, is_filled}
 use Rattle.flame_ops.specs.declared.integers.Op.TheVariants.{Lt, Gt, Le, Ge, Eq, Ne}
 use Rattle.flame_spec.specs.declared.conditions.Operand.{Operand}
 use Rattle.flame_spec.specs.declared.conditions.Operand.TheVariants.{Number, Agent, Message}
-use Rattle.flame_xmml.specs.Parts.{members}
+use Rattle.flame_xmml.specs.ValueParts.{members}
 use Rattle.flame_xmml.specs.declared.words.Connective.{Connective}
 use Rattle.flame_xmml.specs.declared.words.Connective.TheVariants.{Compare, And, Or}
 
 -- ---- texts
 
--- Name: a text that is a name
+-- Name: a text that is a name [XMML]
 abbrev pub name_of : Data → Option (List ℕ)
 name_of value = as_str value >>= kept is_name
 
--- State and FileName: a text of at least one byte
+-- State and FileName: a text of at least one byte [XMML]
 abbrev pub filled_of : Data → Option (List ℕ)
 filled_of value = as_str value >>= kept is_filled
 
--- Int: the text `int`
+-- Int: the text `int` [XMML]
 abbrev pub int_type_of : Data → Option (List ℕ)
 int_type_of value = as_str value >>= kept (bytes_eq (codes "int"))
 
--- Order: whether the greatest comes first
+-- `ascend` or `descend`: whether the greatest comes first [XMML]
 abbrev pub order_named : List ℕ → Option Bool
 order_named text =
     if bytes_eq text (codes "ascend") then Some false
     else if bytes_eq text (codes "descend") then Some true
     else None
 
+-- Order: the text of an order [XMML]
 abbrev pub order_of : Data → Option Bool
 order_of value = as_str value >>= order_named
 
--- Empty: a list of no member
+-- Empty: a list of no member [own]
 abbrev pub empty_of : Data → Option (List Data)
 empty_of value = do
   values ← members value
@@ -51,13 +52,14 @@ empty_of value = do
 
 -- ---- truths
 
+-- `true` or `false` [XMML]
 abbrev pub truth_named : List ℕ → Option Bool
 truth_named text =
     if bytes_eq text (codes "true") then Some true
     else if bytes_eq text (codes "false") then Some false
     else None
 
--- Truth: true, false, or the text of one of them
+-- Truth: true, false, or the text of one of them [XMML]
 abbrev pub truth_of : Data → Option Bool
 truth_of (boolean truth) = Some truth
 truth_of (string text) = truth_named text
@@ -65,31 +67,31 @@ truth_of value = None
 
 -- ---- whole numbers
 
--- an optional `-` and one or more digits, and nothing else
+-- an optional `-` and one or more digits, and nothing else [own]
 abbrev pub is_whole : List ℕ → Bool
 is_whole text =
     let digits = drop (if starts_with_minus text then 1 else 0) text in
     is_filled digits && list_all is_ascii_digit digits
 
--- the number that such a text writes, of whatever length
+-- the number that such a text writes, of whatever length [own]
 abbrev pub whole_named : List ℕ → Option ℤ
 whole_named text = if is_whole text then Some (signed_digits_value 10 text) else None
 
--- a whole number: a JSON number that is an integer of 64 bits, or a text
+-- a whole number: a JSON number that is an integer of 64 bits, or a text [own]
 abbrev pub whole_of : Data → Option ℤ
 whole_of (number n) = as_integer n
 whole_of (string text) = whole_named text
 whole_of value = None
 
--- the number, where int holds it
+-- the number, where int holds it [C, 6.2.5]
 abbrev pub held : ℤ → Option ℤ
 held z = if is_int z then Some z else None
 
--- a whole number in the range of int
+-- a whole number in the range of int [own]
 abbrev pub int_of : Data → Option ℤ
 int_of value = whole_of value >>= held
 
--- Positive: a whole number from 1 to 2147483647
+-- Positive: a whole number from 1 to 2147483647 [own]
 abbrev pub positive_of : Data → Option ℤ
 positive_of value = do
   z ← int_of value
@@ -98,42 +100,43 @@ positive_of value = do
 
 -- ---- operands
 
--- the first of two readings that there is
+-- the first of two readings that there is [own]
 abbrev pub either : {X : Type 0} → Option X → Option X → Option X
 either None second = second
 either (Some x) second = Some x
 
--- what follows the prefix of a text
+-- what follows the prefix of a text [own]
 abbrev pub after_prefix : List ℕ → List ℕ → Option (List ℕ)
 after_prefix prefix text = if starts_with nat_eq text prefix then Some (drop (length prefix) text) else None
 
--- the name that follows the prefix of a text
+-- the name that follows the prefix of a text [own]
 abbrev pub name_after : List ℕ → List ℕ → Option (List ℕ)
 name_after prefix text = after_prefix prefix text >>= kept is_name
 
--- `a.` and a name
+-- `a.` and a name [XMML]
 abbrev pub agent_named : List ℕ → Option Operand
 agent_named text = option_map (λ name. Agent name) (name_after (codes "a.") text)
 
--- `m.` and a name
+-- `m.` and a name [XMML]
 abbrev pub message_named : List ℕ → Option Operand
 message_named text = option_map (λ name. Message name) (name_after (codes "m.") text)
 
+-- a number [XMML]
 abbrev pub number_named : Data → Option Operand
 number_named value = option_map (λ z. Number z) (int_of value)
 
--- Operand: a whole number in the range of int, or a text of `a.` or `m.` and a name
+-- Operand: a whole number in the range of int, or a text of `a.` or `m.` and a name [XMML]
 abbrev pub operand_of : Data → Option Operand
 operand_of value =
     either (number_named value) (as_str value >>= (λ text. either (agent_named text) (message_named text)))
 
--- Phase: a whole number in the range of int, or a text of `a.` and a name
+-- Phase: a whole number in the range of int, or a text of `a.` and a name [XMML]
 abbrev pub phase_of : Data → Option Operand
 phase_of value = either (number_named value) (as_str value >>= agent_named)
 
 -- ---- operators
 
--- Op: one of eight texts
+-- one of eight texts [XMML]
 abbrev pub connective_named : List ℕ → Option Connective
 connective_named text =
     if bytes_eq text (codes "EQ") then Some (Compare Eq)
@@ -146,5 +149,6 @@ connective_named text =
     else if bytes_eq text (codes "OR") then Some Or
     else None
 
+-- Op: the text of an operator [XMML]
 abbrev pub connective_of : Data → Option Connective
 connective_of value = as_str value >>= connective_named

@@ -2,24 +2,23 @@
 
 ghost use Rattle.std.specs.Prelude.{◌≡◌, ◌++◌, codes, IsTrue, Some, option_map};
 ghost use Rattle.serde_json.specs.View.{view};
-ghost use Rattle.flame_xmml.specs.Bare.{bare_condition, bare_sides};
-ghost use Rattle.flame_xmml.specs.Conditions.{condition_faults, condition_of, time_faults, time_of, phase_at};
-ghost use Rattle.flame_xmml.specs.Conditions.{duration_at, side_faults, side_of, comparison_of, conditions_at};
-ghost use Rattle.flame_xmml.specs.Conditions.{operation_faults, operation_of};
-ghost use Rattle.flame_xmml.specs.Leaves.{phase_faults, positive_faults};
-ghost use Rattle.flame_xmml.specs.Parts.{part, is_object, object_of, required, optional};
-ghost use Rattle.flame_xmml.specs.Places.{path_of};
-ghost use Rattle.flame_xmml.specs.Reading.{Reads};
-ghost use Rattle.flame_xmml.specs.Shown.{data_of};
+ghost use Rattle.flame_xmml.specs.ConditionShapes.{condition_faults, condition_of, time_faults, time_of, phase_at};
+ghost use Rattle.flame_xmml.specs.ConditionShapes.{duration_at, side_faults, side_of, comparison_of, conditions_at};
+ghost use Rattle.flame_xmml.specs.ConditionShapes.{operation_faults, operation_of};
+ghost use Rattle.flame_xmml.specs.LeafShapes.{phase_faults, positive_faults};
+ghost use Rattle.flame_xmml.specs.ValueParts.{part, is_object, object_of, required, optional};
+ghost use Rattle.flame_xmml.specs.ValuePlaces.{path_of};
+ghost use Rattle.flame_xmml.specs.ReadValues.{Reads};
+ghost use Rattle.flame_xmml.specs.ValueData.{data_of};
 
-use crate::fault::{Fail, Want};
+use crate::faults::{Shape, Want};
 use crate::numbers::positive_of;
 use crate::operand::{operand_of, phase_of};
 use crate::parts::{fault, has, part, wanted};
 use crate::place::Place;
 use crate::words::{Connective, connective_of, name_of};
 use flame_ops::Op;
-use flame_rows::Text;
+use flame_rows::{Fail, Part, Text};
 use flame_spec::{Condition, Operand};
 use serde_json::Value;
 use std::alloc::Global;
@@ -31,8 +30,8 @@ pub(crate) fn condition<'p>(
     place: &'p Place<'p>,
     value: Option<&Value>,
     in_filter: bool,
-) -> Result<Condition, Fail>
-    ensures { Reads bare_condition
+) -> Result<Condition, Fail<Shape>>
+    ensures { Reads
         (condition_faults in_filter (path_of place.now) (data_of value.entry))
         (condition_of (data_of value.entry))
         result }
@@ -47,7 +46,7 @@ pub(crate) fn condition<'p>(
             part(value, "not"),
             in_filter,
         )?;
-        Ok(Condition::Not(Box::new(alloc, inner)?))
+        Ok(Condition::Not(Part::of(alloc, inner)?))
     } else if has(value, "time") {
         time(
             alloc,
@@ -67,9 +66,9 @@ fn operation<'p>(
     place: &'p Place<'p>,
     value: &Value,
     in_filter: bool,
-) -> Result<Condition, Fail>
+) -> Result<Condition, Fail<Shape>>
     requires { IsTrue (is_object (view value.now)) }
-    ensures { Reads bare_condition
+    ensures { Reads
         (operation_faults in_filter (path_of place.now) (view value.now))
         (operation_of (view value.now))
         result }
@@ -79,11 +78,11 @@ fn operation<'p>(
         Connective::Compare(op) => comparison(alloc, place, value, op),
         Connective::And => {
             let (left, right) = sides(alloc, place, value, in_filter)?;
-            Ok(Condition::And(Box::new(alloc, left)?, Box::new(alloc, right)?))
+            Ok(Condition::And(Part::of(alloc, left)?, Part::of(alloc, right)?))
         }
         Connective::Or => {
             let (left, right) = sides(alloc, place, value, in_filter)?;
-            Ok(Condition::Or(Box::new(alloc, left)?, Box::new(alloc, right)?))
+            Ok(Condition::Or(Part::of(alloc, left)?, Part::of(alloc, right)?))
         }
     }
 }
@@ -95,9 +94,9 @@ fn sides<'p>(
     place: &'p Place<'p>,
     value: &Value,
     in_filter: bool,
-) -> Result<(Condition, Condition), Fail>
+) -> Result<(Condition, Condition), Fail<Shape>>
     requires { IsTrue (is_object (view value.now)) }
-    ensures { Reads bare_sides
+    ensures { Reads
         (required (condition_faults in_filter) (codes "lhs") (path_of place.now) (view value.now)
         ++ required (condition_faults in_filter) (codes "rhs") (path_of place.now) (view value.now))
         (conditions_at (view value.now))
@@ -133,8 +132,8 @@ fn time(
     place: &Place<'_>,
     value: Option<&Value>,
     in_filter: bool,
-) -> Result<Condition, Fail>
-    ensures { Reads bare_condition
+) -> Result<Condition, Fail<Shape>>
+    ensures { Reads
         (time_faults in_filter (path_of place.now) (data_of value.entry))
         (time_of (data_of value.entry))
         result }
@@ -153,8 +152,8 @@ fn time(
 }
 
 /// The phase of a time condition; 0 where it is missing.
-fn phase_at(alloc: Global, place: &Place<'_>, value: &Value) -> Result<Operand, Fail>
-    ensures { Reads (λ phase. phase)
+fn phase_at(alloc: Global, place: &Place<'_>, value: &Value) -> Result<Operand, Fail<Shape>>
+    ensures { Reads
         (optional phase_faults (codes "phase") (path_of place.now) (view value.now))
         (phase_at (view value.now))
         result }
@@ -169,8 +168,8 @@ fn phase_at(alloc: Global, place: &Place<'_>, value: &Value) -> Result<Operand, 
 }
 
 /// The duration of a time condition; 1 where it is missing.
-fn duration_at(alloc: Global, place: &Place<'_>, value: &Value) -> Result<i32, Fail>
-    ensures { Reads (λ duration. duration)
+fn duration_at(alloc: Global, place: &Place<'_>, value: &Value) -> Result<i32, Fail<Shape>>
+    ensures { Reads
         (optional positive_faults (codes "duration") (path_of place.now) (view value.now))
         (duration_at (view value.now))
         result }
@@ -191,8 +190,13 @@ fn duration_at(alloc: Global, place: &Place<'_>, value: &Value) -> Result<i32, F
 
 /// A comparison by this operator.
 #[tactic(auto, using(crate::proofs::Firsts::first_stays))]
-fn comparison(alloc: Global, place: &Place<'_>, value: &Value, op: Op) -> Result<Condition, Fail>
-    ensures { Reads bare_condition
+fn comparison(
+    alloc: Global,
+    place: &Place<'_>,
+    value: &Value,
+    op: Op,
+) -> Result<Condition, Fail<Shape>>
+    ensures { Reads
         (required side_faults (codes "lhs") (path_of place.now) (view value.now)
         ++ required side_faults (codes "rhs") (path_of place.now) (view value.now))
         (comparison_of op (view value.now))
@@ -204,8 +208,13 @@ fn comparison(alloc: Global, place: &Place<'_>, value: &Value, op: Op) -> Result
 }
 
 /// The side of a comparison at a key.
-fn side_at(alloc: Global, place: &Place<'_>, value: &Value, key: &str) -> Result<Operand, Fail>
-    ensures { Reads (λ operand. operand)
+fn side_at(
+    alloc: Global,
+    place: &Place<'_>,
+    value: &Value,
+    key: &str,
+) -> Result<Operand, Fail<Shape>>
+    ensures { Reads
         (required side_faults key.now (path_of place.now) (view value.now))
         (side_of (part key.now (view value.now)))
         result }
@@ -214,8 +223,8 @@ fn side_at(alloc: Global, place: &Place<'_>, value: &Value, key: &str) -> Result
 }
 
 /// A side of a comparison.
-fn side(alloc: Global, place: &Place<'_>, value: Option<&Value>) -> Result<Operand, Fail>
-    ensures { Reads (λ operand. operand)
+fn side(alloc: Global, place: &Place<'_>, value: Option<&Value>) -> Result<Operand, Fail<Shape>>
+    ensures { Reads
         (side_faults (path_of place.now) (data_of value.entry))
         (side_of (data_of value.entry))
         result }

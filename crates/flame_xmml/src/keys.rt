@@ -2,20 +2,20 @@
 
 ghost use Rattle.std.specs.Prelude.{◌≡◌, codes, is_some};
 ghost use Rattle.serde_json.specs.View.{view};
-ghost use Rattle.flame_xmml.specs.Leaves.{empty_faults, int_faults, name_faults, state_faults, positive_faults};
-ghost use Rattle.flame_xmml.specs.Leaves.{truth_faults, order_faults};
+ghost use Rattle.flame_xmml.specs.LeafShapes.{empty_faults, int_faults, name_faults, state_faults, positive_faults};
+ghost use Rattle.flame_xmml.specs.LeafShapes.{truth_faults, order_faults};
 ghost use Rattle.flame_xmml.specs.Models.{name_at, filled_at, period_at, random_at, descending_at};
-ghost use Rattle.flame_xmml.specs.Parts.{required, optional};
-ghost use Rattle.flame_xmml.specs.Places.{path_of};
-ghost use Rattle.flame_xmml.specs.Reading.{Reads, Passes};
+ghost use Rattle.flame_xmml.specs.ValueParts.{required, optional};
+ghost use Rattle.flame_xmml.specs.ValuePlaces.{path_of};
+ghost use Rattle.flame_xmml.specs.ReadValues.{Reads, Passes};
 ghost use Rattle.flame_xmml.specs.Wants.{empty_of};
 
-use crate::fault::{Fail, Want};
+use crate::faults::{Shape, Want};
 use crate::numbers::positive_of;
 use crate::parts::{fault, members, part, wanted};
 use crate::place::Place;
 use crate::words::{filled_of, int_type_of, name_of, order_of, truth_of};
-use flame_rows::Text;
+use flame_rows::{Fail, Text};
 use serde_json::Value;
 use std::alloc::Global;
 
@@ -25,8 +25,8 @@ pub(crate) fn name_at(
     place: &Place<'_>,
     value: &Value,
     key: &str,
-) -> Result<Text, Fail>
-    ensures { Reads (λ name. name)
+) -> Result<Text, Fail<Shape>>
+    ensures { Reads
         (required name_faults key.now (path_of place.now) (view value.now))
         (name_at key.now (view value.now))
         result }
@@ -42,8 +42,8 @@ pub(crate) fn state_at(
     place: &Place<'_>,
     value: &Value,
     key: &str,
-) -> Result<Text, Fail>
-    ensures { Reads (λ state. state)
+) -> Result<Text, Fail<Shape>>
+    ensures { Reads
         (required state_faults key.now (path_of place.now) (view value.now))
         (filled_at key.now (view value.now))
         result }
@@ -54,7 +54,7 @@ pub(crate) fn state_at(
 }
 
 /// The text `int` at `type`.
-pub(crate) fn int_type(alloc: Global, place: &Place<'_>, value: &Value) -> Result<(), Fail>
+pub(crate) fn int_type(alloc: Global, place: &Place<'_>, value: &Value) -> Result<(), Fail<Shape>>
     ensures { Passes (required int_faults (codes "type") (path_of place.now) (view value.now)) result }
 {
     let int = int_type_of(part(value, "type"));
@@ -63,8 +63,8 @@ pub(crate) fn int_type(alloc: Global, place: &Place<'_>, value: &Value) -> Resul
 }
 
 /// The number at `period`.
-pub(crate) fn period(alloc: Global, place: &Place<'_>, value: &Value) -> Result<i32, Fail>
-    ensures { Reads (λ period. period)
+pub(crate) fn period(alloc: Global, place: &Place<'_>, value: &Value) -> Result<i32, Fail<Shape>>
+    ensures { Reads
         (required positive_faults (codes "period") (path_of place.now) (view value.now))
         (period_at (view value.now))
         result }
@@ -74,8 +74,12 @@ pub(crate) fn period(alloc: Global, place: &Place<'_>, value: &Value) -> Result<
 }
 
 /// Whether the greatest comes first, at `order`.
-pub(crate) fn descending(alloc: Global, place: &Place<'_>, value: &Value) -> Result<bool, Fail>
-    ensures { Reads (λ descending. descending)
+pub(crate) fn descending(
+    alloc: Global,
+    place: &Place<'_>,
+    value: &Value,
+) -> Result<bool, Fail<Shape>>
+    ensures { Reads
         (required order_faults (codes "order") (path_of place.now) (view value.now))
         (descending_at (view value.now))
         result }
@@ -85,8 +89,8 @@ pub(crate) fn descending(alloc: Global, place: &Place<'_>, value: &Value) -> Res
 }
 
 /// The truth at `random`; false where it is missing.
-pub(crate) fn random(alloc: Global, place: &Place<'_>, value: &Value) -> Result<bool, Fail>
-    ensures { Reads (λ random. random)
+pub(crate) fn random(alloc: Global, place: &Place<'_>, value: &Value) -> Result<bool, Fail<Shape>>
+    ensures { Reads
         (optional truth_faults (codes "random") (path_of place.now) (view value.now))
         (random_at (view value.now))
         result }
@@ -106,7 +110,7 @@ pub(crate) fn empty_at(
     place: &Place<'_>,
     value: &Value,
     key: &str,
-) -> Result<(), Fail>
+) -> Result<(), Fail<Shape>>
     ensures { Passes (optional empty_faults key.now (path_of place.now) (view value.now)) result }
 {
     match part(value, key) {

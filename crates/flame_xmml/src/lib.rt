@@ -2,17 +2,20 @@
 #![tactic(auto)]
 
 mod condition;
-pub mod fault;
+mod faults;
 mod keys;
 pub mod laws;
 mod list;
 mod member;
-pub mod model;
 mod names;
 mod numbers;
 mod operand;
 mod parts;
 mod place;
+mod reader;
 #[cfg(test)]
 mod tests;
 mod words;
+
+pub use faults::{Shape, Want};
+pub use reader::model_of;

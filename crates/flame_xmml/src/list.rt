@@ -3,16 +3,16 @@
 ghost use Rattle.std.specs.Prelude.{List, ℕ, [], map, unwrap_or};
 ghost use Rattle.serde_json.specs.Data.{Data};
 ghost use Rattle.serde_json.specs.View.{view};
-ghost use Rattle.flame_xmml.specs.declared.fault.Shape.{Shape as ShapeFault};
-ghost use Rattle.flame_xmml.specs.Places.{path_of};
-ghost use Rattle.flame_xmml.specs.Parts.{each_member, list_faults, members, optional};
+ghost use Rattle.flame_xmml.specs.declared.faults.Shape.{Shape as ShapeFault};
+ghost use Rattle.flame_xmml.specs.ValuePlaces.{path_of};
+ghost use Rattle.flame_xmml.specs.ValueParts.{each_member, list_faults, members, optional};
 ghost use Rattle.flame_xmml.specs.Models.{list_at};
-ghost use Rattle.flame_xmml.specs.Reading.{Reads};
+ghost use Rattle.flame_xmml.specs.ReadValues.{Reads};
 
-use crate::fault::{Fail, Want};
+use crate::faults::{Shape, Want};
 use crate::parts::{fault, members, part};
 use crate::place::Place;
-use flame_rows::Seq;
+use flame_rows::{Fail, Seq};
 use serde_json::Value;
 use std::alloc::Global;
 
@@ -27,12 +27,9 @@ pub(crate) trait Member {
     /// What the member stands for.
     ghost meant: { Data → Self.Read };
 
-    /// What was read, without the places of memory where it lies.
-    ghost bare: { Self.Read → Self.Read };
-
     /// Reads the member at a place.
-    fn read(alloc: Global, place: &Place<'_>, value: &Value) -> Result<Self::Read, Fail>
-        ensures { Reads bare (faults (path_of place.now) (view value.now)) (meant (view value.now)) result };
+    fn read(alloc: Global, place: &Place<'_>, value: &Value) -> Result<Self::Read, Fail<Shape>>
+        ensures { Reads (faults (path_of place.now) (view value.now)) (meant (view value.now)) result };
 }
 
 /// The members of the list at a key; none where it is missing.
@@ -41,8 +38,8 @@ pub(crate) fn list_at<M: Member>(
     place: &Place<'_>,
     value: &Value,
     key: &str,
-) -> Result<Seq<M::Read>, Fail>
-    ensures { Reads (map M.bare)
+) -> Result<Seq<M::Read>, Fail<Shape>>
+    ensures { Reads
         (optional (list_faults M.faults) key.now (path_of place.now) (view value.now))
         (list_at M.meant key.now (view value.now))
         result }
@@ -54,8 +51,12 @@ pub(crate) fn list_at<M: Member>(
 }
 
 /// The members of the list at a place.
-fn list<M: Member>(alloc: Global, place: &Place<'_>, value: &Value) -> Result<Seq<M::Read>, Fail>
-    ensures { Reads (map M.bare)
+fn list<M: Member>(
+    alloc: Global,
+    place: &Place<'_>,
+    value: &Value,
+) -> Result<Seq<M::Read>, Fail<Shape>>
+    ensures { Reads
         (list_faults M.faults (path_of place.now) (view value.now))
         (map M.meant (unwrap_or (members (view value.now)) []))
         result }
@@ -67,8 +68,12 @@ fn list<M: Member>(alloc: Global, place: &Place<'_>, value: &Value) -> Result<Se
 }
 
 /// The members of a list.
-fn each<M: Member>(alloc: Global, place: &Place<'_>, values: &[Value]) -> Result<Seq<M::Read>, Fail>
-    ensures { Reads (map M.bare)
+fn each<M: Member>(
+    alloc: Global,
+    place: &Place<'_>,
+    values: &[Value],
+) -> Result<Seq<M::Read>, Fail<Shape>>
+    ensures { Reads
         (each_member M.faults (path_of place.now) (map view values.now))
         (map M.meant (map view values.now))
         result }

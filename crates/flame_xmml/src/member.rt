@@ -2,28 +2,26 @@
 
 ghost use Rattle.std.specs.Prelude.{◌≡◌, codes, map, option_map, true, false};
 ghost use Rattle.serde_json.specs.View.{view};
-ghost use Rattle.flame_xmml.specs.Bare.{bare_condition, bare_input, bare_function, bare_agent};
-ghost use Rattle.flame_xmml.specs.Conditions.{condition_faults, condition_of};
-ghost use Rattle.flame_xmml.specs.Faults.{variable_faults, unit_faults, message_faults, sort_faults, input_faults};
-ghost use Rattle.flame_xmml.specs.Faults.{output_faults, function_faults, agent_faults};
-ghost use Rattle.flame_xmml.specs.Leaves.{file_faults};
+ghost use Rattle.flame_xmml.specs.ConditionShapes.{condition_faults, condition_of};
+ghost use Rattle.flame_xmml.specs.ShapeFaults.{variable_faults, unit_faults, message_faults, sort_faults, input_faults};
+ghost use Rattle.flame_xmml.specs.ShapeFaults.{output_faults, function_faults, agent_faults};
+ghost use Rattle.flame_xmml.specs.LeafShapes.{file_faults};
 ghost use Rattle.flame_xmml.specs.Models.{name_at, filled, there, variable_of, unit_of, message_of, sort_of};
 ghost use Rattle.flame_xmml.specs.Models.{input_of, function_of, agent_of};
-ghost use Rattle.flame_xmml.specs.Steps.{step_faults, step_of};
-ghost use Rattle.flame_xmml.specs.Parts.{optional};
-ghost use Rattle.flame_xmml.specs.Places.{path_of};
-ghost use Rattle.flame_xmml.specs.Reading.{Reads};
+ghost use Rattle.flame_xmml.specs.FunctionStep.{step_faults, step_of};
+ghost use Rattle.flame_xmml.specs.ValueParts.{optional};
+ghost use Rattle.flame_xmml.specs.ValuePlaces.{path_of};
+ghost use Rattle.flame_xmml.specs.ReadValues.{Reads};
 
 use crate::condition::condition;
-use crate::fault::{Fail, Want};
+use crate::faults::{Shape, Want};
 use crate::keys::{descending, int_type, name_at, period, random, state_at};
 use crate::list::{Member, list_at};
 use crate::parts::{object, part, wanted};
 use crate::place::Place;
 use crate::words::filled_of;
-use flame_rows::Text;
-use flame_spec::Condition;
-use flame_spec::{AgentType, Function, Input, MessageType, Sort, TimeUnit, Variable};
+use flame_rows::{Fail, Text};
+use flame_spec::{AgentType, Condition, Function, Input, MessageType, Sort, TimeUnit, Variable};
 use serde_json::Value;
 use std::alloc::Global;
 
@@ -51,9 +49,7 @@ impl Member for Variable {
 
     ghost meant = { variable_of };
 
-    ghost bare = { λ variable. variable };
-
-    fn read(alloc: Global, place: &Place<'_>, value: &Value) -> Result<Variable, Fail> {
+    fn read(alloc: Global, place: &Place<'_>, value: &Value) -> Result<Variable, Fail<Shape>> {
         let name = variable_name(alloc, place, value)?;
         Ok(Variable { name, length: None })
     }
@@ -66,9 +62,7 @@ impl Member for Constants {
 
     ghost meant = { name_at (codes "name") };
 
-    ghost bare = { λ name. name };
-
-    fn read(alloc: Global, place: &Place<'_>, value: &Value) -> Result<Text, Fail> {
+    fn read(alloc: Global, place: &Place<'_>, value: &Value) -> Result<Text, Fail<Shape>> {
         variable_name(alloc, place, value)
     }
 }
@@ -80,9 +74,7 @@ impl Member for Files {
 
     ghost meant = { filled };
 
-    ghost bare = { λ name. name };
-
-    fn read(alloc: Global, place: &Place<'_>, value: &Value) -> Result<Text, Fail> {
+    fn read(alloc: Global, place: &Place<'_>, value: &Value) -> Result<Text, Fail<Shape>> {
         let name = wanted(alloc, place, Want::FileName, filled_of(Some(value)))?;
         Ok(Text::of(alloc, name)?)
     }
@@ -95,9 +87,7 @@ impl Member for TimeUnit {
 
     ghost meant = { unit_of };
 
-    ghost bare = { λ unit. unit };
-
-    fn read(alloc: Global, place: &Place<'_>, value: &Value) -> Result<TimeUnit, Fail> {
+    fn read(alloc: Global, place: &Place<'_>, value: &Value) -> Result<TimeUnit, Fail<Shape>> {
         object(alloc, place, value)?;
         Ok(TimeUnit {
             name: name_at(alloc, place, value, "name")?,
@@ -114,9 +104,7 @@ impl Member for MessageType {
 
     ghost meant = { message_of };
 
-    ghost bare = { λ message. message };
-
-    fn read(alloc: Global, place: &Place<'_>, value: &Value) -> Result<MessageType, Fail> {
+    fn read(alloc: Global, place: &Place<'_>, value: &Value) -> Result<MessageType, Fail<Shape>> {
         object(alloc, place, value)?;
         Ok(MessageType {
             name: name_at(alloc, place, value, "name")?,
@@ -132,9 +120,7 @@ impl Member for Outputs {
 
     ghost meant = { name_at (codes "messageName") };
 
-    ghost bare = { λ name. name };
-
-    fn read(alloc: Global, place: &Place<'_>, value: &Value) -> Result<Text, Fail> {
+    fn read(alloc: Global, place: &Place<'_>, value: &Value) -> Result<Text, Fail<Shape>> {
         object(alloc, place, value)?;
         name_at(alloc, place, value, "messageName")
     }
@@ -147,9 +133,7 @@ impl Member for Input {
 
     ghost meant = { input_of };
 
-    ghost bare = { bare_input };
-
-    fn read(alloc: Global, place: &Place<'_>, value: &Value) -> Result<Input, Fail> {
+    fn read(alloc: Global, place: &Place<'_>, value: &Value) -> Result<Input, Fail<Shape>> {
         object(alloc, place, value)?;
         Ok(Input {
             message: name_at(alloc, place, value, "messageName")?,
@@ -167,9 +151,7 @@ impl Member for Function {
 
     ghost meant = { function_of };
 
-    ghost bare = { bare_function };
-
-    fn read(alloc: Global, place: &Place<'_>, value: &Value) -> Result<Function, Fail> {
+    fn read(alloc: Global, place: &Place<'_>, value: &Value) -> Result<Function, Fail<Shape>> {
         object(alloc, place, value)?;
         let Step {
             name,
@@ -194,9 +176,7 @@ impl Member for AgentType {
 
     ghost meant = { agent_of };
 
-    ghost bare = { bare_agent };
-
-    fn read(alloc: Global, place: &Place<'_>, value: &Value) -> Result<AgentType, Fail> {
+    fn read(alloc: Global, place: &Place<'_>, value: &Value) -> Result<AgentType, Fail<Shape>> {
         object(alloc, place, value)?;
         Ok(AgentType {
             name: name_at(alloc, place, value, "name")?,
@@ -207,8 +187,8 @@ impl Member for AgentType {
 }
 
 /// The name of a variable of type int.
-fn variable_name(alloc: Global, place: &Place<'_>, value: &Value) -> Result<Text, Fail>
-    ensures { Reads (λ name. name)
+fn variable_name(alloc: Global, place: &Place<'_>, value: &Value) -> Result<Text, Fail<Shape>>
+    ensures { Reads
         (variable_faults (path_of place.now) (view value.now))
         (name_at (codes "name") (view value.now))
         result }
@@ -219,8 +199,8 @@ fn variable_name(alloc: Global, place: &Place<'_>, value: &Value) -> Result<Text
 }
 
 /// The name of a function and its states.
-fn step_at(alloc: Global, place: &Place<'_>, value: &Value) -> Result<Step, Fail>
-    ensures { Reads (λ step. step)
+fn step_at(alloc: Global, place: &Place<'_>, value: &Value) -> Result<Step, Fail<Shape>>
+    ensures { Reads
         (step_faults (path_of place.now) (view value.now))
         (step_of (view value.now))
         result }
@@ -239,8 +219,8 @@ fn condition_at(
     value: &Value,
     key: &str,
     in_filter: bool,
-) -> Result<Option<Condition>, Fail>
-    ensures { Reads (option_map bare_condition)
+) -> Result<Option<Condition>, Fail<Shape>>
+    ensures { Reads
         (optional (condition_faults in_filter) key.now (path_of place.now) (view value.now))
         (option_map condition_of (there key.now (view value.now)))
         result }
@@ -255,8 +235,8 @@ fn condition_at(
 }
 
 /// The sort of an input, if there is one.
-fn sort_at(alloc: Global, place: &Place<'_>, value: &Value) -> Result<Option<Sort>, Fail>
-    ensures { Reads (λ sort. sort)
+fn sort_at(alloc: Global, place: &Place<'_>, value: &Value) -> Result<Option<Sort>, Fail<Shape>>
+    ensures { Reads
         (optional sort_faults (codes "sort") (path_of place.now) (view value.now))
         (option_map sort_of (there (codes "sort") (view value.now)))
         result }
@@ -268,8 +248,8 @@ fn sort_at(alloc: Global, place: &Place<'_>, value: &Value) -> Result<Option<Sor
 }
 
 /// The sort at a place.
-fn sort(alloc: Global, place: &Place<'_>, value: &Value) -> Result<Sort, Fail>
-    ensures { Reads (λ sort. sort)
+fn sort(alloc: Global, place: &Place<'_>, value: &Value) -> Result<Sort, Fail<Shape>>
+    ensures { Reads
         (sort_faults (path_of place.now) (view value.now))
         (sort_of (view value.now))
         result }

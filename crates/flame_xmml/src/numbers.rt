@@ -3,7 +3,7 @@
 ghost use Rattle.std.specs.Prelude.{◌≡◌, option_and_then};
 ghost use Rattle.serde_json.specs.View.{view, number_view};
 ghost use Rattle.serde_json.specs.Find.{as_integer};
-ghost use Rattle.flame_xmml.specs.Shown.{data_of};
+ghost use Rattle.flame_xmml.specs.ValueData.{data_of};
 ghost use Rattle.flame_xmml.specs.Wants.{held, whole_named, int_of, positive_of};
 
 use serde_json::{Number, Value};

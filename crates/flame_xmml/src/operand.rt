@@ -6,8 +6,7 @@ ghost use Rattle.flame_xmml.specs.Wants.{after_prefix, name_after, operand_of, p
 
 use crate::names::is_name;
 use crate::numbers::int_of;
-use flame_rows::NoMemory;
-use flame_rows::Text;
+use flame_rows::{NoMemory, Text};
 use flame_spec::Operand;
 use serde_json::Value;
 use std::alloc::Global;

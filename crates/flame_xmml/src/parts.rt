@@ -2,14 +2,15 @@
 
 ghost use Rattle.std.specs.Prelude.{◌≡◌, Some, None, true, false, is_some, map, option_map, IfOk, IfErr};
 ghost use Rattle.serde_json.specs.View.{view};
-ghost use Rattle.flame_xmml.specs.declared.fault.Want.TheVariants.{Object};
-ghost use Rattle.flame_xmml.specs.Places.{path_of};
-ghost use Rattle.flame_xmml.specs.Parts.{part, has, is_object, members, wanted};
-ghost use Rattle.flame_xmml.specs.Reading.{IsFirst};
-ghost use Rattle.flame_xmml.specs.Shown.{data_of};
+ghost use Rattle.flame_xmml.specs.declared.faults.Want.TheVariants.{Object};
+ghost use Rattle.flame_xmml.specs.ValuePlaces.{path_of};
+ghost use Rattle.flame_xmml.specs.ValueParts.{part, has, is_object, members, wanted};
+ghost use Rattle.flame_xmml.specs.ReadValues.{IsFirst};
+ghost use Rattle.flame_xmml.specs.ValueData.{data_of};
 
-use crate::fault::{Fail, Shape, Want};
+use crate::faults::{Shape, Want};
 use crate::place::{Place, path};
+use flame_rows::Fail;
 use serde_json::Value;
 use std::alloc::Global;
 
@@ -41,7 +42,7 @@ pub(crate) fn members(value: &Value) -> Option<&[Value]>
 }
 
 /// The fault of a place where something else is wanted.
-pub(crate) fn fault(alloc: Global, place: &Place<'_>, want: Want) -> Fail
+pub(crate) fn fault(alloc: Global, place: &Place<'_>, want: Want) -> Fail<Shape>
     ensures { IsFirst (wanted want (path_of place.now)) result }
 {
     match path(alloc, place) {
@@ -51,7 +52,7 @@ pub(crate) fn fault(alloc: Global, place: &Place<'_>, want: Want) -> Fail
 }
 
 /// Passes where the value at a place is an object.
-pub(crate) fn object(alloc: Global, place: &Place<'_>, value: &Value) -> Result<(), Fail>
+pub(crate) fn object(alloc: Global, place: &Place<'_>, value: &Value) -> Result<(), Fail<Shape>>
     ensures object { IfOk result (λ _. is_object (view value.now) ≡ true) }
     ensures fault { IfErr result (λ fail.
         (is_object (view value.now) ≡ false) × IsFirst (wanted Object (path_of place.now)) fail) }
@@ -69,7 +70,7 @@ pub(crate) fn wanted<T: Drop>(
     place: &Place<'_>,
     want: Want,
     read: Option<T>,
-) -> Result<T, Fail>
+) -> Result<T, Fail<Shape>>
     ensures read { IfOk result (λ answer. read ≡ Some answer) }
     ensures fault { IfErr result (λ fail. (read ≡ None) × IsFirst (wanted want (path_of place.now)) fail) }
 {

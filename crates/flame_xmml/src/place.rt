@@ -1,10 +1,9 @@
 //! Places in a model's value.
 
 ghost use Rattle.std.specs.Prelude.{◌≡◌, ◌++◌, string_bytes, IfOk, IfErr};
-ghost use Rattle.flame_xmml.specs.Places.{path_of};
+ghost use Rattle.flame_xmml.specs.ValuePlaces.{path_of};
 
-use flame_rows::NoMemory;
-use flame_rows::Text;
+use flame_rows::{NoMemory, Text};
 use std::alloc::Global;
 
 /// A place, by the way from the root: it holds what the path needs, and no path.

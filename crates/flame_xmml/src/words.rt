@@ -2,7 +2,7 @@
 
 ghost use Rattle.std.specs.Prelude.{◌≡◌, option_map};
 ghost use Rattle.serde_json.specs.View.{view};
-ghost use Rattle.flame_xmml.specs.Shown.{data_of};
+ghost use Rattle.flame_xmml.specs.ValueData.{data_of};
 ghost use Rattle.flame_xmml.specs.Wants.{name_of, filled_of, int_type_of, order_of, truth_of, truth_named, empty_of};
 ghost use Rattle.flame_xmml.specs.Wants.{connective_of, connective_named};
 

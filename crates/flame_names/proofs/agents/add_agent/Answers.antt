@@ -1,8 +1,8 @@
 use Rattle.std.proofs.Common.{◌∙◌, sym}
 use Rattle.std.proofs.lemmas.Result.{err_from_is_err_and}
 use Rattle.flame_spec.specs.KnownNames.{is_among}
-use Rattle.flame_names.specs.Places.{text_of}
-use Rattle.flame_names.specs.Scopes.{declared_of}
+use Rattle.flame_names.specs.PlacePaths.{text_of}
+use Rattle.flame_names.specs.TableScopes.{declared_of}
 use Rattle.flame_names.proofs.Rests.{fails-same}
 use Rattle.flame_names.proofs.Types.{functions-are}
 use Rattle.flame_names.proofs.agents.add_agent.Goals as goal

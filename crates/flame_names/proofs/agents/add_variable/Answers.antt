@@ -4,7 +4,7 @@ use Rattle.flame_spec.specs.declared.faults.NameKind.TheVariants.{Clash}
 use Rattle.flame_spec.specs.KnownNames.{is_among}
 use Rattle.flame_ops.specs.Ascii.{capitals}
 use Rattle.flame_spec.specs.Refusals.{fault_where}
-use Rattle.flame_names.specs.Places.{text_of}
+use Rattle.flame_names.specs.PlacePaths.{text_of}
 use Rattle.flame_names.proofs.Among.{was_there, was_new, looked_up}
 use Rattle.flame_names.proofs.Firsts.{fails_first, memory_name_faults-clash, memory_name_faults-new}
 use Rattle.flame_names.proofs.Rests.{fails-same}

@@ -5,8 +5,8 @@ use Rattle.std.proofs.lemmas.Result.{err_from_is_err_and}
 use Rattle.flame_spec.specs.KnownNames.{is_among}
 use Rattle.flame_spec.specs.Paths.{at_number}
 use Rattle.flame_spec.specs.NameFaults.{type_names, function_names, names_of_functions, agent_faults}
-use Rattle.flame_names.specs.Places.{text_of}
-use Rattle.flame_names.specs.Scopes.{declared_of}
+use Rattle.flame_names.specs.PlacePaths.{text_of}
+use Rattle.flame_names.specs.TableScopes.{declared_of}
 use Rattle.flame_names.proofs.Rests.{fails-member, none-member}
 use Rattle.flame_names.proofs.Sharing.{is_among-append, names_of_functions-push}
 use Rattle.flame_names.proofs.agents.agents.Goals as goal

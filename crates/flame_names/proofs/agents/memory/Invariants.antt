@@ -4,7 +4,7 @@ use Rattle.flame_ops.specs.Ascii.{capitals}
 use Rattle.flame_spec.specs.KnownNames.{variable_names}
 use Rattle.flame_spec.specs.Paths.{at_key, at_number}
 use Rattle.flame_spec.specs.NameFaults.{memory_name_faults, memory_faults}
-use Rattle.flame_names.specs.Places.{text_of}
+use Rattle.flame_names.specs.PlacePaths.{text_of}
 use Rattle.flame_names.proofs.agents.memory.Given as goal
 
 abbrev pub invariant-loop-i : goal.invariant-loop-i

@@ -4,9 +4,9 @@ use Rattle.flame_spec.specs.KnownNames.{is_among}
 use Rattle.flame_spec.specs.Paths.{at_key}
 use Rattle.flame_spec.specs.Leaves.{condition_faults}
 use Rattle.flame_spec.specs.FunctionFaults.{condition_scope, inputs_faults, outputs_faults}
-use Rattle.flame_names.specs.Places.{text_of}
-use Rattle.flame_names.specs.Scopes.{declared_of}
-use Rattle.flame_names.specs.Titles.{title_at}
+use Rattle.flame_names.specs.PlacePaths.{text_of}
+use Rattle.flame_names.specs.TableScopes.{declared_of}
+use Rattle.flame_names.specs.FunctionTitles.{title_at}
 use Rattle.flame_names.proofs.Rests.{fails-append, fails-same}
 use Rattle.flame_names.proofs.Chains.{skip_two, skip_three}
 use Rattle.flame_names.proofs.functions.add_function.Goals as goal

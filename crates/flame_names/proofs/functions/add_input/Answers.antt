@@ -6,9 +6,9 @@ use Rattle.flame_spec.specs.KnownNames.{is_among}
 use Rattle.flame_spec.specs.Paths.{at_key}
 use Rattle.flame_spec.specs.Refusals.{fault_where, name_fault}
 use Rattle.flame_spec.specs.FunctionFaults.{reading_faults}
-use Rattle.flame_names.specs.Places.{text_of}
-use Rattle.flame_names.specs.Scopes.{declared_of}
-use Rattle.flame_names.specs.Tables.{look}
+use Rattle.flame_names.specs.PlacePaths.{text_of}
+use Rattle.flame_names.specs.TableScopes.{declared_of}
+use Rattle.flame_names.specs.NameLooks.{look}
 use Rattle.flame_names.proofs.Firsts.{fails_first}
 use Rattle.flame_names.proofs.Looks.{is_some-look}
 use Rattle.flame_names.proofs.Rests.{fails-append, fails-same}

@@ -4,10 +4,10 @@ use Rattle.std.proofs.lemmas.Result.{err_from_is_err_and}
 use Rattle.flame_spec.specs.KnownNames.{is_among}
 use Rattle.flame_spec.specs.Paths.{at_number}
 use Rattle.flame_spec.specs.FunctionFaults.{function_faults}
-use Rattle.flame_names.specs.Places.{text_of}
-use Rattle.flame_names.specs.Tables.{transition_of}
-use Rattle.flame_names.specs.Scopes.{declared_of}
-use Rattle.flame_names.specs.Titles.{function_at}
+use Rattle.flame_names.specs.PlacePaths.{text_of}
+use Rattle.flame_names.specs.NameLooks.{transition_of}
+use Rattle.flame_names.specs.TableScopes.{declared_of}
+use Rattle.flame_names.specs.FunctionTitles.{function_at}
 use Rattle.flame_names.proofs.Chains.{function-is}
 use Rattle.flame_names.proofs.Rests.{fails-member, none-member}
 use Rattle.flame_names.proofs.functions.functions.Goals as goal

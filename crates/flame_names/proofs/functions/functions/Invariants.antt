@@ -3,9 +3,9 @@ use Rattle.flame_spec.specs.Lists.{each_from}
 use Rattle.flame_spec.specs.KnownNames.{is_among}
 use Rattle.flame_spec.specs.Paths.{at_number}
 use Rattle.flame_spec.specs.FunctionFaults.{function_faults, functions_faults}
-use Rattle.flame_names.specs.Places.{text_of}
-use Rattle.flame_names.specs.Tables.{transition_of}
-use Rattle.flame_names.specs.Scopes.{declared_of}
+use Rattle.flame_names.specs.PlacePaths.{text_of}
+use Rattle.flame_names.specs.NameLooks.{transition_of}
+use Rattle.flame_names.specs.TableScopes.{declared_of}
 use Rattle.flame_names.proofs.functions.functions.Given as goal
 
 abbrev pub invariant-loop-i : goal.invariant-loop-i

@@ -2,8 +2,8 @@ use Rattle.std.proofs.Common.{take}
 use Rattle.std.proofs.lemmas.Result.{err_from_is_err_and}
 use Rattle.flame_spec.specs.Paths.{at_number}
 use Rattle.flame_spec.specs.FunctionFaults.{read_names, input_faults}
-use Rattle.flame_names.specs.Places.{text_of}
-use Rattle.flame_names.specs.Scopes.{declared_of}
+use Rattle.flame_names.specs.PlacePaths.{text_of}
+use Rattle.flame_names.specs.TableScopes.{declared_of}
 use Rattle.flame_names.proofs.Rests.{fails-member}
 use Rattle.flame_names.proofs.functions.inputs.Goals as goal
 

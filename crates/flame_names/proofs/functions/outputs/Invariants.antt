@@ -2,8 +2,8 @@ use Rattle.std.proofs.Common.{◌≡◌, take, drop}
 use Rattle.flame_spec.specs.Lists.{each_from}
 use Rattle.flame_spec.specs.Paths.{at_number}
 use Rattle.flame_spec.specs.FunctionFaults.{use_faults, outputs_faults}
-use Rattle.flame_names.specs.Places.{text_of}
-use Rattle.flame_names.specs.Scopes.{declared_of}
+use Rattle.flame_names.specs.PlacePaths.{text_of}
+use Rattle.flame_names.specs.TableScopes.{declared_of}
 use Rattle.flame_names.proofs.functions.outputs.Given as goal
 
 abbrev pub invariant-loop-i : goal.invariant-loop-i

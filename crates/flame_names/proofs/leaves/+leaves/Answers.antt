@@ -2,8 +2,8 @@ use Rattle.std.proofs.Common.{◌∙◌, ◌++◌, sym, ap, codes}
 use Rattle.std.proofs.lemmas.Result.{err_from_is_err_and}
 use Rattle.flame_spec.specs.Paths.{at_key}
 use Rattle.flame_spec.specs.Leaves.{leaf_faults}
-use Rattle.flame_names.specs.Places.{text_of}
-use Rattle.flame_names.specs.Scopes.{scope_of}
+use Rattle.flame_names.specs.PlacePaths.{text_of}
+use Rattle.flame_names.specs.TableScopes.{scope_of}
 use Rattle.flame_names.proofs.Rests.{fails-append}
 use Rattle.flame_names.proofs.Sides.{leaf_faults-And, leaf_faults-Or}
 use Rattle.flame_names.proofs.leaves.+leaves.Goals as goal
@@ -21,13 +21,13 @@ returns-in_err-leaves-in-And-clause-first t c =
     _
     (leaf_faults scope c.args.condition.now path)
     (leaf_faults scope c.deref.result.now (at_key path (codes "lhs")))
-    (leaf_faults scope c.in-And.right.value (at_key path (codes "rhs")))
+    (leaf_faults scope c.in-And.right (at_key path (codes "rhs")))
     (ap (λ condition. leaf_faults scope condition path) c.in-And.is
     ∙ leaf_faults-And scope path c.in-And.left c.in-And.right
     ∙ ap
     (λ part.
     leaf_faults scope part (at_key path (codes "lhs"))
-    ++ leaf_faults scope c.in-And.right.value (at_key path (codes "rhs")))
+    ++ leaf_faults scope c.in-And.right (at_key path (codes "rhs")))
     (sym c.deref.ensures))
     c.in_err-leaves-in-And.ensures.first)
 
@@ -44,12 +44,12 @@ returns-in_err-leaves-in-Or-clause-first t c =
     _
     (leaf_faults scope c.args.condition.now path)
     (leaf_faults scope c.deref-in-Or.result.now (at_key path (codes "lhs")))
-    (leaf_faults scope c.in-Or.right.value (at_key path (codes "rhs")))
+    (leaf_faults scope c.in-Or.right (at_key path (codes "rhs")))
     (ap (λ condition. leaf_faults scope condition path) c.in-Or.is
     ∙ leaf_faults-Or scope path c.in-Or.left c.in-Or.right
     ∙ ap
     (λ part.
     leaf_faults scope part (at_key path (codes "lhs"))
-    ++ leaf_faults scope c.in-Or.right.value (at_key path (codes "rhs")))
+    ++ leaf_faults scope c.in-Or.right (at_key path (codes "rhs")))
     (sym c.deref-in-Or.ensures))
     c.in_err-leaves-in-Or.ensures.first)

@@ -3,8 +3,8 @@ use Rattle.std.proofs.lemmas.Result.{err_from_is_err_and}
 use Rattle.std.proofs.lemmas.List.{take_more}
 use Rattle.flame_spec.specs.Paths.{at_number}
 use Rattle.flame_spec.specs.UnitFaults.{unit_faults}
-use Rattle.flame_names.specs.Places.{text_of}
-use Rattle.flame_names.specs.Lengths.{unit_at, with_unit}
+use Rattle.flame_names.specs.PlacePaths.{text_of}
+use Rattle.flame_names.specs.UnitTables.{unit_at, with_unit}
 use Rattle.flame_names.proofs.Rests.{fails-member, none-member}
 use Rattle.flame_names.proofs.Units.{unit-is, knows-push, knows-same}
 use Rattle.flame_names.proofs.lengths.units.Goals as goal

@@ -2,7 +2,7 @@ use Rattle.std.proofs.Common.{◌≡◌, take, drop}
 use Rattle.flame_spec.specs.Lists.{each_from}
 use Rattle.flame_spec.specs.Paths.{at_number}
 use Rattle.flame_spec.specs.UnitFaults.{unit_faults, units_faults}
-use Rattle.flame_names.specs.Places.{text_of}
+use Rattle.flame_names.specs.PlacePaths.{text_of}
 use Rattle.flame_names.proofs.Units.{Knows}
 use Rattle.flame_names.proofs.lengths.units.Given as goal
 

@@ -1,5 +1,5 @@
 use Rattle.std.proofs.Common.{◌∙◌}
-use Rattle.flame_names.specs.Places.{text_of}
+use Rattle.flame_names.specs.PlacePaths.{text_of}
 use Rattle.flame_names.proofs.Among.{was_there, was_new, looked_up}
 use Rattle.flame_names.proofs.Firsts.{fails_first, apart_faults-none, apart_faults-clash}
 use Rattle.flame_names.proofs.messages.add_apart.Goals as goal

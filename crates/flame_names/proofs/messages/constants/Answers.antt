@@ -2,7 +2,7 @@ use Rattle.std.proofs.Common.{codes, take}
 use Rattle.std.proofs.lemmas.Result.{err_from_is_err_and}
 use Rattle.flame_spec.specs.Paths.{at_key, at_number}
 use Rattle.flame_spec.specs.MessageFaults.{apart_faults}
-use Rattle.flame_names.specs.Places.{text_of}
+use Rattle.flame_names.specs.PlacePaths.{text_of}
 use Rattle.flame_names.proofs.Rests.{fails-member}
 use Rattle.flame_names.proofs.messages.constants.Goals as goal
 

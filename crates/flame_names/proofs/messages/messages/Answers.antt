@@ -3,8 +3,8 @@ use Rattle.std.proofs.lemmas.Result.{err_from_is_err_and}
 use Rattle.flame_spec.specs.KnownNames.{is_among, message_names}
 use Rattle.flame_spec.specs.Paths.{at_number}
 use Rattle.flame_spec.specs.MessageFaults.{message_faults}
-use Rattle.flame_names.specs.Places.{text_of}
-use Rattle.flame_names.specs.Tables.{look, message_entry}
+use Rattle.flame_names.specs.PlacePaths.{text_of}
+use Rattle.flame_names.specs.NameLooks.{look, message_entry}
 use Rattle.flame_names.proofs.Rests.{fails-member}
 use Rattle.flame_names.proofs.Looks.{look-none, names_of-messages}
 use Rattle.flame_names.proofs.messages.messages.Goals as goal

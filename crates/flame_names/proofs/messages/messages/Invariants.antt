@@ -4,8 +4,8 @@ use Rattle.flame_ops.specs.Ascii.{capitals}
 use Rattle.flame_spec.specs.KnownNames.{message_names}
 use Rattle.flame_spec.specs.Paths.{at_number}
 use Rattle.flame_spec.specs.MessageFaults.{message_faults, messages_faults}
-use Rattle.flame_names.specs.Places.{text_of}
-use Rattle.flame_names.specs.Tables.{message_entry}
+use Rattle.flame_names.specs.PlacePaths.{text_of}
+use Rattle.flame_names.specs.NameLooks.{message_entry}
 use Rattle.flame_names.proofs.messages.messages.Given as goal
 
 abbrev pub invariant-loop-i : goal.invariant-loop-i

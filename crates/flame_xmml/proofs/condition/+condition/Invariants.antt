@@ -2,7 +2,7 @@
 use Rattle.std.proofs.Common.{◌+◌, ◌*◌}
 use Rattle.serde_json.specs.Data.{depth}
 use Rattle.serde_json.specs.View.{view}
-use Rattle.flame_xmml.specs.Shown.{data_of}
+use Rattle.flame_xmml.specs.ValueData.{data_of}
 use Rattle.flame_xmml.proofs.condition.+condition.Given as goal
 
 abbrev pub decreases-condition : goal.decreases-condition

@@ -1,5 +1,5 @@
 use Rattle.std.proofs.Common.{◌∙◌, sym, ap}
-use Rattle.flame_names.specs.Tables.{look}
+use Rattle.flame_names.specs.NameLooks.{look}
 use Rattle.flame_names.proofs.Looks.{look-map}
 use Rattle.flame_names.proofs.messages.MessageTable.variables.Goals as goal
 

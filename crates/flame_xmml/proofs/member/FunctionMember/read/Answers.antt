@@ -1,21 +1,20 @@
 -- The faults of a key come before those of the keys after it.
 use Rattle.serde_json.specs.View.{view}
-use Rattle.flame_xmml.specs.Bare.{bare_function}
-use Rattle.flame_xmml.specs.Faults.{function_keys}
-use Rattle.flame_xmml.specs.Places.{path_of}
+use Rattle.flame_xmml.specs.ShapeFaults.{function_keys}
+use Rattle.flame_xmml.specs.ValuePlaces.{path_of}
 use Rattle.flame_xmml.proofs.Firsts.{first_stays, first_after, first_in_object, none_both, refused}
 use Rattle.flame_xmml.proofs.member.FunctionMember.read.Goals as goal
 
 pub returns-in_err-name : goal.returns-in_err-name
 returns-in_err-name c =
-    refused bare_function _ _ _ c.from_residual-in_err-name.result c.from_residual-in_err-name.ensures.1
+    refused _ _ _ c.from_residual-in_err-name.result c.from_residual-in_err-name.ensures.1
     (first_in_object function_keys (path_of c.args.place.now) (view c.args.value.now) _ c.in_ok-object.ensures.object
     (first_stays _ _ _ (first_stays _ _ _ (first_stays _ _ _ c.in_err-name.ensures))))
 
 pub returns-in_err-condition_at : goal.returns-in_err-condition_at
 returns-in_err-condition_at c =
     let here = first_after _ _ _ c.in_ok-name.ensures.0 c.in_err-condition_at.ensures in
-    refused bare_function _ _ _ c.from_residual-in_err-condition_at.result c.from_residual-in_err-condition_at.ensures.1
+    refused _ _ _ c.from_residual-in_err-condition_at.result c.from_residual-in_err-condition_at.ensures.1
     (first_in_object function_keys (path_of c.args.place.now) (view c.args.value.now) _ c.in_ok-object.ensures.object
     (first_stays _ _ _ (first_stays _ _ _ here)))
 
@@ -23,6 +22,6 @@ pub returns-in_err-list_at : goal.returns-in_err-list_at
 returns-in_err-list_at c =
     let before = none_both _ _ c.in_ok-name.ensures.0 c.in_ok-condition_at.ensures.0 in
     let here = first_after _ _ _ before c.in_err-list_at.ensures in
-    refused bare_function _ _ _ c.from_residual-in_err-list_at.result c.from_residual-in_err-list_at.ensures.1
+    refused _ _ _ c.from_residual-in_err-list_at.result c.from_residual-in_err-list_at.ensures.1
     (first_in_object function_keys (path_of c.args.place.now) (view c.args.value.now) _ c.in_ok-object.ensures.object
     (first_stays _ _ _ here))

@@ -1,0 +1,27 @@
+-- What is looked up in tables.
+use Rattle.std.specs.Prelude.{ℕ, ◌∷◌, [], ◌&&◌, Bool, List, Option, Some, None, if◌then◌else◌, map}
+use Rattle.std.specs.Str.{bytes_eq}
+use Rattle.flame_spec.specs.declared.models.Function.{Function}
+use Rattle.flame_spec.specs.declared.models.MessageType.{MessageType}
+use Rattle.flame_spec.specs.KnownNames.{variable_names}
+
+-- what stands behind the first entry of this name [own]
+abbrev pub look : {X : Type 0} → List ℕ → List (List ℕ × X) → Option X
+look name [] = None
+look name (entry ∷ entries) = if bytes_eq name entry.0 then Some entry.1 else look name entries
+
+-- the names of the entries [own]
+abbrev pub names_of : {X : Type 0} → List (List ℕ × X) → List (List ℕ)
+names_of entries = map (λ entry. entry.0) entries
+
+-- a message's name with those of its variables [own]
+abbrev pub message_entry : MessageType → List ℕ × List (List ℕ)
+message_entry message = (message.name, variable_names message.variables)
+
+-- a function's name and its states [own]
+abbrev pub transition_of : Function → List ℕ × List ℕ × List ℕ
+transition_of function = (function.name, function.current, function.next)
+
+-- the same name and the same states [own]
+abbrev pub is_same_transition : List ℕ × List ℕ × List ℕ → List ℕ × List ℕ × List ℕ → Bool
+is_same_transition one other = bytes_eq one.0 other.0 && (bytes_eq one.1 other.1 && bytes_eq one.2 other.2)
