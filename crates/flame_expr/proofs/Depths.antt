@@ -62,3 +62,23 @@ depth_all tokens opened closed d k = elim (cases_lt (length tokens) k) [
       let x = ap (count_of opens) e in let y = ap (count_of closes) e in omega (arith, x, y, f))
   | inr i ↦ d.before k i
 ]
+
+-- the first token that is too deep, or none
+abbrev Decided : List Token → Type 0
+Decided tokens = NestsWithin 64 tokens ⊎ ((n : ℕ) × IsTooDeep 64 tokens n)
+
+abbrev one_if : Bool → ℕ
+one_if b = if b then 1 else 0
+
+decide : (f : ℕ) (tokens : List Token) (k opened closed : ℕ) → k + f ≡ length tokens → DepthOn tokens k opened closed → Decided tokens
+decide zero tokens k opened closed e d = inl (depth_all tokens opened closed (subst (λ n. DepthOn tokens n opened closed) (omega (arith, e)) d))
+decide (suc f) tokens k opened closed e d =
+    let o = opened + one_if (opens (first (drop k tokens))) in
+    let c = closed + one_if (closes (first (drop k tokens))) in
+    elim (cases_lt (c + 64) o) [
+      | inl i ↦ inr (k, depth_exceeds tokens k opened closed o c (omega (arith, e)) d refl refl i)
+      | inr i ↦ decide f tokens (k + 1) o c (omega (arith, e)) (depth_step tokens k opened closed o c d refl refl i)
+    ]
+
+pub depth_decided : (tokens : List Token) → NestsWithin 64 tokens ⊎ ((n : ℕ) × IsTooDeep 64 tokens n)
+depth_decided tokens = decide (length tokens) tokens 0 0 0 (omega arith) (depth_begin tokens)

@@ -29,7 +29,7 @@ among_front : (d : Lexeme) (xs ys : List Lexeme) → among d (xs ++ ys) ≡ fals
 among_front d [] ys h = refl
 among_front d (x ∷ xs) ys h = let i = or_left_false (same x d) (among d (xs ++ ys)) h in rw (i) (among_front d xs ys (or_right_false (same x d) (among d (xs ++ ys)) h))
 
-stop_below : (k : ℕ) (ts : List Token) → IsStop (suc k) ts → IsStop k ts
+pub stop_below : (k : ℕ) (ts : List Token) → IsStop (suc k) ts → IsStop k ts
 stop_below k ts h = among_front (first ts) (joins k) (operators k) h
 
 -- an operator of a level joins nothing below it, and joins the level
@@ -64,15 +64,15 @@ op_joins k d o e = cc
 stop_if : (k : ℕ) (d : Lexeme) (ts : List Token) → first ts ≡ d → among d (joins k) ≡ false → IsStop k ts
 stop_if k d ts f h = ap (λ x. among x (joins k)) f ∙ h
 
-tail_stop : (k : ℕ) (mid rest : List Token) (ls : Links) → Tail k mid ls rest → IsStop (suc k) rest → IsStop k mid
+pub tail_stop : (k : ℕ) (mid rest : List Token) (ls : Links) → Tail k mid ls rest → IsStop (suc k) rest → IsStop k mid
 tail_stop k mid rest ls no_link h = stop_below k rest h
 tail_stop k mid rest ls (a_link {op = o} s a b) h = op_stops k (first mid) o s
 
-conjuncts_stop : (mid rest : List Token) (us : Expressions) → Conjuncts mid us rest → IsStop 5 rest → IsStop 4 mid
+pub conjuncts_stop : (mid rest : List Token) (us : Expressions) → Conjuncts mid us rest → IsStop 5 rest → IsStop 4 mid
 conjuncts_stop mid rest us no_conjunct h = stop_below 4 rest h
 conjuncts_stop mid rest us (a_conjunct s a b) h = stop_if 4 AndAnd mid s refl
 
-disjuncts_stop : (mid rest : List Token) (us : Expressions) → Disjuncts mid us rest → IsStop 6 rest → IsStop 5 mid
+pub disjuncts_stop : (mid rest : List Token) (us : Expressions) → Disjuncts mid us rest → IsStop 6 rest → IsStop 5 mid
 disjuncts_stop mid rest us no_disjunct h = stop_below 5 rest h
 disjuncts_stop mid rest us (a_disjunct s a b) h = stop_if 5 OrOr mid s refl
 

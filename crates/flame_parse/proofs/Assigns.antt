@@ -1,35 +1,36 @@
 -- Assignments, calls and the like, token by token.
 use Rattle.std.proofs.Common.{◌≡◌, ℕ, pos, ◌+◌, List, [], ◌∷◌, drop, refl, sym, ap, ◌∙◌, subst, Option, Some, None}
 use Rattle.flame_ops.specs.declared.integers.Op.{Op}
-use Rattle.flame_spec.specs.Trees.{Expression, number, Expressions, Assigned, Statement, call, break, continue}
+use Rattle.flame_spec.specs.Trees.{Expression, number, Expressions, Stored, plain, called, Indexed, Assigned, Statement, call, break, continue}
 use Rattle.flame_lex.specs.declared.token.Token.{Token}
-use Rattle.flame_expr.specs.declared.lexemes.Lexeme.TheVariants.{Word, Open, Semicolon, Break, Continue}
+use Rattle.flame_expr.specs.declared.lexemes.Lexeme.TheVariants.{Word, Open, Close, Semicolon, Break, Continue}
 use Rattle.flame_expr.specs.Lexemes.{first, text, line, behind}
-use Rattle.flame_expr.specs.ExpressionGrammar.{Reads}
+use Rattle.flame_expr.specs.ExpressionGrammar.{Index}
 use Rattle.flame_expr.proofs.Places.{behind-drop}
-use Rattle.flame_parse.specs.AssignmentOperators.{set_op, step_op}
-use Rattle.flame_parse.specs.StatementGrammar.{Assignment, sets, steps_behind, steps_before, Called, Simple, calling, breaking, continuing}
-use Rattle.flame_parse.proofs.Runs.{end_of, two_behind}
+use Rattle.flame_parse.specs.AssignmentOperators.{IsCall, set_op, step_op}
+use Rattle.flame_parse.specs.StatementGrammar.{Args, Stores, a_call, Place, placed, Assignment, sets, steps_behind, steps_before, Called, Simple, calling, breaking, continuing}
+use Rattle.flame_expr.proofs.Readings.{at_next, from_next}
+use Rattle.flame_parse.proofs.Runs.{next_of, end_of, two_behind}
 
-pub sets_read : (tokens : List Token) (at end : ℕ) (op : Option Op) (e : Expression) → first (drop at tokens) ≡ Word → set_op (first (drop (at + 1) tokens)) ≡ Some op → Reads 6 (drop (at + 1 + 1) tokens) e (drop end tokens) → Assignment (drop at tokens) (record { line = line (drop at tokens); name = text (drop at tokens); op = op; op_line = line (drop (at + 1) tokens); value = e }) (drop end tokens)
-sets_read tokens at end op e f g r =
-    let b = behind-drop tokens at in
-    subst (λ ts. Assignment (drop at tokens) (record { line = line (drop at tokens); name = text (drop at tokens); op = op; op_line = line ts; value = e }) (drop end tokens)) b
-    (sets f (ap (λ ts. set_op (first ts)) b ∙ g) (subst (λ ts. Reads 6 ts e (drop end tokens)) (sym (two_behind tokens at)) r))
+pub call_read : (tokens : List Token) (at close end : ℕ) (us : Expressions) → IsCall (drop at tokens) → Args (drop (at + 1 + 1) tokens) us (drop close tokens) → first (drop close tokens) ≡ Close → end ≡ close + 1 → Stores (drop at tokens) (called (line (drop at tokens)) (text (drop at tokens)) us) (drop end tokens)
+call_read tokens at close end us c r f n = end_of (Stores (drop at tokens) (called (line (drop at tokens)) (text (drop at tokens)) us)) tokens close end n (a_call c.0 c.1 (subst (λ ts. Args ts us (drop close tokens)) (sym (two_behind tokens at)) r) f)
 
-pub step_behind_read : (tokens : List Token) (at : ℕ) (op : Op) → first (drop at tokens) ≡ Word → step_op (first (drop (at + 1) tokens)) ≡ Some op → Assignment (drop at tokens) (record { line = line (drop at tokens); name = text (drop at tokens); op = Some op; op_line = line (drop (at + 1) tokens); value = number (pos 1) }) (drop (at + 1 + 1) tokens)
-step_behind_read tokens at op f g =
-    let b = behind-drop tokens at in
-    let h : Assignment (drop at tokens) (record { line = line (drop at tokens); name = text (drop at tokens); op = Some op; op_line = line (behind (drop at tokens)); value = number (pos 1) }) (behind (behind (drop at tokens))) = steps_behind f (ap (λ ts. step_op (first ts)) b ∙ g) in
-    subst (λ ts. Assignment (drop at tokens) (record { line = line (drop at tokens); name = text (drop at tokens); op = Some op; op_line = line ts; value = number (pos 1) }) (drop (at + 1 + 1) tokens)) b
-    (subst (Assignment (drop at tokens) (record { line = line (drop at tokens); name = text (drop at tokens); op = Some op; op_line = line (behind (drop at tokens)); value = number (pos 1) })) (two_behind tokens at) h)
+pub place_read : (tokens : List Token) (at mid : ℕ) (s : Option Indexed) (rest : List Token) → first (drop at tokens) ≡ Word → mid ≡ at + 1 → Index (drop mid tokens) s rest → Place (drop at tokens) (text (drop at tokens)) s rest
+place_read tokens at mid s rest f n r = placed f (next_of (λ ts. Index ts s rest) tokens at mid n r)
 
-pub step_before_read : (tokens : List Token) (at end : ℕ) (op : Op) → step_op (first (drop at tokens)) ≡ Some op → first (drop (at + 1) tokens) ≡ Word → end ≡ at + 1 + 1 → Assignment (drop at tokens) (record { line = line (drop (at + 1) tokens); name = text (drop (at + 1) tokens); op = Some op; op_line = line (drop at tokens); value = number (pos 1) }) (drop end tokens)
-step_before_read tokens at end op f g n =
-    let b = behind-drop tokens at in
-    let h : Assignment (drop at tokens) (record { line = line (behind (drop at tokens)); name = text (behind (drop at tokens)); op = Some op; op_line = line (drop at tokens); value = number (pos 1) }) (behind (behind (drop at tokens))) = steps_before f (ap first b ∙ g) in
-    subst (λ ts. Assignment (drop at tokens) (record { line = line ts; name = text ts; op = Some op; op_line = line (drop at tokens); value = number (pos 1) }) (drop end tokens)) b
-    (subst (Assignment (drop at tokens) (record { line = line (behind (drop at tokens)); name = text (behind (drop at tokens)); op = Some op; op_line = line (drop at tokens); value = number (pos 1) })) (two_behind tokens at ∙ ap (λ m. drop m tokens) (sym n)) h)
+abbrev Made : ℕ → List ℕ → Option Indexed → Option Op → ℕ → Stored → Assigned
+Made n word s op m v = record { line = n; name = word; subscript = s; op = op; op_line = m; value = v }
+
+pub sets_read : (tokens : List Token) (at mid end : ℕ) (word : List ℕ) (s : Option Indexed) (op : Option Op) (v : Stored) → Place (drop at tokens) word s (drop mid tokens) → set_op (first (drop mid tokens)) ≡ Some op → Stores (drop (mid + 1) tokens) v (drop end tokens) → Assignment (drop at tokens) (Made (line (drop at tokens)) word s op (line (drop mid tokens)) v) (drop end tokens)
+sets_read tokens at mid end word s op v p g r = sets p g (at_next (λ ts. Stores ts v (drop end tokens)) tokens mid r)
+
+pub step_behind_read : (tokens : List Token) (at mid : ℕ) (word : List ℕ) (s : Option Indexed) (op : Op) → Place (drop at tokens) word s (drop mid tokens) → step_op (first (drop mid tokens)) ≡ Some op → Assignment (drop at tokens) (Made (line (drop at tokens)) word s (Some op) (line (drop mid tokens)) (plain (number (pos 1)))) (drop (mid + 1) tokens)
+step_behind_read tokens at mid word s op p g = from_next (Assignment (drop at tokens) (Made (line (drop at tokens)) word s (Some op) (line (drop mid tokens)) (plain (number (pos 1))))) tokens mid (steps_behind p g)
+
+pub step_before_read : (tokens : List Token) (at : ℕ) (word : List ℕ) (s : Option Indexed) (op : Op) (rest : List Token) → step_op (first (drop at tokens)) ≡ Some op → Place (drop (at + 1) tokens) word s rest → Assignment (drop at tokens) (Made (line (drop (at + 1) tokens)) word s (Some op) (line (drop at tokens)) (plain (number (pos 1)))) rest
+step_before_read tokens at word s op rest g p =
+    subst (λ ts. Assignment (drop at tokens) (Made (line ts) word s (Some op) (line (drop at tokens)) (plain (number (pos 1)))) rest) (behind-drop tokens at)
+    (steps_before g (at_next (λ ts. Place ts word s rest) tokens at p))
 
 pub breaking_read : (tokens : List Token) (at end : ℕ) → first (drop at tokens) ≡ Break → first (drop (at + 1) tokens) ≡ Semicolon → end ≡ at + 1 + 1 → Simple (drop at tokens) (break (line (drop at tokens))) (drop end tokens)
 breaking_read tokens at end f g n = subst (Simple (drop at tokens) (break (line (drop at tokens)))) (two_behind tokens at ∙ ap (λ m. drop m tokens) (sym n)) (breaking f (ap first (behind-drop tokens at) ∙ g))

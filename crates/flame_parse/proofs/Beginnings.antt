@@ -7,23 +7,24 @@ use Rattle.flame_expr.specs.declared.lexemes.Lexeme.{Lexeme}
 use Rattle.flame_expr.specs.declared.lexemes.Lexeme.TheVariants.{Nothing, Word, Start, Finish, PlusPlus, MinusMinus, PlusSet, MinusSet, StarSet, SlashSet, PercentSet, Set, Open, Close, OpenBrace, CloseBrace, Comma, Semicolon, Int, Void, If, Else, While, For, Do, Return, Break, Continue}
 use Rattle.flame_expr.specs.Lexemes.{first, behind, is_real}
 use Rattle.flame_expr.specs.OperatorLevels.{joins}
-use Rattle.flame_expr.specs.ViablePrefixes.{Symbol, lexeme, form, both, either, one_of, maybe, many, expr, setters, steppers, more_args, more_items, else_ifs, else_body, a_unit, a_def, a_block, a_stmt, a_decl, an_item, a_simple, an_assign, some_args, a_body, End, left, Goes, stay, match, expand, in_turn, first_part, second_part}
+use Rattle.flame_expr.specs.ViablePrefixes.{Symbol, lexeme, form, both, either, one_of, maybe, many, expr, index, setters, steppers, parameter, more_parameters, parameters, more_args, more_items, else_ifs, else_body, a_unit, a_def, a_block, a_stmt, a_decl, an_item, a_simple, an_assign, a_place, a_value, some_args, a_body, End, left, Goes, stay, match, expand, in_turn, first_part, second_part}
 use Rattle.flame_expr.specs.ReadParts.{onto, Ended, Stopped}
 use Rattle.flame_expr.proofs.LexemeFacts.{IsNone, or, among, everywhere, not_among}
 use Rattle.flame_expr.proofs.Walk.{at_lexeme}
 use Rattle.flame_expr.proofs.Heads.{One}
 use Rattle.flame_expr.proofs.Parts.{any_heads, any_all, pasts, clean, none, ends_here, joins_on, go_on, GoesAny}
+use Rattle.flame_parse.specs.HeadSymbols.{initial_symbol}
 use Rattle.flame_parse.specs.AssignmentOperators.{set_op, step_op, starts, starters, joins_item, joins_items, joins_args, joins_stmt, joins_stmts}
 
--- the rests behind the word of an assignment
+-- the rests behind the place of an assignment
 abbrev pub operations : List (List Symbol)
-operations = (one_of setters ∷ expr ∷ []) ∷ (one_of steppers ∷ []) ∷ []
+operations = (one_of setters ∷ form a_value ∷ []) ∷ (one_of steppers ∷ []) ∷ []
 
 abbrev pub SetsBy : Lexeme → Type 0
 SetsBy d =
     (is_real d ≡ true)
     × (clean (any_heads operations d) (joins_on d (joins 6)) ≡ true)
-    × (pasts (any_heads operations d) ≡ (expr ∷ []) ∷ [])
+    × (pasts (any_heads operations d) ≡ (form a_value ∷ []) ∷ [])
 
 pub sets_by : (d : Lexeme) (o : Option Op) → set_op d ≡ Some o → SetsBy d
 sets_by Set o e = (refl, refl, refl)
@@ -49,7 +50,7 @@ abbrev pub BeginsStep : Lexeme → Type 0
 BeginsStep d =
     (is_real d ≡ true)
     × (clean (any_heads ((form an_assign ∷ []) ∷ []) d) (joins_on d (joins 6)) ≡ true)
-    × (pasts (any_heads ((form an_assign ∷ []) ∷ []) d) ≡ (lexeme Word ∷ []) ∷ [])
+    × (pasts (any_heads ((form an_assign ∷ []) ∷ []) d) ≡ (form a_place ∷ []) ∷ [])
 
 pub begins_step : (d : Lexeme) (o : Op) → step_op d ≡ Some o → BeginsStep d
 begins_step PlusPlus o e = (refl, refl, refl)
@@ -110,8 +111,11 @@ EndsWithout X l = (d : Lexeme) → (d ≡ l → ⊥) → ends_here (any_heads (X
 without_test : (X : List Symbol) (l : Lexeme) → ((d : Lexeme) → or (among d (l ∷ [])) (ends_here (any_heads (X ∷ []) d)) ≡ true) → EndsWithout X l
 without_test X l t d n = or_right (among d (l ∷ [])) (ends_here (any_heads (X ∷ []) d)) (t d) (not_among d (l ∷ []) (n, tt))
 
-pub value_ends : EndsWithout (maybe (both (lexeme Set) expr) ∷ []) Set
-value_ends = without_test (maybe (both (lexeme Set) expr) ∷ []) Set (everywhere (λ d. or (among d (Set ∷ [])) (ends_here (any_heads ((maybe (both (lexeme Set) expr) ∷ []) ∷ []) d))) refl)
+pub initial_ends : EndsWithout (initial_symbol ∷ []) Set
+initial_ends = without_test (initial_symbol ∷ []) Set (everywhere (λ d. or (among d (Set ∷ [])) (ends_here (any_heads ((initial_symbol ∷ []) ∷ []) d))) refl)
+
+pub parameters_end : EndsWithout (more_parameters ∷ []) Comma
+parameters_end = without_test (more_parameters ∷ []) Comma (everywhere (λ d. or (among d (Comma ∷ [])) (ends_here (any_heads ((more_parameters ∷ []) ∷ []) d))) refl)
 
 pub items_end : EndsWithout (more_items ∷ []) Comma
 items_end = without_test (more_items ∷ []) Comma (everywhere (λ d. or (among d (Comma ∷ [])) (ends_here (any_heads ((more_items ∷ []) ∷ []) d))) refl)
@@ -141,9 +145,24 @@ pub step_alike : AlikeBut Close ((form an_assign ∷ lexeme Close ∷ []) ∷ []
 step_alike Close n = absurd (n refl)
 step_alike d n = refl
 
-pub closing_alike : AlikeBut Void ((lexeme Close ∷ []) ∷ []) ((maybe (lexeme Void) ∷ lexeme Close ∷ []) ∷ [])
-closing_alike Void n = absurd (n refl)
-closing_alike d n = refl
+pub parameters_alike : (d : Lexeme) → (d ≡ Void → ⊥) → (d ≡ Int → ⊥) → any_heads ((lexeme Close ∷ []) ∷ []) d ≡ any_heads ((parameters ∷ lexeme Close ∷ []) ∷ []) d
+parameters_alike Void m n = absurd (m refl)
+parameters_alike Int m n = absurd (n refl)
+parameters_alike d m n = refl
+
+pub int_alike : (d : Lexeme) → d ≡ Int → any_heads ((parameter ∷ more_parameters ∷ lexeme Close ∷ []) ∷ []) d ≡ any_heads ((parameters ∷ lexeme Close ∷ []) ∷ []) d
+int_alike d f = ap (any_heads ((parameter ∷ more_parameters ∷ lexeme Close ∷ []) ∷ [])) f ∙ sym (ap (any_heads ((parameters ∷ lexeme Close ∷ []) ∷ [])) f)
+
+pub word_alike : (d : Lexeme) → d ≡ Word → any_heads ((form a_place ∷ one_of setters ∷ form a_value ∷ []) ∷ (form a_place ∷ one_of steppers ∷ []) ∷ []) d ≡ any_heads ((form an_assign ∷ []) ∷ []) d
+word_alike d f = ap (any_heads ((form a_place ∷ one_of setters ∷ form a_value ∷ []) ∷ (form a_place ∷ one_of steppers ∷ []) ∷ [])) f ∙ sym (ap (any_heads ((form an_assign ∷ []) ∷ [])) f)
+
+-- the rests behind the word and the bracket that a value begins with
+abbrev pub arguments : List (List Symbol)
+arguments = pasts (any_heads (pasts (any_heads ((form a_value ∷ []) ∷ []) Word)) Open)
+
+pub arguments_alike : AlikeBut Close ((form some_args ∷ lexeme Close ∷ []) ∷ []) arguments
+arguments_alike Close n = absurd (n refl)
+arguments_alike d n = refl
 
 pub body_alike : AlikeBut OpenBrace ((form a_simple ∷ []) ∷ []) ((form a_body ∷ []) ∷ [])
 body_alike OpenBrace n = absurd (n refl)
@@ -178,12 +197,12 @@ stmt_alike d a b c e f g h = refl
 
 -- a word that no bracket follows begins no call
 abbrev Words : List (List Symbol)
-Words = (one_of setters ∷ expr ∷ lexeme Semicolon ∷ []) ∷ (one_of steppers ∷ lexeme Semicolon ∷ []) ∷ []
+Words = (index ∷ one_of setters ∷ form a_value ∷ lexeme Semicolon ∷ []) ∷ (index ∷ one_of steppers ∷ lexeme Semicolon ∷ []) ∷ []
 
 assign_words : (K : List Symbol) (ts : List Token) (e : End) → first ts ≡ Word → GoesAny Words K (behind ts) e → Goes (form an_assign ∷ lexeme Semicolon ∷ K) ts e
 assign_words K ts e f h = go_on (form an_assign ∷ lexeme Semicolon ∷ []) K ts e Word f h
 
-word_heads : (K : List Symbol) (ts : List Token) (e : End) → first ts ≡ Word → Goes (form a_simple ∷ K) ts e → (e ≡ left ts) ⊎ (Goes (one_of setters ∷ expr ∷ lexeme Semicolon ∷ K) (behind ts) e ⊎ (Goes (one_of steppers ∷ lexeme Semicolon ∷ K) (behind ts) e ⊎ (Goes (lexeme Open ∷ maybe (form some_args) ∷ lexeme Close ∷ lexeme Semicolon ∷ K) (behind ts) e ⊎ ⊥)))
+word_heads : (K : List Symbol) (ts : List Token) (e : End) → first ts ≡ Word → Goes (form a_simple ∷ K) ts e → (e ≡ left ts) ⊎ (Goes (index ∷ one_of setters ∷ form a_value ∷ lexeme Semicolon ∷ K) (behind ts) e ⊎ (Goes (index ∷ one_of steppers ∷ lexeme Semicolon ∷ K) (behind ts) e ⊎ (Goes (lexeme Open ∷ maybe (form some_args) ∷ lexeme Close ∷ lexeme Semicolon ∷ K) (behind ts) e ⊎ ⊥)))
 word_heads K ts e f h = elim (any_all ((form a_simple ∷ []) ∷ []) K ts e (inl h)) [
   | inl i ↦ inl i
   | inr i ↦ inr (subst (λ d. One (any_heads ((form a_simple ∷ []) ∷ []) d) K ts e) f i)
@@ -210,7 +229,7 @@ simple_is_assign K ts e f n h = elim (word_cases K ts e f h) [
   | inr i ↦ elim i [
     | inl j ↦ assign_words K ts e f j
     | inr j ↦ elim (at_lexeme j) [
-      | inl k ↦ assign_words K ts e f (inl (subst (Goes (one_of setters ∷ expr ∷ lexeme Semicolon ∷ K) (behind ts)) (sym k) stay))
+      | inl k ↦ assign_words K ts e f (inl (subst (Goes (index ∷ one_of setters ∷ form a_value ∷ lexeme Semicolon ∷ K) (behind ts)) (sym k) stay))
       | inr k ↦ absurd (n k.1)
     ]
   ]

@@ -13,7 +13,7 @@ use Rattle.flame_expr.proofs.Parts.{any_heads}
 use Rattle.flame_expr.proofs.Ends.{any_ended, one_ended, any_stopped, one_stopped, ended_weaker, stopped_weaker}
 use Rattle.flame_parse.specs.AssignmentOperators.{joins_stmt}
 use Rattle.flame_parse.specs.StatementGrammar.{Elses, no_else}
-use Rattle.flame_parse.proofs.Likeness.{alike_ended, alike_stopped}
+use Rattle.flame_expr.proofs.Likeness.{alike_ended, alike_stopped}
 
 abbrev Inside : List Symbol
 Inside = lexeme OpenBrace ∷ many (form a_stmt) ∷ lexeme CloseBrace ∷ []

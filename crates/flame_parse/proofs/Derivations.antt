@@ -1,27 +1,42 @@
 -- What the grammar of statements reads is reached by steps.
 use Rattle.std.proofs.Common.{◌≡◌, inl, inr, ℕ, List, [], ◌∷◌, refl, sym, ap, ◌∙◌, subst, Option, Some, None}
-use Rattle.flame_spec.specs.Trees.{Expression, Expressions, Declared, Assigned, Statement, Statements, Arms}
+use Rattle.flame_spec.specs.declared.trees.Parameter.{Parameter}
+use Rattle.flame_spec.specs.Trees.{Expression, Expressions, Stored, Indexed, Declared, Assigned, Statement, Statements, Arms}
 use Rattle.flame_lex.specs.declared.token.Token.{Token}
 use Rattle.flame_expr.specs.declared.lexemes.Lexeme.{Lexeme}
 use Rattle.flame_expr.specs.declared.lexemes.Lexeme.TheVariants.{Word, Start, Finish, Set, Open, Close, OpenBrace, CloseBrace, Comma, Semicolon, Int, Void, If, Else, While, For, Do, Return, Break, Continue}
 use Rattle.flame_expr.specs.Lexemes.{first, behind}
-use Rattle.flame_expr.specs.ViablePrefixes.{Symbol, lexeme, form, both, either, maybe, many, expr, more_args, more_items, else_ifs, else_body, a_unit, a_def, a_block, a_stmt, a_decl, an_item, a_simple, an_assign, some_args, a_body, End, Goes, expand, in_turn, first_part, second_part, with_it, without, more, enough}
+use Rattle.flame_expr.specs.ViablePrefixes.{Symbol, lexeme, form, both, either, one_of, maybe, many, expr, index, setters, steppers, parameter, more_parameters, parameters, more_args, more_items, else_ifs, else_body, a_unit, a_def, a_block, a_stmt, a_decl, an_item, a_simple, an_assign, a_place, a_value, some_args, a_body, End, Goes, expand, in_turn, first_part, second_part, with_it, without, more, enough}
 use Rattle.flame_expr.specs.ExpressionGrammar.{Reads, Bracketed}
 use Rattle.flame_expr.proofs.Heads.{matched}
 use Rattle.flame_expr.proofs.Parts.{any_heads, any_from, pasts, pasts_one, GoesAny, go_on}
-use Rattle.flame_expr.proofs.Derivations.{reads_go, brackets_go}
-use Rattle.flame_parse.specs.StatementGrammar.{Value, no_value, a_value, Item, an_item as item_read, MoreItems, no_item, item_more, Items, items, Declaration, declaration, Assignment, sets, steps_behind, steps_before, MoreArgs, no_arg, arg_more, Args, args, Called, no_args, some_args as args_read, AssignedTo, assigned_to, Simple, nothing, assigning, calling, returning, breaking, continuing, First, no_first, first_assign, first_decl, Test, no_test, a_test, Step, no_step, a_step, Heading, heading, Block, braces, Stmts, no_stmt, stmt_more, Stmt, declaring, blocking, branching, whiling, repeating, doing, looping, simply, Elses, no_else, else_if, an_else, Body, in_braces, one_simple, Defined, Closing, no_void, a_void, Definition, definition, Definitions, no_definition, definition_more}
+use Rattle.flame_expr.proofs.Derivations.{reads_go, index_goes, brackets_go}
+use Rattle.flame_parse.specs.StatementGrammar.{Stores, an_expression, a_call, Initial, no_initial, an_initial, Place, placed, OneParameter, a_parameter, MoreParameters, no_parameter, parameter_more, SomeParameters, listed, Parameters, none_given, void_given, some_given, Item, an_item as item_read, MoreItems, no_item, item_more, Items, items, Declaration, declaration, Assignment, sets, steps_behind, steps_before, MoreArgs, no_arg, arg_more, Args, args, Called, no_args, some_args as args_read, AssignedTo, assigned_to, Simple, nothing, assigning, calling, returning, breaking, continuing, First, no_first, first_assign, first_decl, Test, no_test, a_test, Step, no_step, a_step, Heading, heading, Block, braces, Stmts, no_stmt, stmt_more, Stmt, declaring, blocking, branching, whiling, repeating, doing, looping, simply, Elses, no_else, else_if, an_else, Body, in_braces, one_simple, Defined, Definition, definition, Definitions, no_definition, definition_more}
+use Rattle.flame_parse.specs.HeadSymbols.{initial_symbol}
 use Rattle.flame_parse.proofs.Beginnings.{operations, sets_by, steps_by, begins_step}
 
 any_on : (A : List (List Symbol)) (K : List Symbol) (ts : List Token) (e : End) (a : Lexeme) → first ts ≡ a → GoesAny (pasts (any_heads A a)) K (behind ts) e → GoesAny A K ts e
 any_on A K ts e a f h = any_from A K ts e (pasts_one (any_heads A (first ts)) K ts e (subst (λ d. GoesAny (pasts (any_heads A d)) K (behind ts) e) (sym f) h))
 
-value_goes : (K : List Symbol) (ts mid : List Token) (v : Option Expression) (e : End) → Value ts v mid → Goes K mid e → Goes (maybe (both (lexeme Set) expr) ∷ K) ts e
-value_goes K ts mid v e no_value h = without h
-value_goes K ts mid v e (a_value {e = t} f a) h = with_it (in_turn (matched Set (expr ∷ K) ts e refl (sym f) (reads_go 6 K (behind ts) mid t e a h)))
+more_args_go : (K : List Symbol) (ts mid : List Token) (us : Expressions) (e : End) → MoreArgs ts us mid → Goes K mid e → Goes (more_args ∷ K) ts e
+more_args_go K ts mid us e no_arg h = enough h
+more_args_go K ts mid us e (arg_more {mid = m} {e = t} {us = vs} f a b) h = more (in_turn (matched Comma (expr ∷ more_args ∷ K) ts e refl (sym f) (reads_go 6 (more_args ∷ K) (behind ts) m t e a (more_args_go K m mid vs e b h))))
+
+args_go : (K : List Symbol) (ts mid : List Token) (us : Expressions) (e : End) → Args ts us mid → Goes K mid e → Goes (form some_args ∷ K) ts e
+args_go K ts mid us e (args {mid = m} {e = t} {us = vs} a b) h = expand (in_turn (reads_go 6 (more_args ∷ K) ts m t e a (more_args_go K m mid vs e b h)))
+
+value_goes : (K : List Symbol) (ts mid : List Token) (v : Stored) (e : End) → Stores ts v mid → Goes K mid e → Goes (form a_value ∷ K) ts e
+value_goes K ts mid v e (an_expression {e = t} a) h = expand (first_part (reads_go 6 K ts mid t e a h))
+value_goes K ts mid v e (a_call {mid = m} {us = us} f g a c) h =
+    expand (second_part (in_turn (in_turn (in_turn (matched Word (lexeme Open ∷ form some_args ∷ lexeme Close ∷ K) ts e refl (sym f)
+    (matched Open (form some_args ∷ lexeme Close ∷ K) (behind ts) e refl (sym g) (args_go (lexeme Close ∷ K) (behind (behind ts)) m us e a (matched Close K m e refl (sym c) h))))))))
+
+initial_goes : (K : List Symbol) (ts mid : List Token) (v : Option Stored) (e : End) → Initial ts v mid → Goes K mid e → Goes (initial_symbol ∷ K) ts e
+initial_goes K ts mid v e no_initial h = without h
+initial_goes K ts mid v e (an_initial {v = t} f a) h = with_it (in_turn (matched Set (form a_value ∷ K) ts e refl (sym f) (value_goes K (behind ts) mid t e a h)))
 
 item_goes : (K : List Symbol) (ts mid : List Token) (d : Declared) (e : End) → Item ts d mid → Goes K mid e → Goes (form an_item ∷ K) ts e
-item_goes K ts mid d e (item_read {v = v} f a) h = expand (in_turn (matched Word (maybe (both (lexeme Set) expr) ∷ K) ts e refl (sym f) (value_goes K (behind ts) mid v e a h)))
+item_goes K ts mid d e (item_read {v = v} f a) h = expand (in_turn (matched Word (initial_symbol ∷ K) ts e refl (sym f) (initial_goes K (behind ts) mid v e a h)))
 
 more_items_go : (K : List Symbol) (ts mid : List Token) (ds : List Declared) (e : End) → MoreItems ts ds mid → Goes K mid e → Goes (more_items ∷ K) ts e
 more_items_go K ts mid ds e no_item h = enough h
@@ -33,26 +48,31 @@ items_go K ts mid ds e (items {mid = m} {d = d} {ds = es} a b) h = item_goes (mo
 declaration_goes : (K : List Symbol) (ts mid : List Token) (ds : List Declared) (e : End) → Declaration ts ds mid → Goes K mid e → Goes (form a_decl ∷ K) ts e
 declaration_goes K ts mid ds e (declaration f a) h = expand (in_turn (in_turn (matched Int (form an_item ∷ more_items ∷ K) ts e refl (sym f) (items_go K (behind ts) mid ds e a h))))
 
+place_goes : (K : List Symbol) (ts mid : List Token) (w : List ℕ) (s : Option Indexed) (e : End) → Place ts w s mid → Goes K mid e → Goes (form a_place ∷ K) ts e
+place_goes K ts mid w s e (placed f a) h = expand (in_turn (matched Word (index ∷ K) ts e refl (sym f) (index_goes K (behind ts) mid s e a h)))
+
+operation_goes : (K : List Symbol) (ts mid : List Token) (w : List ℕ) (s : Option Indexed) (e : End) → Place ts w s mid → GoesAny operations K mid e → Goes (form an_assign ∷ K) ts e
+operation_goes K ts mid w s e p h = elim h [
+  | inl i ↦ expand (first_part (in_turn (in_turn (place_goes (one_of setters ∷ form a_value ∷ K) ts mid w s e p i))))
+  | inr i ↦ elim i [
+    | inl j ↦ expand (second_part (first_part (in_turn (place_goes (one_of steppers ∷ K) ts mid w s e p j))))
+    | inr j ↦ absurd j
+  ]
+]
+
 assignment_goes : (K : List Symbol) (ts mid : List Token) (a : Assigned) (e : End) → Assignment ts a mid → Goes K mid e → Goes (form an_assign ∷ K) ts e
-assignment_goes K ts mid a e (sets {op = o} {e = t} f g r) h =
-    let b = sets_by (first (behind ts)) o g in
-    go_on (form an_assign ∷ []) K ts e Word f (any_on operations K (behind ts) e (first (behind ts)) refl (subst (λ B. GoesAny B K (behind (behind ts)) e) (sym b.2) (inl (reads_go 6 K (behind (behind ts)) mid t e r h))))
-assignment_goes K ts mid a e (steps_behind {op = o} f g) h =
-    let b = steps_by (first (behind ts)) o g in
-    go_on (form an_assign ∷ []) K ts e Word f (any_on operations K (behind ts) e (first (behind ts)) refl (subst (λ B. GoesAny B K (behind (behind ts)) e) (sym b.2) (inl h)))
-assignment_goes K ts mid a e (steps_before {op = o} f g) h =
+assignment_goes K ts mid a e (sets {mid = m} {word = w} {s = s} {op = o} {v = v} p g r) h =
+    let b = sets_by (first m) o g in
+    operation_goes K ts m w s e p (any_on operations K m e (first m) refl (subst (λ B. GoesAny B K (behind m) e) (sym b.2) (inl (value_goes K (behind m) mid v e r h))))
+assignment_goes K ts mid a e (steps_behind {mid = m} {word = w} {s = s} {op = o} p g) h =
+    let b = steps_by (first m) o g in
+    operation_goes K ts m w s e p (any_on operations K m e (first m) refl (subst (λ B. GoesAny B K (behind m) e) (sym b.2) (inl h)))
+assignment_goes K ts mid a e (steps_before {word = w} {s = s} {op = o} f p) h =
     let b = begins_step (first ts) o f in
-    go_on (form an_assign ∷ []) K ts e (first ts) refl (subst (λ B. GoesAny B K (behind ts) e) (sym b.2) (inl (matched Word K (behind ts) e refl (sym g) h)))
+    go_on (form an_assign ∷ []) K ts e (first ts) refl (subst (λ B. GoesAny B K (behind ts) e) (sym b.2) (inl (place_goes K (behind ts) mid w s e p h)))
 
 assigned_goes : (K : List Symbol) (ts mid : List Token) (a : Assigned) (e : End) → AssignedTo ts a mid → Goes K mid e → Goes (form an_assign ∷ lexeme Semicolon ∷ K) ts e
 assigned_goes K ts mid a e (assigned_to {mid = m} x f) h = assignment_goes (lexeme Semicolon ∷ K) ts m a e x (matched Semicolon K m e refl (sym f) h)
-
-more_args_go : (K : List Symbol) (ts mid : List Token) (us : Expressions) (e : End) → MoreArgs ts us mid → Goes K mid e → Goes (more_args ∷ K) ts e
-more_args_go K ts mid us e no_arg h = enough h
-more_args_go K ts mid us e (arg_more {mid = m} {e = t} {us = vs} f a b) h = more (in_turn (matched Comma (expr ∷ more_args ∷ K) ts e refl (sym f) (reads_go 6 (more_args ∷ K) (behind ts) m t e a (more_args_go K m mid vs e b h))))
-
-args_go : (K : List Symbol) (ts mid : List Token) (us : Expressions) (e : End) → Args ts us mid → Goes K mid e → Goes (form some_args ∷ K) ts e
-args_go K ts mid us e (args {mid = m} {e = t} {us = vs} a b) h = expand (in_turn (reads_go 6 (more_args ∷ K) ts m t e a (more_args_go K m mid vs e b h)))
 
 called_goes : (K : List Symbol) (ts mid : List Token) (us : Expressions) (e : End) → Called ts us mid → Goes K mid e → Goes (maybe (form some_args) ∷ lexeme Close ∷ K) ts e
 called_goes K ts mid us e (no_args f) h = without (matched Close K ts e refl (sym f) h)
@@ -115,15 +135,26 @@ mutual
   body_goes K ts mid ss e (in_braces a) h = expand (first_part (block_goes K ts mid ss e a h))
   body_goes K ts mid ss e (one_simple {s = s} a) h = expand (second_part (simple_goes K ts mid s e a h))
 
-closing_goes : (K : List Symbol) (ts mid : List Token) (e : End) → Closing ts mid → Goes K mid e → Goes (maybe (lexeme Void) ∷ lexeme Close ∷ K) ts e
-closing_goes K ts mid e (no_void f) h = without (matched Close K ts e refl (sym f) h)
-closing_goes K ts mid e (a_void f g) h = with_it (matched Void (lexeme Close ∷ K) ts e refl (sym f) (matched Close K (behind ts) e refl (sym g) h))
+parameter_goes : (K : List Symbol) (ts mid : List Token) (p : Parameter) (e : End) → OneParameter ts p mid → Goes K mid e → Goes (parameter ∷ K) ts e
+parameter_goes K ts mid p e (a_parameter f g) h = in_turn (matched Int (lexeme Word ∷ K) ts e refl (sym f) (matched Word K (behind ts) e refl (sym g) h))
+
+more_parameters_go : (K : List Symbol) (ts mid : List Token) (ps : List Parameter) (e : End) → MoreParameters ts ps mid → Goes K mid e → Goes (more_parameters ∷ K) ts e
+more_parameters_go K ts mid ps e no_parameter h = enough h
+more_parameters_go K ts mid ps e (parameter_more {mid = m} {p = p} {ps = qs} f a b) h = more (in_turn (matched Comma (parameter ∷ more_parameters ∷ K) ts e refl (sym f) (parameter_goes (more_parameters ∷ K) (behind ts) m p e a (more_parameters_go K m mid qs e b h))))
+
+some_parameters_go : (K : List Symbol) (ts mid : List Token) (ps : List Parameter) (e : End) → SomeParameters ts ps mid → Goes K mid e → Goes (both parameter more_parameters ∷ K) ts e
+some_parameters_go K ts mid ps e (listed {mid = m} {p = p} {ps = qs} a b) h = in_turn (parameter_goes (more_parameters ∷ K) ts m p e a (more_parameters_go K m mid qs e b h))
+
+parameters_go : (K : List Symbol) (ts mid : List Token) (ps : List Parameter) (e : End) → Parameters ts ps mid → Goes K mid e → Goes (parameters ∷ lexeme Close ∷ K) ts e
+parameters_go K ts mid ps e (none_given f) h = without (matched Close K ts e refl (sym f) h)
+parameters_go K ts mid ps e (void_given f g) h = with_it (first_part (matched Void (lexeme Close ∷ K) ts e refl (sym f) (matched Close K (behind ts) e refl (sym g) h)))
+parameters_go K ts mid ps e (some_given {mid = m} a f) h = with_it (second_part (some_parameters_go (lexeme Close ∷ K) ts m ps e a (matched Close K m e refl (sym f) h)))
 
 definition_goes : (K : List Symbol) (ts mid : List Token) (d : Defined) (e : End) → Definition ts d mid → Goes K mid e → Goes (form a_def ∷ K) ts e
-definition_goes K ts mid d e (definition {mid = m} {ss = ss} f g i a b) h = go_on (form a_def ∷ []) K ts e Int f (inl
-    (matched Word (lexeme Open ∷ maybe (lexeme Void) ∷ lexeme Close ∷ form a_block ∷ K) (behind ts) e refl (sym g)
-    (matched Open (maybe (lexeme Void) ∷ lexeme Close ∷ form a_block ∷ K) (behind (behind ts)) e refl (sym i)
-    (closing_goes (form a_block ∷ K) (behind (behind (behind ts))) m e a (block_goes K m mid ss e b h)))))
+definition_goes K ts mid d e (definition {mid = m} {ps = ps} {ss = ss} f g i a b) h = go_on (form a_def ∷ []) K ts e Int f (inl
+    (matched Word (lexeme Open ∷ parameters ∷ lexeme Close ∷ form a_block ∷ K) (behind ts) e refl (sym g)
+    (matched Open (parameters ∷ lexeme Close ∷ form a_block ∷ K) (behind (behind ts)) e refl (sym i)
+    (parameters_go (form a_block ∷ K) (behind (behind (behind ts))) m ps e a (block_goes K m mid ss e b h)))))
 
 definitions_go : (K : List Symbol) (ts mid : List Token) (ds : List Defined) (e : End) → Definitions ts ds mid → Goes K mid e → Goes (many (form a_def) ∷ K) ts e
 definitions_go K ts mid ds e no_definition h = enough h

@@ -1,10 +1,12 @@
-pub mod Alike
+pub mod Repeats
+pub mod Fronts
 pub mod Beginnings
 pub mod Runs
+pub mod Values
 pub mod Assigns
 pub mod Blocks
 pub mod Defs
-pub mod Forward
-pub mod Whole
-pub mod Depth
+pub mod Derivations
+pub mod WholeFiles
 pub mod OneTree
+pub mod FileMeanings

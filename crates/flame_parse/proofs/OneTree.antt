@@ -1,20 +1,21 @@
 -- A list of tokens is at most one function file.
-use Rattle.std.proofs.Common.{◌≡◌, ℕ, pos, List, [], ◌∷◌, refl, sym, ap, ◌∙◌, subst, Bool, true, false, nat_eq, eq-eqb, Option, Some, None, unwrap_or}
+use Rattle.std.proofs.Common.{◌≡◌, ℕ, suc, pos, List, [], ◌∷◌, refl, sym, ap, ◌∙◌, subst, Bool, true, false, nat_eq, eq-eqb, Option, Some, None, unwrap_or}
 use Rattle.std.proofs.lemmas.Bool.{false≢true}
 use Rattle.flame_ops.specs.declared.integers.Op.{Op}
+use Rattle.flame_spec.specs.declared.trees.Parameter.{Parameter}
 use Rattle.flame_spec.specs.declared.trees.Sign.{Sign}
 use Rattle.flame_spec.specs.declared.trees.SignKind.{SignKind}
-use Rattle.flame_spec.specs.Trees.{Expression, number, Expressions, part, Declared, Assigned, Statement, declare, assign, call, block, branch, while, for, do_while, loop_over, return, Statements, no_more, also, Arms, arm}
+use Rattle.flame_spec.specs.Trees.{Expression, number, Expressions, part, Stored, plain, called, Indexed, Declared, Assigned, Statement, declare, assign, call, block, branch, while, for, do_while, loop_over, return, Statements, no_more, also, Arms, arm}
 use Rattle.flame_lex.specs.declared.token.Token.{Token}
 use Rattle.flame_expr.specs.declared.lexemes.Lexeme.{Lexeme}
-use Rattle.flame_expr.specs.declared.lexemes.Lexeme.TheVariants.{Nothing, Word, Number, Start, PlusPlus, MinusMinus, Set, Plus, Minus, Bang, Open, Close, OpenBrace, Comma, Semicolon, Int, Void, If, Else, While, For, Do, Return, Break, Continue}
+use Rattle.flame_expr.specs.declared.lexemes.Lexeme.TheVariants.{Nothing, Word, Number, Start, PlusPlus, MinusMinus, Set, Plus, Minus, Bang, Open, Close, OpenBracket, Arrow, OpenBrace, Comma, Semicolon, Int, Void, If, Else, While, For, Do, Return, Break, Continue}
 use Rattle.flame_expr.specs.Lexemes.{first, text, line, behind}
 use Rattle.flame_expr.specs.OperatorLevels.{joins, sign_of}
-use Rattle.flame_expr.specs.ExpressionGrammar.{Reads, a_unary, a_chain, a_conjunction, a_disjunction, Signs, no_sign, a_sign, Primary, a_number, a_name, a_field, a_get, in_brackets, Bracketed, bracketed}
+use Rattle.flame_expr.specs.ExpressionGrammar.{Reads, a_unary, a_chain, a_conjunction, a_disjunction, Signs, no_sign, a_sign, Primary, a_number, a_name, a_field, a_get, in_brackets, Index, no_index, an_index, Bracketed, bracketed}
 use Rattle.flame_expr.proofs.LexemeFacts.{or, same, among}
-use Rattle.flame_expr.proofs.Uniqueness.{unlike_words, one_read, one_bracketed}
+use Rattle.flame_expr.proofs.Uniqueness.{IsStop, stop_below, tail_stop, conjuncts_stop, disjuncts_stop, unlike_words, one_read, one_index, one_bracketed}
 use Rattle.flame_parse.specs.AssignmentOperators.{set_op, step_op, joins_item, joins_items, joins_args}
-use Rattle.flame_parse.specs.StatementGrammar.{Value, no_value, a_value, Item, an_item, MoreItems, no_item, item_more, Items, items, Declaration, declaration, Assignment, sets, steps_behind, steps_before, MoreArgs, no_arg, arg_more, Args, args, Called, no_args, some_args, AssignedTo, assigned_to, Simple, nothing, assigning, calling, returning, breaking, continuing, First, no_first, first_assign, first_decl, Test, no_test, a_test, Step, no_step, a_step, Heading, heading, Block, braces, Stmts, no_stmt, stmt_more, Stmt, declaring, blocking, branching, whiling, repeating, doing, looping, simply, Elses, no_else, else_if, an_else, Body, in_braces, one_simple, Defined, Closing, no_void, a_void, Definition, definition, Definitions, no_definition, definition_more}
+use Rattle.flame_parse.specs.StatementGrammar.{Stores, an_expression, a_call, Initial, no_initial, an_initial, Place, placed, OneParameter, a_parameter, MoreParameters, no_parameter, parameter_more, SomeParameters, listed, Parameters, none_given, void_given, some_given, Item, an_item, MoreItems, no_item, item_more, Items, items, Declaration, declaration, Assignment, sets, steps_behind, steps_before, MoreArgs, no_arg, arg_more, Args, args, Called, no_args, some_args, AssignedTo, assigned_to, Simple, nothing, assigning, calling, returning, breaking, continuing, First, no_first, first_assign, first_decl, Test, no_test, a_test, Step, no_step, a_step, Heading, heading, Block, braces, Stmts, no_stmt, stmt_more, Stmt, declaring, blocking, branching, whiling, repeating, doing, looping, simply, Elses, no_else, else_if, an_else, Body, in_braces, one_simple, Defined, Definition, definition, Definitions, no_definition, definition_more}
 use Rattle.flame_parse.specs.Parsing.{IsUnit}
 
 -- none of these lexemes is next
@@ -49,8 +50,8 @@ head_at d ts f h = ap (λ x. among x heads) f ∙ h
 
 primary_begins : (ts r : List Token) (t : Expression) → Primary ts t r → among (first ts) heads ≡ true
 primary_begins ts r t (a_number f) = head_at Number ts f refl
-primary_begins ts r t (a_name f) = head_at Word ts f refl
-primary_begins ts r t (a_field f g h) = head_at Word ts f refl
+primary_begins ts r t (a_name f i) = head_at Word ts f refl
+primary_begins ts r t (a_field f g h i) = head_at Word ts f refl
 primary_begins ts r t (a_get f g h) = head_at Word ts f refl
 primary_begins ts r t (in_brackets (bracketed f a)) = head_at Open ts f refl
 
@@ -73,17 +74,77 @@ read_begins k ts r t (a_disjunction {k = n} {mid = m} {e = e} l a b) = read_begi
 no_read : (d : Lexeme) (ts r : List Token) (t : Expression) → among d heads ≡ false → first ts ≡ d → Reads 6 ts t r → ⊥
 no_read d ts r t n f a = false≢true (sym n ∙ ap (λ x. among x heads) (sym f) ∙ read_begins 6 ts r t a)
 
-only_value : (ts r r' : List Token) (v v' : Option Expression) → Value ts v r → Value ts v' r' → IsEnd joins_item r → IsEnd joins_item r' → (v ≡ v') × (r ≡ r')
-only_value ts r r' v v' no_value no_value h h' = (refl, refl)
-only_value ts r r' v v' no_value (a_value f a) h h' = absurd (joins_no joins_item Set ts refl h f)
-only_value ts r r' v v' (a_value f a) no_value h h' = absurd (joins_no joins_item Set ts refl h' f)
-only_value ts r r' v v' (a_value {e = e} f a) (a_value {e = e'} f' a') h h' =
-    let i = one_read 6 (behind ts) r r' e e' a a' (end_less Set (joins 6) r h) (end_less Set (joins 6) r' h') in
+args_end : (m r : List Token) (us : Expressions) → MoreArgs m us r → IsEnd joins_args r → IsEnd (joins 6) m
+args_end m r us no_arg h = end_less Comma (joins 6) r h
+args_end m r us (arg_more f a b) h = end_at (joins 6) Comma m f refl
+
+only_more_args : (ts r r' : List Token) (us us' : Expressions) → MoreArgs ts us r → MoreArgs ts us' r' → IsEnd joins_args r → IsEnd joins_args r' → (us ≡ us') × (r ≡ r')
+only_more_args ts r r' us us' no_arg no_arg h h' = (refl, refl)
+only_more_args ts r r' us us' no_arg (arg_more f a b) h h' = absurd (joins_no joins_args Comma ts refl h f)
+only_more_args ts r r' us us' (arg_more f a b) no_arg h h' = absurd (joins_no joins_args Comma ts refl h' f)
+only_more_args ts r r' us us' (arg_more {mid = m} {e = e} {us = x} f a b) (arg_more {mid = m'} {e = e'} {us = x'} f' a' b') h h' =
+    let i = one_read 6 (behind ts) m m' e e' a a' (args_end m r x b h) (args_end m' r' x' b' h') in
+    let j = only_more_args m' r r' x x' (subst (λ y. MoreArgs y x r) i.1 b) b' h h' in
+    (ap (λ z. part z x) i.0 ∙ ap (part e') j.0, j.1)
+
+only_args : (ts r r' : List Token) (us us' : Expressions) → Args ts us r → Args ts us' r' → IsEnd joins_args r → IsEnd joins_args r' → (us ≡ us') × (r ≡ r')
+only_args ts r r' us us' (args {mid = m} {e = e} {us = x} a b) (args {mid = m'} {e = e'} {us = x'} a' b') h h' =
+    let i = one_read 6 ts m m' e e' a a' (args_end m r x b h) (args_end m' r' x' b' h') in
+    let j = only_more_args m' r r' x x' (subst (λ y. MoreArgs y x r) i.1 b) b' h h' in
+    (ap (λ z. part z x) i.0 ∙ ap (part e') j.0, j.1)
+
+close_no_args : (ts r : List Token) (us : Expressions) → first ts ≡ Close → Args ts us r → ⊥
+close_no_args ts r us f (args {mid = m} {e = e} a b) = no_read Close ts m e refl f a
+
+-- behind a word and a bracket an expression goes on with the other bracket
+word_no_sign : (ts : List Token) (s : SignKind) → first ts ≡ Word → sign_of (first ts) ≡ Some s → ⊥
+word_no_sign ts s f g = let h : None ≡ Some s = sym (ap sign_of f) ∙ g in cc
+
+index_no_open : (ts r : List Token) (s : Option Indexed) → Index ts s r → IsStop 0 r → first ts ≡ Open → ⊥
+index_no_open ts r s no_index h f = joins_no (joins 0) Open ts refl h f
+index_no_open ts r s (an_index g a k) h f = unlike_words OpenBracket Open ts refl g f
+
+primary_closes : (ts r : List Token) (t : Expression) → Primary ts t r → IsStop 0 r → first ts ≡ Word → first (behind ts) ≡ Open → first (behind (behind ts)) ≡ Close
+primary_closes ts r t (a_number f) h a b = absurd (unlike_words Number Word ts refl f a)
+primary_closes ts r t (a_name {s = s} f i) h a b = absurd (index_no_open (behind ts) r s i h b)
+primary_closes ts r t (a_field f g k i) h a b = absurd (unlike_words Arrow Open (behind ts) refl g b)
+primary_closes ts r t (a_get f g k) h a b = k
+primary_closes ts r t (in_brackets (bracketed f i)) h a b = absurd (unlike_words Open Word ts refl f a)
+
+unary_closes : (ts m r : List Token) (ss : List Sign) (t : Expression) → Signs ts ss m → Primary m t r → IsStop 0 r → first ts ≡ Word → first (behind ts) ≡ Open → first (behind (behind ts)) ≡ Close
+unary_closes ts m r ss t no_sign p h a b = primary_closes ts r t p h a b
+unary_closes ts m r ss t (a_sign {kind = k} s i) p h a b = absurd (word_no_sign ts k a s)
+
+read_closes : (k : ℕ) (ts r : List Token) (t : Expression) → Reads k ts t r → IsStop k r → first ts ≡ Word → first (behind ts) ≡ Open → first (behind (behind ts)) ≡ Close
+read_closes k ts r t (a_unary {mid = m} {ss = ss} {e = e} x y) h a b = unary_closes ts m r ss e x y h a b
+read_closes k ts r t (a_chain {k = n} {mid = m} {e = e} {ls = ls} l x y) h a b = read_closes n ts m e x (tail_stop n m r ls y h) a b
+read_closes k ts r t (a_conjunction {k = n} {mid = m} {e = e} {us = us} l x y) h a b = read_closes n ts m e x (subst (λ i. IsStop i m) (sym l) (conjuncts_stop m r us y (subst (λ i. IsStop (suc i) r) l h))) a b
+read_closes k ts r t (a_disjunction {k = n} {mid = m} {e = e} {us = us} l x y) h a b = read_closes n ts m e x (subst (λ i. IsStop i m) (sym l) (disjuncts_stop m r us y (subst (λ i. IsStop (suc i) r) l h))) a b
+
+no_call : (ts r m : List Token) (t : Expression) (us : Expressions) → Reads 6 ts t r → IsStop 6 r → first ts ≡ Word → first (behind ts) ≡ Open → Args (behind (behind ts)) us m → ⊥
+no_call ts r m t us x h a b y = close_no_args (behind (behind ts)) m us (read_closes 6 ts r t x h a b) y
+
+only_stores : (ts r r' : List Token) (v v' : Stored) → Stores ts v r → Stores ts v' r' → IsEnd (joins 6) r → IsEnd (joins 6) r' → (v ≡ v') × (r ≡ r')
+only_stores ts r r' v v' (an_expression {e = e} a) (an_expression {e = e'} a') h h' =
+    let i = one_read 6 ts r r' e e' a a' h h' in
+    (ap (λ z. plain z) i.0, i.1)
+only_stores ts r r' v v' (a_call {mid = m} {us = us} f g a c) (a_call {mid = m'} {us = us'} f' g' a' c') h h' =
+    let i = only_args (behind (behind ts)) m m' us us' a a' (end_at joins_args Close m c refl) (end_at joins_args Close m' c' refl) in
+    (ap (called (line ts) (text ts)) i.0, ap behind i.1)
+only_stores ts r r' v v' (an_expression {e = e} a) (a_call {mid = m} {us = us} f g b c) h h' = absurd (no_call ts r m e us a h f g b)
+only_stores ts r r' v v' (a_call {mid = m} {us = us} f g b c) (an_expression {e = e} a) h h' = absurd (no_call ts r' m e us a h' f g b)
+
+only_initial : (ts r r' : List Token) (v v' : Option Stored) → Initial ts v r → Initial ts v' r' → IsEnd joins_item r → IsEnd joins_item r' → (v ≡ v') × (r ≡ r')
+only_initial ts r r' v v' no_initial no_initial h h' = (refl, refl)
+only_initial ts r r' v v' no_initial (an_initial f a) h h' = absurd (joins_no joins_item Set ts refl h f)
+only_initial ts r r' v v' (an_initial f a) no_initial h h' = absurd (joins_no joins_item Set ts refl h' f)
+only_initial ts r r' v v' (an_initial {v = e} f a) (an_initial {v = e'} f' a') h h' =
+    let i = only_stores (behind ts) r r' e e' a a' (end_less Set (joins 6) r h) (end_less Set (joins 6) r' h') in
     (ap (λ z. Some z) i.0, i.1)
 
 only_item : (ts r r' : List Token) (d d' : Declared) → Item ts d r → Item ts d' r' → IsEnd joins_item r → IsEnd joins_item r' → (d ≡ d') × (r ≡ r')
 only_item ts r r' d d' (an_item {v = v} f a) (an_item {v = v'} f' a') h h' =
-    let i = only_value (behind ts) r r' v v' a a' h h' in
+    let i = only_initial (behind ts) r r' v v' a a' h h' in
     (ap (λ z. record { line = line ts; name = text ts; value = z }) i.0, i.1)
 
 items_end : (m r : List Token) (ds : List Declared) → MoreItems m ds r → IsEnd joins_items r → IsEnd joins_item m
@@ -117,45 +178,48 @@ set_no_step d o p e f = cc
 word_no_step : (d : Lexeme) (p : Op) → d ≡ Word → step_op d ≡ Some p → ⊥
 word_no_step d p f e = let h : None ≡ Some p = sym (ap step_op f) ∙ e in cc
 
+set_stops : (d : Lexeme) (o : Option Op) → set_op d ≡ Some o → among d (joins 0) ≡ false
+set_stops Arrow o e = cc
+set_stops Open o e = cc
+set_stops OpenBracket o e = cc
+set_stops d o e = refl
+
+step_stops : (d : Lexeme) (o : Op) → step_op d ≡ Some o → among d (joins 0) ≡ false
+step_stops Arrow o e = cc
+step_stops Open o e = cc
+step_stops OpenBracket o e = cc
+step_stops d o e = refl
+
+stop_all : (ts : List Token) → IsEnd (joins 6) ts → IsStop 0 ts
+stop_all ts h = stop_below 0 ts (stop_below 1 ts (stop_below 2 ts (stop_below 3 ts (stop_below 4 ts (stop_below 5 ts h)))))
+
+abbrev made : ℕ → List ℕ → Option Indexed → Option Op → ℕ → Stored → Assigned
+made n w s o m v = record { line = n; name = w; subscript = s; op = o; op_line = m; value = v }
+
 only_assignment : (ts r r' : List Token) (a a' : Assigned) → Assignment ts a r → Assignment ts a' r' → IsEnd (joins 6) r → IsEnd (joins 6) r' → (a ≡ a') × (r ≡ r')
-only_assignment ts r r' a a' (sets {op = o} {e = e} f s x) (sets {op = o'} {e = e'} f' s' x') h h' =
-    let i = one_read 6 (behind (behind ts)) r r' e e' x x' h h' in
-    let j : o ≡ o' = some_equal o o' (sym s ∙ s') in
-    (ap (λ z. record { line = line ts; name = text ts; op = z; op_line = line (behind ts); value = e }) j ∙ ap (λ z. record { line = line ts; name = text ts; op = o'; op_line = line (behind ts); value = z }) i.0, i.1)
-only_assignment ts r r' a a' (steps_behind {op = o} f s) (steps_behind {op = o'} f' s') h h' =
-    let j : o ≡ o' = some_equal o o' (sym s ∙ s') in
-    (ap (λ z. record { line = line ts; name = text ts; op = Some z; op_line = line (behind ts); value = number (pos 1) }) j, refl)
-only_assignment ts r r' a a' (steps_before {op = o} s f) (steps_before {op = o'} s' f') h h' =
-    let j : o ≡ o' = some_equal o o' (sym s ∙ s') in
-    (ap (λ z. record { line = line (behind ts); name = text (behind ts); op = Some z; op_line = line ts; value = number (pos 1) }) j, refl)
-only_assignment ts r r' a a' (sets {op = o} f s x) (steps_behind {op = o'} f' s') h h' = absurd (set_no_step (first (behind ts)) o o' s s')
-only_assignment ts r r' a a' (steps_behind {op = o} f s) (sets {op = o'} f' s' x) h h' = absurd (set_no_step (first (behind ts)) o' o s' s)
-only_assignment ts r r' a a' (sets f s x) (steps_before {op = o} s' f') h h' = absurd (word_no_step (first ts) o f s')
-only_assignment ts r r' a a' (steps_behind f s) (steps_before {op = o} s' f') h h' = absurd (word_no_step (first ts) o f s')
-only_assignment ts r r' a a' (steps_before {op = o} s f) (sets f' s' x) h h' = absurd (word_no_step (first ts) o f' s)
-only_assignment ts r r' a a' (steps_before {op = o} s f) (steps_behind f' s') h h' = absurd (word_no_step (first ts) o f' s)
-
-args_end : (m r : List Token) (us : Expressions) → MoreArgs m us r → IsEnd joins_args r → IsEnd (joins 6) m
-args_end m r us no_arg h = end_less Comma (joins 6) r h
-args_end m r us (arg_more f a b) h = end_at (joins 6) Comma m f refl
-
-only_more_args : (ts r r' : List Token) (us us' : Expressions) → MoreArgs ts us r → MoreArgs ts us' r' → IsEnd joins_args r → IsEnd joins_args r' → (us ≡ us') × (r ≡ r')
-only_more_args ts r r' us us' no_arg no_arg h h' = (refl, refl)
-only_more_args ts r r' us us' no_arg (arg_more f a b) h h' = absurd (joins_no joins_args Comma ts refl h f)
-only_more_args ts r r' us us' (arg_more f a b) no_arg h h' = absurd (joins_no joins_args Comma ts refl h' f)
-only_more_args ts r r' us us' (arg_more {mid = m} {e = e} {us = x} f a b) (arg_more {mid = m'} {e = e'} {us = x'} f' a' b') h h' =
-    let i = one_read 6 (behind ts) m m' e e' a a' (args_end m r x b h) (args_end m' r' x' b' h') in
-    let j = only_more_args m' r r' x x' (subst (λ y. MoreArgs y x r) i.1 b) b' h h' in
-    (ap (λ z. part z x) i.0 ∙ ap (part e') j.0, j.1)
-
-only_args : (ts r r' : List Token) (us us' : Expressions) → Args ts us r → Args ts us' r' → IsEnd joins_args r → IsEnd joins_args r' → (us ≡ us') × (r ≡ r')
-only_args ts r r' us us' (args {mid = m} {e = e} {us = x} a b) (args {mid = m'} {e = e'} {us = x'} a' b') h h' =
-    let i = one_read 6 ts m m' e e' a a' (args_end m r x b h) (args_end m' r' x' b' h') in
-    let j = only_more_args m' r r' x x' (subst (λ y. MoreArgs y x r) i.1 b) b' h h' in
-    (ap (λ z. part z x) i.0 ∙ ap (part e') j.0, j.1)
-
-close_no_args : (ts r : List Token) (us : Expressions) → first ts ≡ Close → Args ts us r → ⊥
-close_no_args ts r us f (args {mid = m} {e = e} a b) = no_read Close ts m e refl f a
+only_assignment ts r r' a a' (sets {mid = m} {s = s} {op = o} {v = v} (placed f x) g y) (sets {mid = m'} {s = s'} {op = o'} {v = v'} (placed f' x') g' y') h h' =
+    let i = one_index (behind ts) m m' s s' x x' (set_stops (first m) o g) (set_stops (first m') o' g') in
+    let j : o ≡ o' = some_equal o o' (sym g ∙ ap (λ z. set_op (first z)) i.1 ∙ g') in
+    let k = only_stores (behind m') r r' v v' (subst (λ z. Stores (behind z) v r) i.1 y) y' h h' in
+    (ap (λ z. made (line ts) (text ts) z o (line m) v) i.0 ∙ ap (λ z. made (line ts) (text ts) s' z (line m) v) j ∙ ap (λ z. made (line ts) (text ts) s' o' (line z) v) i.1 ∙ ap (made (line ts) (text ts) s' o' (line m')) k.0, k.1)
+only_assignment ts r r' a a' (steps_behind {mid = m} {s = s} {op = o} (placed f x) g) (steps_behind {mid = m'} {s = s'} {op = o'} (placed f' x') g') h h' =
+    let i = one_index (behind ts) m m' s s' x x' (step_stops (first m) o g) (step_stops (first m') o' g') in
+    let j : o ≡ o' = some_equal o o' (sym g ∙ ap (λ z. step_op (first z)) i.1 ∙ g') in
+    (ap (λ z. made (line ts) (text ts) z (Some o) (line m) (plain (number (pos 1)))) i.0 ∙ ap (λ z. made (line ts) (text ts) s' (Some z) (line m) (plain (number (pos 1)))) j ∙ ap (λ z. made (line ts) (text ts) s' (Some o') (line z) (plain (number (pos 1)))) i.1, ap behind i.1)
+only_assignment ts r r' a a' (steps_before {s = s} {op = o} g (placed f x)) (steps_before {s = s'} {op = o'} g' (placed f' x')) h h' =
+    let i = one_index (behind (behind ts)) r r' s s' x x' (stop_all r h) (stop_all r' h') in
+    let j : o ≡ o' = some_equal o o' (sym g ∙ g') in
+    (ap (λ z. made (line (behind ts)) (text (behind ts)) z (Some o) (line ts) (plain (number (pos 1)))) i.0 ∙ ap (λ z. made (line (behind ts)) (text (behind ts)) s' (Some z) (line ts) (plain (number (pos 1)))) j, i.1)
+only_assignment ts r r' a a' (sets {mid = m} {s = s} {op = o} (placed f x) g y) (steps_behind {mid = m'} {s = s'} {op = o'} (placed f' x') g') h h' =
+    let i = one_index (behind ts) m m' s s' x x' (set_stops (first m) o g) (step_stops (first m') o' g') in
+    absurd (set_no_step (first m) o o' g (ap (λ z. step_op (first z)) i.1 ∙ g'))
+only_assignment ts r r' a a' (steps_behind {mid = m} {s = s} {op = o} (placed f x) g) (sets {mid = m'} {s = s'} {op = o'} (placed f' x') g' y) h h' =
+    let i = one_index (behind ts) m m' s s' x x' (step_stops (first m) o g) (set_stops (first m') o' g') in
+    absurd (set_no_step (first m') o' o g' (ap (λ z. step_op (first z)) (sym i.1) ∙ g))
+only_assignment ts r r' a a' (sets (placed f x) g y) (steps_before {op = o} s q) h h' = absurd (word_no_step (first ts) o f s)
+only_assignment ts r r' a a' (steps_behind (placed f x) g) (steps_before {op = o} s q) h h' = absurd (word_no_step (first ts) o f s)
+only_assignment ts r r' a a' (steps_before {op = o} s q) (sets (placed f x) g y) h h' = absurd (word_no_step (first ts) o f s)
+only_assignment ts r r' a a' (steps_before {op = o} s q) (steps_behind (placed f x) g) h h' = absurd (word_no_step (first ts) o f s)
 
 only_called : (ts r r' : List Token) (us us' : Expressions) → Called ts us r → Called ts us' r' → (us ≡ us') × (r ≡ r')
 only_called ts r r' us us' (no_args f) (no_args f') = (refl, refl)
@@ -198,10 +262,14 @@ before_kind l d o e = cc
 kind_at : (l : Lexeme) (ts : List Token) → first ts ≡ l → simple_kind (first ts) (first (behind ts)) ≡ simple_kind l (first (behind ts))
 kind_at l ts f = ap (λ x. simple_kind x (first (behind ts))) f
 
+place_kind : (ts m : List Token) (w : List ℕ) (s : Option Indexed) → Place ts w s m → simple_kind Word (first m) ≡ 5 → simple_kind (first ts) (first (behind ts)) ≡ 5
+place_kind ts m w s (placed f no_index) h = kind_at Word ts f ∙ h
+place_kind ts m w s (placed f (an_index g x c)) h = kind_at Word ts f ∙ ap (simple_kind Word) g
+
 assignment_kind : (ts r : List Token) (a : Assigned) → Assignment ts a r → simple_kind (first ts) (first (behind ts)) ≡ 5
-assignment_kind ts r a (sets {op = o} f s x) = kind_at Word ts f ∙ set_kind (first (behind ts)) o s
-assignment_kind ts r a (steps_behind {op = o} f s) = kind_at Word ts f ∙ behind_kind (first (behind ts)) o s
-assignment_kind ts r a (steps_before {op = o} s f) = before_kind (first ts) (first (behind ts)) o s
+assignment_kind ts r a (sets {mid = m} {word = w} {s = s} {op = o} p g y) = place_kind ts m w s p (set_kind (first m) o g)
+assignment_kind ts r a (steps_behind {mid = m} {word = w} {s = s} {op = o} p g) = place_kind ts m w s p (behind_kind (first m) o g)
+assignment_kind ts r a (steps_before {op = o} s p) = before_kind (first ts) (first (behind ts)) o s
 
 assigned_kind : (ts r : List Token) (a : Assigned) → AssignedTo ts a r → simple_kind (first ts) (first (behind ts)) ≡ 5
 assigned_kind ts r a (assigned_to {mid = m} x g) = assignment_kind ts m a x
@@ -303,9 +371,9 @@ step_word MinusMinus o e = refl
 step_word l o e = cc
 
 assignment_word : (ts r : List Token) (a : Assigned) → Assignment ts a r → word_tag (first ts) ≡ 8
-assignment_word ts r a (sets f s x) = ap word_tag f
-assignment_word ts r a (steps_behind f s) = ap word_tag f
-assignment_word ts r a (steps_before {op = o} s f) = step_word (first ts) o s
+assignment_word ts r a (sets (placed f x) s y) = ap word_tag f
+assignment_word ts r a (steps_behind (placed f x) s) = ap word_tag f
+assignment_word ts r a (steps_before {op = o} s p) = step_word (first ts) o s
 
 assigned_word : (ts r : List Token) (a : Assigned) → AssignedTo ts a r → word_tag (first ts) ≡ 8
 assigned_word ts r a (assigned_to {mid = m} x g) = assignment_word ts m a x
@@ -443,17 +511,51 @@ mutual
   only_body ts r r' ss ss' (in_braces a) (one_simple {s = s} b) = absurd (unlike_numbers 2 8 refl (sym (block_word ts r ss a) ∙ simple_word ts r' s b))
   only_body ts r r' ss ss' (one_simple {s = s} b) (in_braces a) = absurd (unlike_numbers 2 8 refl (sym (block_word ts r' ss' a) ∙ simple_word ts r s b))
 
-only_closing : (ts r r' : List Token) → Closing ts r → Closing ts r' → r ≡ r'
-only_closing ts r r' (no_void f) (no_void f') = refl
-only_closing ts r r' (a_void f g) (a_void f' g') = refl
-only_closing ts r r' (no_void f) (a_void f' g) = absurd (unlike_words Close Void ts refl f f')
-only_closing ts r r' (a_void f g) (no_void f') = absurd (unlike_words Void Close ts refl f f')
+only_parameter : (ts r r' : List Token) (p p' : Parameter) → OneParameter ts p r → OneParameter ts p' r' → (p ≡ p') × (r ≡ r')
+only_parameter ts r r' p p' (a_parameter f g) (a_parameter f' g') = (refl, refl)
+
+only_more_parameters : (ts r r' : List Token) (ps ps' : List Parameter) → MoreParameters ts ps r → MoreParameters ts ps' r' → (first r ≡ Comma → ⊥) → (first r' ≡ Comma → ⊥) → (ps ≡ ps') × (r ≡ r')
+only_more_parameters ts r r' ps ps' no_parameter no_parameter h h' = (refl, refl)
+only_more_parameters ts r r' ps ps' no_parameter (parameter_more f a b) h h' = absurd (h f)
+only_more_parameters ts r r' ps ps' (parameter_more f a b) no_parameter h h' = absurd (h' f)
+only_more_parameters ts r r' ps ps' (parameter_more {mid = m} {p = p} {ps = x} f a b) (parameter_more {mid = m'} {p = p'} {ps = x'} f' a' b') h h' =
+    let i = only_parameter (behind ts) m m' p p' a a' in
+    let j = only_more_parameters m' r r' x x' (subst (λ y. MoreParameters y x r) i.1 b) b' h h' in
+    (ap (λ z. z ∷ x) i.0 ∙ ap (λ z. p' ∷ z) j.0, j.1)
+
+only_some_parameters : (ts r r' : List Token) (ps ps' : List Parameter) → SomeParameters ts ps r → SomeParameters ts ps' r' → (first r ≡ Comma → ⊥) → (first r' ≡ Comma → ⊥) → (ps ≡ ps') × (r ≡ r')
+only_some_parameters ts r r' ps ps' (listed {mid = m} {p = p} {ps = x} a b) (listed {mid = m'} {p = p'} {ps = x'} a' b') h h' =
+    let i = only_parameter ts m m' p p' a a' in
+    let j = only_more_parameters m' r r' x x' (subst (λ y. MoreParameters y x r) i.1 b) b' h h' in
+    (ap (λ z. z ∷ x) i.0 ∙ ap (λ z. p' ∷ z) j.0, j.1)
+
+some_begin : (ts r : List Token) (ps : List Parameter) → SomeParameters ts ps r → first ts ≡ Int
+some_begin ts r ps (listed (a_parameter f g) b) = f
+
+close_no_comma : (ts : List Token) → first ts ≡ Close → first ts ≡ Comma → ⊥
+close_no_comma ts f g = unlike_words Close Comma ts refl f g
+
+only_parameters : (ts r r' : List Token) (ps ps' : List Parameter) → Parameters ts ps r → Parameters ts ps' r' → (ps ≡ ps') × (r ≡ r')
+only_parameters ts r r' ps ps' (none_given f) (none_given f') = (refl, refl)
+only_parameters ts r r' ps ps' (void_given f g) (void_given f' g') = (refl, refl)
+only_parameters ts r r' ps ps' (some_given {mid = m} a f) (some_given {mid = m'} a' f') =
+    let i = only_some_parameters ts m m' ps ps' a a' (close_no_comma m f) (close_no_comma m' f') in
+    (i.0, ap behind i.1)
+only_parameters ts r r' ps ps' (none_given f) (void_given f' g) = absurd (unlike_words Close Void ts refl f f')
+only_parameters ts r r' ps ps' (void_given f g) (none_given f') = absurd (unlike_words Void Close ts refl f f')
+only_parameters ts r r' ps ps' (none_given f) (some_given {mid = m} a g) = absurd (unlike_words Close Int ts refl f (some_begin ts m ps' a))
+only_parameters ts r r' ps ps' (some_given {mid = m} a g) (none_given f) = absurd (unlike_words Close Int ts refl f (some_begin ts m ps a))
+only_parameters ts r r' ps ps' (void_given f k) (some_given {mid = m} a g) = absurd (unlike_words Void Int ts refl f (some_begin ts m ps' a))
+only_parameters ts r r' ps ps' (some_given {mid = m} a g) (void_given f k) = absurd (unlike_words Void Int ts refl f (some_begin ts m ps a))
+
+abbrev defined_as : List Token → List Parameter → Statements → Defined
+defined_as ts ps ss = record { line = line ts; name = text (behind ts); parameters = ps; body = ss }
 
 only_definition : (ts r r' : List Token) (d d' : Defined) → Definition ts d r → Definition ts d' r' → (d ≡ d') × (r ≡ r')
-only_definition ts r r' d d' (definition {mid = m} {ss = x} f g h a b) (definition {mid = m'} {ss = x'} f' g' h' a' b') =
-    let i = only_closing (behind (behind (behind ts))) m m' a a' in
-    let j = only_block m' r r' x x' (subst (λ y. Block y x r) i b) b' in
-    (ap (λ z. record { line = line ts; name = text (behind ts); body = z }) j.0, j.1)
+only_definition ts r r' d d' (definition {mid = m} {ps = ps} {ss = x} f g h a b) (definition {mid = m'} {ps = ps'} {ss = x'} f' g' h' a' b') =
+    let i = only_parameters (behind (behind (behind ts))) m m' ps ps' a a' in
+    let j = only_block m' r r' x x' (subst (λ y. Block y x r) i.1 b) b' in
+    (ap (λ z. defined_as ts z x) i.0 ∙ ap (defined_as ts ps') j.0, j.1)
 
 definition_word : (ts r : List Token) (d : Defined) → Definition ts d r → first ts ≡ Int
 definition_word ts r d (definition f g h a b) = f

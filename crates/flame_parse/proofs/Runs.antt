@@ -55,6 +55,15 @@ run_step f J S P tokens at place mid found x i le within t e s = subst (RunOn J 
   stopped = λ n p. i.stopped n (s n p);
 })
 
+pub run_push : {D : Type 0} (J : List Lexeme) (S : List Symbol) (P : List Token → List D → List Token → Type 0) (tokens : List Token) (at place mid : ℕ) (found : List D) (d : D) → RunOn J S P tokens at place found → place ≤ mid → mid ≤ length tokens → ((ds : List D) (rest : List Token) → P (drop mid tokens) ds rest → P (drop place tokens) (d ∷ ds) rest) → ((end : ℕ) → Ended J S tokens mid end → Ended J S tokens place end) → ((n : ℕ) → Stopped J S tokens mid n → Stopped J S tokens place n) → RunOn J S P tokens at mid (found ++ d ∷ [])
+run_push J S P tokens at place mid found d i le within t e s = record {
+  ahead = omega (arith, i.ahead, le);
+  within = within;
+  tree = λ ds rest p. subst (λ ys. P (drop at tokens) ys rest) (sym (append_one found ds d)) (i.tree _ rest (t ds rest p));
+  ended = λ end p. i.ended end (e end p);
+  stopped = λ n p. i.stopped n (s n p);
+}
+
 pub run_read : {D : Type 0} (J : List Lexeme) (X : List Symbol) (P : List Token → List D → List Token → Type 0) (tokens : List Token) (at place : ℕ) (found : List D) → RunOn J X P tokens at place found → P (drop place tokens) [] (drop place tokens) → P (drop at tokens) found (drop place tokens)
 run_read J X P tokens at place found i n = subst (λ ys. P (drop at tokens) ys (drop place tokens)) (append_none found) (i.tree [] _ n)
 

@@ -2,8 +2,9 @@
 use Rattle.std.proofs.Common.{◌≡◌, ◌⊎◌, inl, inr, ℕ, ◌+◌, ◌<◌, ◌≤◌, List, [], ◌∷◌, length, drop, refl, sym, ap, ◌∙◌, subst, arith, length-drop, Result, Ok, Err, IfErr, IsErrAnd}
 use Rattle.std.proofs.Math.ListN.{drop_of_length-le}
 use Rattle.flame_lex.specs.declared.token.Token.{Token}
-use Rattle.flame_expr.specs.declared.faults.Fail.{Fail}
-use Rattle.flame_expr.specs.declared.faults.Fail.TheVariants.{Fault, NoMemory}
+use Rattle.flame_rows.specs.declared.fails.Fail.{Fail}
+use Rattle.flame_expr.specs.declared.faults.ParseFault.{ParseFault}
+use Rattle.flame_rows.specs.declared.fails.Fail.TheVariants.{Fault, NoMemory}
 use Rattle.flame_expr.specs.declared.faults.ParseFault.TheVariants.{TooDeep, Syntax}
 use Rattle.flame_expr.specs.declared.lexemes.Lexeme.{Lexeme}
 use Rattle.flame_expr.specs.ViablePrefixes.{Symbol, form, many, a_unit, a_def, End, left, whole, Goes, done, expand, IsLongest}
@@ -12,7 +13,7 @@ use Rattle.flame_expr.specs.ReadParts.{Passes, Halts, Ended, Stopped, Fails}
 use Rattle.flame_expr.proofs.Walk.{at_form}
 use Rattle.flame_expr.proofs.LongestPrefixes.{passed_longest, halted_longest, halted_not_whole, passed_not_all, blocks_none}
 use Rattle.flame_parse.specs.StatementGrammar.{Defined, Definitions}
-use Rattle.flame_parse.specs.Parsing.{joins_unit, IsNoUnit, IsUnit, FailsBy}
+use Rattle.flame_parse.specs.Parsing.{joins_unit, IsNoUnit, IsFile, IsUnit, FailsBy}
 use Rattle.flame_parse.proofs.Derivations.{unit_goes}
 
 unit_passes : (J : List Lexeme) (ts mid : List Token) → Passes J (many (form a_def) ∷ []) ts mid → Passes J (form a_unit ∷ []) ts mid
@@ -21,8 +22,8 @@ unit_passes J ts mid p = record { shorter = p.shorter; goes = λ K e h. expand (
 unit_halts : (J : List Lexeme) (ts stop : List Token) → Halts J (many (form a_def) ∷ []) ts stop → Halts J (form a_unit ∷ []) ts stop
 unit_halts J ts stop p = record { shorter = p.shorter; goes = λ K. expand (p.goes K); bound = λ K e b h. p.bound K e b (at_form h) }
 
-pub whole_unit : (tokens : List Token) (end : ℕ) (ds : List Defined) → Definitions (drop 0 tokens) ds (drop end tokens) → length tokens ≤ end → IsUnit tokens ds
-whole_unit tokens end ds r n = subst (Definitions tokens ds) (drop_of_length-le tokens n) r
+pub whole_unit : (tokens : List Token) (end : ℕ) (ds : List Defined) → NestsWithin 64 tokens → Definitions (drop 0 tokens) ds (drop end tokens) → length tokens ≤ end → IsFile tokens ds
+whole_unit tokens end ds f r n = record { nests = f; tree = subst (Definitions tokens ds) (drop_of_length-le tokens n) r }
 
 not_whole : (ts stop : List Token) (ds : List Defined) → Halts joins_unit (form a_unit ∷ []) ts stop → Definitions ts ds [] → ⊥
 not_whole ts stop ds h r = let i = h.bound [] (whole []) (blocks_none joins_unit) (unit_goes ts [] ds (whole []) r done) in absurd (omega (arith, i))
@@ -45,12 +46,12 @@ ended_unit tokens n f l p =
       none = λ ds r. passed_not_all joins_unit a_unit tokens (drop n tokens) (omega (arith, l, length-drop n tokens)) h (unit_goes tokens [] ds (whole []) r done);
     }
 
-failed : (tokens : List Token) (f : Fail) → NestsWithin 64 tokens → Fails f (Stopped joins_unit (many (form a_def) ∷ []) tokens 0) → FailsBy tokens f
+failed : (tokens : List Token) (f : Fail ParseFault) → NestsWithin 64 tokens → Fails f (Stopped joins_unit (many (form a_def) ∷ []) tokens 0) → FailsBy tokens f
 failed tokens NoMemory g h = tt
 failed tokens (Fault (TooDeep n)) g h = absurd h
 failed tokens (Fault (Syntax n)) g h = stopped_unit tokens n g h
 
 -- the fault of the reader of definitions, passed on
-pub fails_unit : {T : Type 0} (tokens : List Token) (r : Result T Fail) (f : Fail) → IsErrAnd r (λ e. e ≡ f) → NestsWithin 64 tokens → Fails f (Stopped joins_unit (many (form a_def) ∷ []) tokens 0) → IfErr r (FailsBy tokens)
+pub fails_unit : {T : Type 0} (tokens : List Token) (r : Result T (Fail ParseFault)) (f : Fail ParseFault) → IsErrAnd r (λ e. e ≡ f) → NestsWithin 64 tokens → Fails f (Stopped joins_unit (many (form a_def) ∷ []) tokens 0) → IfErr r (FailsBy tokens)
 fails_unit tokens (Ok x) f i g h = tt
 fails_unit tokens (Err e) f i g h = subst (FailsBy tokens) (sym i) (failed tokens f g h)

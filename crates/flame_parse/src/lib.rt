@@ -1,11 +1,13 @@
 //! The reader of function files: tokens to trees.
 #![tactic(auto)]
 
+mod files;
 pub mod laws;
 mod operators;
-pub mod parse;
 mod simple;
 mod stmt;
 #[cfg(test)]
 mod tests;
 mod unit;
+
+pub use files::parse;

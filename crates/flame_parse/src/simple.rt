@@ -1,168 +1,32 @@
 //! The reader of statements without parts of their own, and of what stands in them. Each function begins with the
 //! production that it reads.
 
-ghost use Rattle.std.specs.Prelude.{◌≡◌, ◌+◌, ◌<◌, ◌≤◌, ◌^◌, [], ◌∷◌, length, drop, map, option_map, IfOk, IfErr};
-ghost use Rattle.flame_spec.specs.Seen.{expression, expressions, declared, assigned, statement, statements};
+ghost use Rattle.std.specs.Prelude.{◌≡◌, ◌+◌, ◌<◌, ◌≤◌, ◌^◌, true, false, [], ◌∷◌, length, drop, map, option_map, IfOk, IfErr};
+ghost use Rattle.flame_spec.specs.Seen.{expression, expressions, indexed, stored, declared, assigned, statement, statements};
 ghost use Rattle.flame_spec.specs.Trees.{also, no_more};
-ghost use Rattle.flame_expr.specs.declared.lexemes.Lexeme.TheVariants.{Set, Close, Semicolon};
+ghost use Rattle.flame_expr.specs.declared.lexemes.Lexeme.TheVariants.{Close, Semicolon};
 ghost use Rattle.flame_expr.specs.Lexemes.{first};
-ghost use Rattle.flame_expr.specs.OperatorLevels.{joins};
-ghost use Rattle.flame_expr.specs.ViablePrefixes.{form, lexeme, both, maybe, expr, more_args, more_items};
-ghost use Rattle.flame_expr.specs.ViablePrefixes.{an_item, an_assign, a_simple, some_args};
+ghost use Rattle.flame_expr.specs.OperatorLevels.{joins, joins_index};
+ghost use Rattle.flame_expr.specs.ViablePrefixes.{form, lexeme, maybe, expr, more_args, more_items};
+ghost use Rattle.flame_expr.specs.ViablePrefixes.{a_value, a_place, an_item, an_assign, a_simple, some_args};
 ghost use Rattle.flame_expr.specs.ReadParts.{Ended, StopsBy};
-ghost use Rattle.flame_parse.specs.AssignmentOperators.{joins_item, joins_items, joins_args};
-ghost use Rattle.flame_parse.specs.HeadSymbols.{first_symbols, head_symbols};
-ghost use Rattle.flame_parse.specs.StatementGrammar.{Value, Item as ItemRead, MoreItems, Items, Assignment, AssignedTo};
+ghost use Rattle.flame_parse.specs.AssignmentOperators.{IsCall, joins_item, joins_items, joins_args};
+ghost use Rattle.flame_parse.specs.HeadSymbols.{initial_symbol, first_symbols, head_symbols};
+ghost use Rattle.flame_parse.specs.StatementGrammar.{Stores, Initial, Item as ItemRead, MoreItems, Items};
+ghost use Rattle.flame_parse.specs.StatementGrammar.{Place, Assignment, AssignedTo};
 ghost use Rattle.flame_parse.specs.StatementGrammar.{MoreArgs, Args, Called, Simple, First, Test, Step, Heading};
 
 use crate::operators::{set_operator, step_operator};
-use flame_expr::{expect, lexeme_at, line_at, syntax, text_at};
-use flame_expr::Fail;
-use flame_expr::Lexeme;
-use flame_expr::expression;
+use flame_expr::{
+    Lexeme, ParseFault, expect, expression, lexeme_at, line_at, subscript, syntax, text_at,
+};
 use flame_lex::Token;
-use flame_rows::NoMemory;
-use flame_rows::Seq;
-use flame_spec::{Assign, Expr, Head, Item, Stmt};
+use flame_rows::{Fail, NoMemory, Seq, Text};
+use flame_spec::{Assign, Expr, Head, Item, Stmt, Subscript, Value};
 use std::alloc::Global;
 
-// ["=" expr]
-fn value(alloc: Global, tokens: &[Token], at: usize) -> Result<(Option<Expr>, usize), Fail>
-    requires size { length tokens.now < 2 ^ 32 }
-    requires within { at ≤ length tokens.now }
-    ensures tree { IfOk result (λ r. Value (drop at tokens.now) (option_map expression r.0) (drop r.1 tokens.now)) }
-    ensures ended { IfOk result (λ r. Ended joins_item (maybe (both (lexeme Set) expr) ∷ []) tokens.now at r.1) }
-    ensures stopped { IfErr result (StopsBy joins_item (maybe (both (lexeme Set) expr) ∷ []) tokens.now at) }
-{
-    match lexeme_at(tokens, at) {
-        Lexeme::Set => {
-            let (value, end) = expression(alloc, tokens, at + 1)?;
-            Ok((Some(value), end))
-        }
-        _ => Ok((None, at)),
-    }
-}
-
-// item = WORD ["=" expr]
-fn item(alloc: Global, tokens: &[Token], at: usize) -> Result<(Item, usize), Fail>
-    requires size { length tokens.now < 2 ^ 32 }
-    requires within { at ≤ length tokens.now }
-    ensures tree { IfOk result (λ r. ItemRead (drop at tokens.now) (declared r.0) (drop r.1 tokens.now)) }
-    ensures ended { IfOk result (λ r. Ended joins_item (form an_item ∷ []) tokens.now at r.1) }
-    ensures ahead { IfOk result (λ r. at < r.1) }
-    ensures stopped { IfErr result (StopsBy joins_item (form an_item ∷ []) tokens.now at) }
-{
-    let line = line_at(tokens, at);
-    let mid = expect(tokens, at, Lexeme::Word)?;
-    let (value, end) = value(alloc, tokens, mid)?;
-    let name = text_at(alloc, tokens, at)?;
-    Ok((Item { line, name, value }, end))
-}
-
-// item ("," item)*
-/// The items of a declaration.
-pub(crate) fn items(alloc: Global, tokens: &[Token], at: usize) -> Result<(Vec<Item>, usize), Fail>
-    requires size { length tokens.now < 2 ^ 32 }
-    requires within { at ≤ length tokens.now }
-    ensures tree { IfOk result (λ r. Items (drop at tokens.now) (map declared r.0.items) (drop r.1 tokens.now)) }
-    ensures ended { IfOk result (λ r. Ended joins_items (form an_item ∷ more_items ∷ []) tokens.now at r.1) }
-    ensures ahead { IfOk result (λ r. at < r.1) }
-    ensures stopped { IfErr result (StopsBy joins_items (form an_item ∷ more_items ∷ []) tokens.now at) }
-{
-    let (first, mid) = item(alloc, tokens, at)?;
-    let (mut others, end) = other_items(alloc, tokens, mid)?;
-    others.insert(0, first)?;
-    Ok((others, end))
-}
-
-// ("," item)*
-fn other_items(alloc: Global, tokens: &[Token], at: usize) -> Result<(Vec<Item>, usize), Fail>
-    requires size { length tokens.now < 2 ^ 32 }
-    requires within { at ≤ length tokens.now }
-    ensures tree { IfOk result (λ r. MoreItems (drop at tokens.now) (map declared r.0.items) (drop r.1 tokens.now)) }
-    ensures ended { IfOk result (λ r. Ended joins_items (more_items ∷ []) tokens.now at r.1) }
-    ensures stopped { IfErr result (StopsBy joins_items (more_items ∷ []) tokens.now at) }
-{
-    let mut found = Vec::new(alloc);
-    let mut place = at;
-    'items: loop {
-        let Lexeme::Comma = lexeme_at(tokens, place) else {
-            return Ok((found, place));
-        };
-        let (next, end) = item(alloc, tokens, place + 1)?;
-        found.push(next)?;
-        place = end;
-    }
-}
-
-// assign = WORD ("=" | "+=" | "-=" | "*=" | "/=" | "%=") expr | WORD ("++" | "--") | ("++" | "--") WORD
-fn assign(alloc: Global, tokens: &[Token], at: usize) -> Result<(Assign, usize), Fail>
-    requires size { length tokens.now < 2 ^ 32 }
-    requires within { at ≤ length tokens.now }
-    ensures tree { IfOk result (λ r. Assignment (drop at tokens.now) (assigned r.0) (drop r.1 tokens.now)) }
-    ensures ended { IfOk result (λ r. Ended (joins 6) (form an_assign ∷ []) tokens.now at r.1) }
-    ensures ahead { IfOk result (λ r. at < r.1) }
-    ensures stopped { IfErr result (StopsBy (joins 6) (form an_assign ∷ []) tokens.now at) }
-{
-    if let Some(op) = step_operator(lexeme_at(tokens, at)) {
-        let end = expect(tokens, at + 1, Lexeme::Word)?;
-        let name = text_at(alloc, tokens, at + 1)?;
-        let assign = Assign {
-            line: line_at(tokens, at + 1),
-            name,
-            op: Some(op),
-            op_line: line_at(tokens, at),
-            value: Expr::Number(1),
-        };
-        return Ok((assign, end));
-    }
-    let Lexeme::Word = lexeme_at(tokens, at) else {
-        return Err(syntax(at));
-    };
-    let (assign, end) = word_assign(alloc, tokens, at)?;
-    Ok((assign, end))
-}
-
-// WORD ("=" | "+=" | "-=" | "*=" | "/=" | "%=") expr | WORD ("++" | "--")
-fn word_assign(alloc: Global, tokens: &[Token], at: usize) -> Result<(Assign, usize), Fail>
-    requires size { length tokens.now < 2 ^ 32 }
-    requires within { at < length tokens.now }
-    requires begun { first (drop at tokens.now) ≡ Lexeme.Word }
-    ensures tree { IfOk result (λ r. Assignment (drop at tokens.now) (assigned r.0) (drop r.1 tokens.now)) }
-    ensures ended { IfOk result (λ r. Ended (joins 6) (form an_assign ∷ []) tokens.now at r.1) }
-    ensures ahead { IfOk result (λ r. at < r.1) }
-    ensures stopped { IfErr result (StopsBy (joins 6) (form an_assign ∷ []) tokens.now at) }
-{
-    let line = line_at(tokens, at);
-    let op_line = line_at(tokens, at + 1);
-    if let Some(op) = step_operator(lexeme_at(tokens, at + 1)) {
-        let name = text_at(alloc, tokens, at)?;
-        let assign = Assign {
-            line,
-            name,
-            op: Some(op),
-            op_line,
-            value: Expr::Number(1),
-        };
-        return Ok((assign, at + 1 + 1));
-    }
-    let Some(op) = set_operator(lexeme_at(tokens, at + 1)) else {
-        return Err(syntax(at + 1));
-    };
-    let (value, end) = expression(alloc, tokens, at + 1 + 1)?;
-    let name = text_at(alloc, tokens, at)?;
-    let assign = Assign {
-        line,
-        name,
-        op,
-        op_line,
-        value,
-    };
-    Ok((assign, end))
-}
-
 // args = expr ("," expr)*
-fn args(alloc: Global, tokens: &[Token], at: usize) -> Result<(Vec<Expr>, usize), Fail>
+fn args(alloc: Global, tokens: &[Token], at: usize) -> Result<(Vec<Expr>, usize), Fail<ParseFault>>
     requires size { length tokens.now < 2 ^ 32 }
     requires within { at ≤ length tokens.now }
     ensures tree { IfOk result (λ r. Args (drop at tokens.now) (expressions r.0.items) (drop r.1 tokens.now)) }
@@ -177,7 +41,11 @@ fn args(alloc: Global, tokens: &[Token], at: usize) -> Result<(Vec<Expr>, usize)
 }
 
 // ("," expr)*
-fn other_args(alloc: Global, tokens: &[Token], at: usize) -> Result<(Vec<Expr>, usize), Fail>
+fn other_args(
+    alloc: Global,
+    tokens: &[Token],
+    at: usize,
+) -> Result<(Vec<Expr>, usize), Fail<ParseFault>>
     requires size { length tokens.now < 2 ^ 32 }
     requires within { at ≤ length tokens.now }
     ensures tree { IfOk result (λ r. MoreArgs (drop at tokens.now) (expressions r.0.items) (drop r.1 tokens.now)) }
@@ -196,8 +64,225 @@ fn other_args(alloc: Global, tokens: &[Token], at: usize) -> Result<(Vec<Expr>, 
     }
 }
 
+// value = expr | WORD "(" args ")"
+/// What an assignment or a declaration stores.
+fn value(alloc: Global, tokens: &[Token], at: usize) -> Result<(Value, usize), Fail<ParseFault>>
+    requires size { length tokens.now < 2 ^ 32 }
+    requires within { at ≤ length tokens.now }
+    ensures tree { IfOk result (λ r. Stores (drop at tokens.now) (stored r.0) (drop r.1 tokens.now)) }
+    ensures ended { IfOk result (λ r. Ended (joins 6) (form a_value ∷ []) tokens.now at r.1) }
+    ensures ahead { IfOk result (λ r. at < r.1) }
+    ensures stopped { IfErr result (StopsBy (joins 6) (form a_value ∷ []) tokens.now at) }
+{
+    if calls(tokens, at) {
+        let (found, close) = args(alloc, tokens, at + 1 + 1)?;
+        let end = expect(tokens, close, Lexeme::Close)?;
+        let word = text_at(alloc, tokens, at)?;
+        let line = line_at(tokens, at);
+        return Ok((Value::Call(line, word, Seq::of(found)), end));
+    }
+    let (tree, end) = expression(alloc, tokens, at)?;
+    Ok((Value::Plain(tree), end))
+}
+
+/// Whether a value that begins here is a call with arguments: of the ways behind a word and `(` only the call goes on
+/// without `)`.
+fn calls(tokens: &[Token], at: usize) -> bool
+    requires size { length tokens.now < 2 ^ 32 }
+    requires within { at ≤ length tokens.now }
+    ensures yes { result ≡ true → IsCall (drop at tokens.now) }
+    ensures no { result ≡ false → IsCall (drop at tokens.now) → ⊥ }
+{
+    let Lexeme::Word = lexeme_at(tokens, at) else {
+        return false;
+    };
+    let Lexeme::Open = lexeme_at(tokens, at + 1) else {
+        return false;
+    };
+    match lexeme_at(tokens, at + 1 + 1) {
+        Lexeme::Close => false,
+        _ => true,
+    }
+}
+
+// ["=" value]
+fn initial(
+    alloc: Global,
+    tokens: &[Token],
+    at: usize,
+) -> Result<(Option<Value>, usize), Fail<ParseFault>>
+    requires size { length tokens.now < 2 ^ 32 }
+    requires within { at ≤ length tokens.now }
+    ensures tree { IfOk result (λ r. Initial (drop at tokens.now) (option_map stored r.0) (drop r.1 tokens.now)) }
+    ensures ended { IfOk result (λ r. Ended joins_item (initial_symbol ∷ []) tokens.now at r.1) }
+    ensures stopped { IfErr result (StopsBy joins_item (initial_symbol ∷ []) tokens.now at) }
+{
+    match lexeme_at(tokens, at) {
+        Lexeme::Set => {
+            let (value, end) = value(alloc, tokens, at + 1)?;
+            Ok((Some(value), end))
+        }
+        _ => Ok((None, at)),
+    }
+}
+
+// item = WORD ["=" value]
+fn item(alloc: Global, tokens: &[Token], at: usize) -> Result<(Item, usize), Fail<ParseFault>>
+    requires size { length tokens.now < 2 ^ 32 }
+    requires within { at ≤ length tokens.now }
+    ensures tree { IfOk result (λ r. ItemRead (drop at tokens.now) (declared r.0) (drop r.1 tokens.now)) }
+    ensures ended { IfOk result (λ r. Ended joins_item (form an_item ∷ []) tokens.now at r.1) }
+    ensures ahead { IfOk result (λ r. at < r.1) }
+    ensures stopped { IfErr result (StopsBy joins_item (form an_item ∷ []) tokens.now at) }
+{
+    let line = line_at(tokens, at);
+    let mid = expect(tokens, at, Lexeme::Word)?;
+    let (value, end) = initial(alloc, tokens, mid)?;
+    let name = text_at(alloc, tokens, at)?;
+    Ok((Item { line, name, value }, end))
+}
+
+// item ("," item)*
+/// The items of a declaration.
+pub(crate) fn items(
+    alloc: Global,
+    tokens: &[Token],
+    at: usize,
+) -> Result<(Vec<Item>, usize), Fail<ParseFault>>
+    requires size { length tokens.now < 2 ^ 32 }
+    requires within { at ≤ length tokens.now }
+    ensures tree { IfOk result (λ r. Items (drop at tokens.now) (map declared r.0.items) (drop r.1 tokens.now)) }
+    ensures ended { IfOk result (λ r. Ended joins_items (form an_item ∷ more_items ∷ []) tokens.now at r.1) }
+    ensures ahead { IfOk result (λ r. at < r.1) }
+    ensures stopped { IfErr result (StopsBy joins_items (form an_item ∷ more_items ∷ []) tokens.now at) }
+{
+    let (first, mid) = item(alloc, tokens, at)?;
+    let (mut others, end) = other_items(alloc, tokens, mid)?;
+    others.insert(0, first)?;
+    Ok((others, end))
+}
+
+// ("," item)*
+fn other_items(
+    alloc: Global,
+    tokens: &[Token],
+    at: usize,
+) -> Result<(Vec<Item>, usize), Fail<ParseFault>>
+    requires size { length tokens.now < 2 ^ 32 }
+    requires within { at ≤ length tokens.now }
+    ensures tree { IfOk result (λ r. MoreItems (drop at tokens.now) (map declared r.0.items) (drop r.1 tokens.now)) }
+    ensures ended { IfOk result (λ r. Ended joins_items (more_items ∷ []) tokens.now at r.1) }
+    ensures stopped { IfErr result (StopsBy joins_items (more_items ∷ []) tokens.now at) }
+{
+    let mut found = Vec::new(alloc);
+    let mut place = at;
+    'items: loop {
+        let Lexeme::Comma = lexeme_at(tokens, place) else {
+            return Ok((found, place));
+        };
+        let (next, end) = item(alloc, tokens, place + 1)?;
+        found.push(next)?;
+        place = end;
+    }
+}
+
+// place = WORD ["[" expr "]"]
+/// The word of a place, and which element of it.
+fn place(
+    alloc: Global,
+    tokens: &[Token],
+    at: usize,
+) -> Result<(Text, Option<Subscript>, usize), Fail<ParseFault>>
+    requires size { length tokens.now < 2 ^ 32 }
+    requires within { at ≤ length tokens.now }
+    ensures tree { IfOk result (λ r. Place (drop at tokens.now) r.0 (option_map indexed r.1) (drop r.2 tokens.now)) }
+    ensures ended { IfOk result (λ r. Ended joins_index (form a_place ∷ []) tokens.now at r.2) }
+    ensures ahead { IfOk result (λ r. at < r.2) }
+    ensures stopped { IfErr result (StopsBy joins_index (form a_place ∷ []) tokens.now at) }
+{
+    let mid = expect(tokens, at, Lexeme::Word)?;
+    let (which, end) = subscript(alloc, tokens, mid)?;
+    let name = text_at(alloc, tokens, at)?;
+    Ok((name, which, end))
+}
+
+// assign = place ("=" | "+=" | "-=" | "*=" | "/=" | "%=") value | place ("++" | "--") | ("++" | "--") place
+fn assign(alloc: Global, tokens: &[Token], at: usize) -> Result<(Assign, usize), Fail<ParseFault>>
+    requires size { length tokens.now < 2 ^ 32 }
+    requires within { at ≤ length tokens.now }
+    ensures tree { IfOk result (λ r. Assignment (drop at tokens.now) (assigned r.0) (drop r.1 tokens.now)) }
+    ensures ended { IfOk result (λ r. Ended (joins 6) (form an_assign ∷ []) tokens.now at r.1) }
+    ensures ahead { IfOk result (λ r. at < r.1) }
+    ensures stopped { IfErr result (StopsBy (joins 6) (form an_assign ∷ []) tokens.now at) }
+{
+    if let Some(op) = step_operator(lexeme_at(tokens, at)) {
+        let (name, subscript, end) = place(alloc, tokens, at + 1)?;
+        let assign = Assign {
+            line: line_at(tokens, at + 1),
+            name,
+            subscript,
+            op: Some(op),
+            op_line: line_at(tokens, at),
+            value: Value::Plain(Expr::Number(1)),
+        };
+        return Ok((assign, end));
+    }
+    let Lexeme::Word = lexeme_at(tokens, at) else {
+        return Err(syntax(at));
+    };
+    let (assign, end) = place_assign(alloc, tokens, at)?;
+    Ok((assign, end))
+}
+
+// place ("=" | "+=" | "-=" | "*=" | "/=" | "%=") value | place ("++" | "--")
+fn place_assign(
+    alloc: Global,
+    tokens: &[Token],
+    at: usize,
+) -> Result<(Assign, usize), Fail<ParseFault>>
+    requires size { length tokens.now < 2 ^ 32 }
+    requires within { at < length tokens.now }
+    requires begun { first (drop at tokens.now) ≡ Lexeme.Word }
+    ensures tree { IfOk result (λ r. Assignment (drop at tokens.now) (assigned r.0) (drop r.1 tokens.now)) }
+    ensures ended { IfOk result (λ r. Ended (joins 6) (form an_assign ∷ []) tokens.now at r.1) }
+    ensures ahead { IfOk result (λ r. at < r.1) }
+    ensures stopped { IfErr result (StopsBy (joins 6) (form an_assign ∷ []) tokens.now at) }
+{
+    let line = line_at(tokens, at);
+    let (name, subscript, mid) = place(alloc, tokens, at)?;
+    let op_line = line_at(tokens, mid);
+    if let Some(op) = step_operator(lexeme_at(tokens, mid)) {
+        let assign = Assign {
+            line,
+            name,
+            subscript,
+            op: Some(op),
+            op_line,
+            value: Value::Plain(Expr::Number(1)),
+        };
+        return Ok((assign, mid + 1));
+    }
+    let Some(op) = set_operator(lexeme_at(tokens, mid)) else {
+        return Err(syntax(mid));
+    };
+    let (value, end) = value(alloc, tokens, mid + 1)?;
+    let assign = Assign {
+        line,
+        name,
+        subscript,
+        op,
+        op_line,
+        value,
+    };
+    Ok((assign, end))
+}
+
 // [args] ")"
-fn called(alloc: Global, tokens: &[Token], at: usize) -> Result<(Vec<Expr>, usize), Fail>
+fn called(
+    alloc: Global,
+    tokens: &[Token],
+    at: usize,
+) -> Result<(Vec<Expr>, usize), Fail<ParseFault>>
     requires size { length tokens.now < 2 ^ 32 }
     requires within { at ≤ length tokens.now }
     ensures tree { IfOk result (λ r. Called (drop at tokens.now) (expressions r.0.items) (drop r.1 tokens.now)) }
@@ -215,7 +300,11 @@ fn called(alloc: Global, tokens: &[Token], at: usize) -> Result<(Vec<Expr>, usiz
 
 // simple = ";" | assign ";" | WORD "(" [args] ")" ";" | "return" expr ";" | "break" ";" | "continue" ";"
 /// A statement without parts of its own.
-pub(crate) fn simple(alloc: Global, tokens: &[Token], at: usize) -> Result<(Stmt, usize), Fail>
+pub(crate) fn simple(
+    alloc: Global,
+    tokens: &[Token],
+    at: usize,
+) -> Result<(Stmt, usize), Fail<ParseFault>>
     requires size { length tokens.now < 2 ^ 32 }
     requires within { at ≤ length tokens.now }
     ensures tree { IfOk result (λ r. Simple (drop at tokens.now) (statement r.0) (drop r.1 tokens.now)) }
@@ -250,7 +339,11 @@ pub(crate) fn simple(alloc: Global, tokens: &[Token], at: usize) -> Result<(Stmt
 }
 
 // assign ";" | WORD "(" [args] ")" ";"
-fn word_simple(alloc: Global, tokens: &[Token], at: usize) -> Result<(Stmt, usize), Fail>
+fn word_simple(
+    alloc: Global,
+    tokens: &[Token],
+    at: usize,
+) -> Result<(Stmt, usize), Fail<ParseFault>>
     requires size { length tokens.now < 2 ^ 32 }
     requires within { at < length tokens.now }
     requires begun { first (drop at tokens.now) ≡ Lexeme.Word }
@@ -271,7 +364,11 @@ fn word_simple(alloc: Global, tokens: &[Token], at: usize) -> Result<(Stmt, usiz
 }
 
 // assign ";"
-fn assigned_to(alloc: Global, tokens: &[Token], at: usize) -> Result<(Assign, usize), Fail>
+fn assigned_to(
+    alloc: Global,
+    tokens: &[Token],
+    at: usize,
+) -> Result<(Assign, usize), Fail<ParseFault>>
     requires size { length tokens.now < 2 ^ 32 }
     requires within { at ≤ length tokens.now }
     ensures tree { IfOk result (λ r. AssignedTo (drop at tokens.now) (assigned r.0) (drop r.1 tokens.now)) }
@@ -286,7 +383,11 @@ fn assigned_to(alloc: Global, tokens: &[Token], at: usize) -> Result<(Assign, us
 
 // "(" [assign | decl] ";" [expr] ";" [assign] ")"
 /// The head of a `for`.
-pub(crate) fn head(alloc: Global, tokens: &[Token], at: usize) -> Result<(Head, usize), Fail>
+pub(crate) fn head(
+    alloc: Global,
+    tokens: &[Token],
+    at: usize,
+) -> Result<(Head, usize), Fail<ParseFault>>
     requires size { length tokens.now < 2 ^ 32 }
     requires within { at ≤ length tokens.now }
     ensures tree { IfOk result (λ r. Heading (drop at tokens.now) (statements r.0.first)
@@ -304,7 +405,7 @@ pub(crate) fn head(alloc: Global, tokens: &[Token], at: usize) -> Result<(Head, 
 }
 
 // [assign | decl] ";"
-fn first(alloc: Global, tokens: &[Token], at: usize) -> Result<(Vec<Stmt>, usize), Fail>
+fn first(alloc: Global, tokens: &[Token], at: usize) -> Result<(Vec<Stmt>, usize), Fail<ParseFault>>
     requires size { length tokens.now < 2 ^ 32 }
     requires within { at ≤ length tokens.now }
     ensures tree { IfOk result (λ r. First (drop at tokens.now) (statements r.0.items) (drop r.1 tokens.now)) }
@@ -327,7 +428,11 @@ fn first(alloc: Global, tokens: &[Token], at: usize) -> Result<(Vec<Stmt>, usize
 }
 
 // [expr] ";"
-fn test(alloc: Global, tokens: &[Token], at: usize) -> Result<(Option<Expr>, usize), Fail>
+fn test(
+    alloc: Global,
+    tokens: &[Token],
+    at: usize,
+) -> Result<(Option<Expr>, usize), Fail<ParseFault>>
     requires size { length tokens.now < 2 ^ 32 }
     requires within { at ≤ length tokens.now }
     ensures tree { IfOk result (λ r. Test (drop at tokens.now) (option_map expression r.0) (drop r.1 tokens.now)) }
@@ -344,7 +449,11 @@ fn test(alloc: Global, tokens: &[Token], at: usize) -> Result<(Option<Expr>, usi
 }
 
 // [assign] ")"
-fn step(alloc: Global, tokens: &[Token], at: usize) -> Result<(Option<Assign>, usize), Fail>
+fn step(
+    alloc: Global,
+    tokens: &[Token],
+    at: usize,
+) -> Result<(Option<Assign>, usize), Fail<ParseFault>>
     requires size { length tokens.now < 2 ^ 32 }
     requires within { at ≤ length tokens.now }
     ensures tree { IfOk result (λ r. Step (drop at tokens.now) (option_map assigned r.0) (drop r.1 tokens.now)) }

@@ -10,19 +10,20 @@ ghost use Rattle.flame_parse.specs.StatementGrammar.{Block, Stmts, Stmt as StmtR
 
 use crate::operators::starts_statement;
 use crate::simple::{head, items, one, simple};
-use flame_expr::{expect, lexeme_at, line_at, text_at};
-use flame_expr::Fail;
-use flame_expr::Lexeme;
-use flame_expr::bracketed;
+use flame_expr::{Lexeme, ParseFault, bracketed, expect, lexeme_at, line_at, text_at};
 use flame_lex::Token;
-use flame_rows::Seq;
+use flame_rows::{Fail, Part, Seq};
 use flame_spec::{Arm, Stmt};
 use std::alloc::Global;
 
 // block = "{" stmt* "}"
 /// A block: its statements and the place behind it.
 #[cycle(stmts)]
-pub(crate) fn block(alloc: Global, tokens: &[Token], at: usize) -> Result<(Vec<Stmt>, usize), Fail>
+pub(crate) fn block(
+    alloc: Global,
+    tokens: &[Token],
+    at: usize,
+) -> Result<(Vec<Stmt>, usize), Fail<ParseFault>>
     requires size { length tokens.now < 2 ^ 32 }
     requires within { at ≤ length tokens.now }
     ensures tree { IfOk result (λ r. Block (drop at tokens.now) (statements r.0.items) (drop r.1 tokens.now)) }
@@ -38,7 +39,7 @@ pub(crate) fn block(alloc: Global, tokens: &[Token], at: usize) -> Result<(Vec<S
 
 // stmt*
 #[cycle(stmts)]
-fn stmts(alloc: Global, tokens: &[Token], at: usize) -> Result<(Vec<Stmt>, usize), Fail>
+fn stmts(alloc: Global, tokens: &[Token], at: usize) -> Result<(Vec<Stmt>, usize), Fail<ParseFault>>
     requires size { length tokens.now < 2 ^ 32 }
     requires within { at ≤ length tokens.now }
     ensures tree { IfOk result (λ r. Stmts (drop at tokens.now) (statements r.0.items) (drop r.1 tokens.now)) }
@@ -59,7 +60,7 @@ fn stmts(alloc: Global, tokens: &[Token], at: usize) -> Result<(Vec<Stmt>, usize
 
 // stmt = decl ";" | block | if | while | for | do | loop | simple
 #[cycle(stmts)]
-fn stmt(alloc: Global, tokens: &[Token], at: usize) -> Result<(Stmt, usize), Fail>
+fn stmt(alloc: Global, tokens: &[Token], at: usize) -> Result<(Stmt, usize), Fail<ParseFault>>
     requires size { length tokens.now < 2 ^ 32 }
     requires within { at ≤ length tokens.now }
     ensures tree { IfOk result (λ r. StmtRead (drop at tokens.now) (statement r.0) (drop r.1 tokens.now)) }
@@ -106,7 +107,7 @@ fn stmt(alloc: Global, tokens: &[Token], at: usize) -> Result<(Stmt, usize), Fai
 
 // if = "if" "(" expr ")" body ("else" "if" "(" expr ")" body)* ["else" body]
 #[cycle(stmts)]
-fn branch(alloc: Global, tokens: &[Token], at: usize) -> Result<(Stmt, usize), Fail>
+fn branch(alloc: Global, tokens: &[Token], at: usize) -> Result<(Stmt, usize), Fail<ParseFault>>
     requires size { length tokens.now < 2 ^ 32 }
     requires within { at < length tokens.now }
     requires begun { first (drop at tokens.now) ≡ Lexeme.If }
@@ -125,7 +126,11 @@ fn branch(alloc: Global, tokens: &[Token], at: usize) -> Result<(Stmt, usize), F
 
 // ("else" "if" "(" expr ")" body)* ["else" body]
 #[cycle(stmts)]
-fn elses(alloc: Global, tokens: &[Token], at: usize) -> Result<(Vec<Arm>, Vec<Stmt>, usize), Fail>
+fn elses(
+    alloc: Global,
+    tokens: &[Token],
+    at: usize,
+) -> Result<(Vec<Arm>, Vec<Stmt>, usize), Fail<ParseFault>>
     requires size { length tokens.now < 2 ^ 32 }
     requires within { at ≤ length tokens.now }
     ensures tree { IfOk result (λ r.
@@ -153,7 +158,7 @@ fn elses(alloc: Global, tokens: &[Token], at: usize) -> Result<(Vec<Arm>, Vec<St
 
 // body = block | simple
 #[cycle(stmts)]
-fn body(alloc: Global, tokens: &[Token], at: usize) -> Result<(Vec<Stmt>, usize), Fail>
+fn body(alloc: Global, tokens: &[Token], at: usize) -> Result<(Vec<Stmt>, usize), Fail<ParseFault>>
     requires size { length tokens.now < 2 ^ 32 }
     requires within { at ≤ length tokens.now }
     ensures tree { IfOk result (λ r. Body (drop at tokens.now) (statements r.0.items) (drop r.1 tokens.now)) }
@@ -175,7 +180,7 @@ fn body(alloc: Global, tokens: &[Token], at: usize) -> Result<(Vec<Stmt>, usize)
 
 // while = "while" "(" expr ")" body
 #[cycle(stmts)]
-fn while_loop(alloc: Global, tokens: &[Token], at: usize) -> Result<(Stmt, usize), Fail>
+fn while_loop(alloc: Global, tokens: &[Token], at: usize) -> Result<(Stmt, usize), Fail<ParseFault>>
     requires size { length tokens.now < 2 ^ 32 }
     requires within { at < length tokens.now }
     requires begun { first (drop at tokens.now) ≡ Lexeme.While }
@@ -191,7 +196,7 @@ fn while_loop(alloc: Global, tokens: &[Token], at: usize) -> Result<(Stmt, usize
 
 // for = "for" "(" [assign | decl] ";" [expr] ";" [assign] ")" body
 #[cycle(stmts)]
-fn for_loop(alloc: Global, tokens: &[Token], at: usize) -> Result<(Stmt, usize), Fail>
+fn for_loop(alloc: Global, tokens: &[Token], at: usize) -> Result<(Stmt, usize), Fail<ParseFault>>
     requires size { length tokens.now < 2 ^ 32 }
     requires within { at < length tokens.now }
     requires begun { first (drop at tokens.now) ≡ Lexeme.For }
@@ -202,13 +207,13 @@ fn for_loop(alloc: Global, tokens: &[Token], at: usize) -> Result<(Stmt, usize),
 {
     let (head, mid) = head(alloc, tokens, at + 1)?;
     let (found, end) = body(alloc, tokens, mid)?;
-    let head = Box::new(alloc, head)?;
+    let head = Part::of(alloc, head)?;
     Ok((Stmt::For(line_at(tokens, at), head, Seq::of(found)), end))
 }
 
 // do = "do" body "while" "(" expr ")" ";"
 #[cycle(stmts)]
-fn do_loop(alloc: Global, tokens: &[Token], at: usize) -> Result<(Stmt, usize), Fail>
+fn do_loop(alloc: Global, tokens: &[Token], at: usize) -> Result<(Stmt, usize), Fail<ParseFault>>
     requires size { length tokens.now < 2 ^ 32 }
     requires within { at < length tokens.now }
     requires begun { first (drop at tokens.now) ≡ Lexeme.Do }
@@ -226,7 +231,11 @@ fn do_loop(alloc: Global, tokens: &[Token], at: usize) -> Result<(Stmt, usize), 
 
 // loop = START stmt* FINISH
 #[cycle(stmts)]
-fn message_loop(alloc: Global, tokens: &[Token], at: usize) -> Result<(Stmt, usize), Fail>
+fn message_loop(
+    alloc: Global,
+    tokens: &[Token],
+    at: usize,
+) -> Result<(Stmt, usize), Fail<ParseFault>>
     requires size { length tokens.now < 2 ^ 32 }
     requires within { at < length tokens.now }
     requires begun { first (drop at tokens.now) ≡ Lexeme.Start }

@@ -1,5 +1,4 @@
 use Rattle.std.proofs.Common.{◌≡◌, arith, sym, map}
-use Rattle.flame_expr.specs.declared.faults.Fail.TheVariants.{Fault, NoMemory}
 use Rattle.flame_parse.specs.Parsing.{defined, FailsBy}
 use Rattle.flame_parse.proofs.WholeFiles.{whole_unit, stopped_unit, ended_unit, fails_unit}
 use Rattle.flame_parse.proofs.files.parse.Goals as goal
@@ -10,5 +9,5 @@ returns-in_err-found-clause-fault c = fails_unit c.args.tokens.now _ _ c.from_re
 pub returns-then-end-tokens-clause-fault : goal.returns-then-end-tokens-clause-fault
 returns-then-end-tokens-clause-fault c = rw c.syntax.ensures (ended_unit c.args.tokens.now c.in_ok-found.end c.in_default.ensures.flat (omega (arith, c.if-end-tokens.true)) c.in_ok-found.ensures.ended)
 
-pub returns-clause-tree : goal.returns-clause-tree
-returns-clause-tree c = rw c.of-functions.ensures (whole_unit c.args.tokens.now c.in_ok-found.end (map defined c.in_ok-found.found.items) c.in_ok-found.ensures.tree (omega (arith, c.if-end-tokens.false)))
+pub returns-clause-file : goal.returns-clause-file
+returns-clause-file c = rw c.of-functions.ensures (whole_unit c.args.tokens.now c.in_ok-found.end (map defined c.in_ok-found.found.items) c.in_default.ensures.flat c.in_ok-found.ensures.tree (omega (arith, c.if-end-tokens.false)))

@@ -1,41 +1,45 @@
 -- Each way that the reader returns, by the parts that it read.
 use Rattle.std.proofs.Common.{◌≡◌, ◌⊎◌, ℕ, pos, ◌+◌, ◌<◌, ◌≤◌, [], ◌∷◌, drop, length, map, sym, refl, ap, subst, ◌∙◌, arith, rules, Option, Some, None}
 use Rattle.flame_spec.specs.Trees.{Expression, Statements, no_more, also, no_arms, arm, part, declare, assign}
-use Rattle.flame_spec.specs.Seen.{expression, expressions, declared, assigned, statement, statements, statements_of, arms, tested, arms_of}
+use Rattle.flame_spec.specs.Seen.{expression, expressions, indexed, stored, declared, assigned, statement, statements, statements_of, arms, tested, arms_of}
 use Rattle.flame_spec.proofs.SeenForms.{expression-Number, statement-Empty, statement-Declare, statement-Assign, statement-Call, statement-Block, statement-If, statement-While, statement-For, statement-Do, statement-Loop, statement-Return, statement-Break, statement-Continue}
 use Rattle.flame_expr.specs.declared.lexemes.Lexeme.TheVariants.{Word, Start, Finish, Set, Open, Close, OpenBrace, CloseBrace, Comma, Semicolon, Int, Void, If, Else, While, For, Do, Return, Break, Continue}
 use Rattle.flame_expr.specs.Lexemes.{first, text, line, behind, is_real}
-use Rattle.flame_expr.specs.OperatorLevels.{joins}
+use Rattle.flame_expr.specs.OperatorLevels.{joins, joins_index}
 use Rattle.flame_expr.specs.ExpressionGrammar.{Reads, Bracketed}
-use Rattle.flame_expr.specs.ViablePrefixes.{form, lexeme, both, maybe, either, many, one_of, expr, more_args, more_items, else_ifs, else_body, an_item, an_assign, a_decl, a_simple, some_args, a_stmt, a_block, a_body, a_def, a_unit}
+use Rattle.flame_expr.specs.ViablePrefixes.{a_value, a_place, index, parameter, more_parameters, parameters, form, lexeme, both, maybe, either, many, one_of, expr, more_args, more_items, else_ifs, else_body, an_item, an_assign, a_decl, a_simple, some_args, a_stmt, a_block, a_body, a_def, a_unit}
 use Rattle.flame_expr.proofs.Parts.{any_heads, pasts}
 use Rattle.flame_expr.proofs.Places.{there, behind-drop}
 use Rattle.flame_expr.proofs.Ends.{EndedAny, StoppedAny, stops_by, any_ended, one_ended, any_stopped, one_stopped, here_ended, here_stopped, enter_ended, enter_stopped, begin_ended, begin_stopped, ended_then, stopped_then, stopped_before, ended_weaker, stopped_weaker, form_ended, form_stopped, nothing_ended}
 use Rattle.flame_expr.proofs.Readings.{at_next, from_next, unlike}
-use Rattle.flame_parse.specs.AssignmentOperators.{set_op, step_op, starts, joins_item, joins_items, joins_args, joins_stmt, joins_stmts}
+use Rattle.flame_parse.specs.AssignmentOperators.{set_op, step_op, starts, joins_item, joins_items, joins_args, joins_parameters, joins_stmt, joins_stmts}
 use Rattle.flame_parse.specs.StatementGrammar as grammar
-use Rattle.flame_parse.proofs.Likeness.{alike_ended, alike_stopped, many_ended, many_stopped, first_stopped}
+use Rattle.flame_expr.proofs.Likeness.{alike_ended, alike_stopped}
+use Rattle.flame_parse.proofs.Repeats.{many_ended, many_stopped, first_stopped}
 use Rattle.flame_parse.proofs.Beginnings as begin
 use Rattle.flame_parse.proofs.Runs.{next_of, end_of, two_behind, RunOn, run_begin, run_step, run_read, run_with, ArgsRead, StmtsRead, ArmsRead}
-use Rattle.flame_parse.proofs.Assigns.{step_before_read}
+use Rattle.std.specs.Prelude.{option_map}
+use Rattle.flame_parse.specs.HeadSymbols.{initial_symbol}
+use Rattle.flame_parse.proofs.Values as values
+use Rattle.flame_parse.proofs.Assigns.{call_read, place_read, sets_read, step_behind_read, step_before_read}
 use Rattle.flame_parse.proofs.simple.assign.Goals as goal
 
-pub returns-in_err-end-clause-stopped : goal.returns-in_err-end-clause-stopped
-returns-in_err-end-clause-stopped c =
+pub returns-in_err-name-clause-stopped : goal.returns-in_err-name-clause-stopped
+returns-in_err-name-clause-stopped c =
     let s = ap step_op (sym c.lexeme_at.ensures) ∙ sym c.in-Some.ensures in
     let b = begin.begins_step (first (drop c.args.at c.args.tokens.now)) c.in-Some.op s in
-    stops_by _ _ c.from_residual.ensures.1 (λ n h. begin_stopped (joins 6) (form an_assign ∷ []) (lexeme Word ∷ []) c.args.tokens.now c.args.at n (first (drop c.args.at c.args.tokens.now)) b.0 b.1 b.2 refl (stopped_weaker [] (joins 6) (lexeme Word ∷ []) c.args.tokens.now (c.args.at + 1) n refl h)) c.in_err-end.ensures.stopped
+    stops_by _ _ c.from_residual.ensures.1 (λ n h. begin_stopped (joins 6) (form an_assign ∷ []) (form a_place ∷ []) c.args.tokens.now c.args.at n (first (drop c.args.at c.args.tokens.now)) b.0 b.1 b.2 refl (stopped_weaker joins_index (joins 6) (form a_place ∷ []) c.args.tokens.now (c.args.at + 1) n refl h)) c.in_err-name.ensures.stopped
 
 pub returns-in-Some-clause-ended : goal.returns-in-Some-clause-ended
 returns-in-Some-clause-ended c =
     let s = ap step_op (sym c.lexeme_at.ensures) ∙ sym c.in-Some.ensures in
     let b = begin.begins_step (first (drop c.args.at c.args.tokens.now)) c.in-Some.op s in
-    begin_ended (joins 6) (form an_assign ∷ []) (lexeme Word ∷ []) c.args.tokens.now c.args.at c.in_ok-end.end (first (drop c.args.at c.args.tokens.now)) b.0 b.1 b.2 refl (ended_weaker [] (joins 6) (lexeme Word ∷ []) c.args.tokens.now (c.args.at + 1) c.in_ok-end.end refl c.in_ok-end.ensures.ended)
+    begin_ended (joins 6) (form an_assign ∷ []) (form a_place ∷ []) c.args.tokens.now c.args.at c.in_ok-name.end (first (drop c.args.at c.args.tokens.now)) b.0 b.1 b.2 refl (ended_weaker joins_index (joins 6) (form a_place ∷ []) c.args.tokens.now (c.args.at + 1) c.in_ok-name.end refl c.in_ok-name.ensures.ended)
 
 pub returns-in-Some-clause-tree : goal.returns-in-Some-clause-tree
 returns-in-Some-clause-tree c =
     let s = ap step_op (sym c.lexeme_at.ensures) ∙ sym c.in-Some.ensures in
-    rw (expression-Number _, c.line_at.ensures, c.in_ok-name.ensures, c.line_at-in-Some.ensures) (step_before_read c.args.tokens.now c.args.at c.in_ok-end.end c.in-Some.op s c.in_ok-end.ensures.found c.in_ok-end.ensures.next)
+    rw (expression-Number _, c.line_at.ensures, c.line_at-in-Some.ensures) (step_before_read c.args.tokens.now c.args.at c.in_ok-name.name (option_map indexed c.in_ok-name.subscript) c.in-Some.op (drop c.in_ok-name.end c.args.tokens.now) s c.in_ok-name.ensures.tree)
 
 pub returns-in_default-lexeme_at : goal.returns-in_default-lexeme_at
 returns-in_default-lexeme_at c = record { tree = tt; ended = tt; ahead = tt; stopped = rw c.syntax.ensures (one_stopped (here_stopped (joins 6) (form an_assign ∷ []) [] c.args.tokens.now c.args.at c.requires.within (begin.no_assign (first (drop c.args.at c.args.tokens.now)) (ap step_op (sym c.lexeme_at.ensures) ∙ sym c.in_default.ensures) (unlike c.lexeme_at-2.ensures c.in_default-lexeme_at.not-Word)))) }

@@ -14,7 +14,8 @@ use Rattle.flame_expr.proofs.Ends.{EndedAny, StoppedAny, stops_by, any_ended, on
 use Rattle.flame_expr.proofs.Readings.{at_next, from_next, unlike}
 use Rattle.flame_parse.specs.AssignmentOperators.{set_op, step_op, starts, joins_item, joins_items, joins_args, joins_stmt, joins_stmts}
 use Rattle.flame_parse.specs.StatementGrammar as grammar
-use Rattle.flame_parse.proofs.Likeness.{alike_ended, alike_stopped, many_ended, many_stopped, first_stopped}
+use Rattle.flame_expr.proofs.Likeness.{alike_ended, alike_stopped}
+use Rattle.flame_parse.proofs.Repeats.{many_ended, many_stopped, first_stopped}
 use Rattle.flame_parse.proofs.Beginnings as begin
 use Rattle.flame_parse.proofs.Runs.{next_of, end_of, two_behind, RunOn, run_begin, run_step, run_read, run_with, ArgsRead, StmtsRead, ArmsRead}
 use Rattle.std.proofs.lemmas.Result.{err_from_is_err_and}

@@ -14,7 +14,8 @@ use Rattle.flame_expr.proofs.Ends.{EndedAny, StoppedAny, stops_by, any_ended, on
 use Rattle.flame_expr.proofs.Readings.{at_next, from_next, unlike}
 use Rattle.flame_parse.specs.AssignmentOperators.{set_op, step_op, starts, joins_item, joins_items, joins_args, joins_stmt, joins_stmts}
 use Rattle.flame_parse.specs.StatementGrammar as grammar
-use Rattle.flame_parse.proofs.Likeness.{alike_ended, alike_stopped, many_ended, many_stopped, first_stopped}
+use Rattle.flame_expr.proofs.Likeness.{alike_ended, alike_stopped}
+use Rattle.flame_parse.proofs.Repeats.{many_ended, many_stopped, first_stopped}
 use Rattle.flame_parse.proofs.Beginnings as begin
 use Rattle.flame_parse.proofs.Runs.{next_of, end_of, two_behind, RunOn, run_begin, run_step, run_read, run_with, ArgsRead, StmtsRead, ArmsRead}
 use Rattle.std.specs.Prelude.{option_map}
@@ -78,7 +79,7 @@ pub for_loop-returns-clause-ended : goal.for_loop-returns-clause-ended
 for_loop-returns-clause-ended t c = begin_ended joins_stmt (form a_stmt ∷ []) (lexeme Open ∷ maybe (either (form an_assign) (form a_decl)) ∷ lexeme Semicolon ∷ maybe expr ∷ lexeme Semicolon ∷ maybe (form an_assign) ∷ lexeme Close ∷ form a_body ∷ []) c.args.tokens.now c.args.at c.in_ok-found.end For refl refl refl c.requires.begun (ended_then [] joins_stmt (lexeme Open ∷ maybe (either (form an_assign) (form a_decl)) ∷ lexeme Semicolon ∷ maybe expr ∷ lexeme Semicolon ∷ maybe (form an_assign) ∷ lexeme Close ∷ []) (form a_body ∷ []) c.args.tokens.now (c.args.at + 1) c.in_ok-head.mid c.in_ok-found.end refl c.in_ok-head.ensures.ended (ended_weaker [] joins_stmt (form a_body ∷ []) c.args.tokens.now c.in_ok-head.mid c.in_ok-found.end refl c.in_ok-found.ensures.ended))
 
 pub for_loop-returns-clause-tree : goal.for_loop-returns-clause-tree
-for_loop-returns-clause-tree t c = rw (statement-For _ _ _, c.in_ok-head-2.ensures.ok, c.line_at.ensures, c.of.ensures) (grammar.repeating c.requires.begun (at_next (λ ts. grammar.Heading ts (statements c.in_ok-head.head.first) (option_map expression c.in_ok-head.head.test) (option_map assigned c.in_ok-head.head.step) (drop c.in_ok-head.mid c.args.tokens.now)) c.args.tokens.now c.args.at c.in_ok-head.ensures.tree) c.in_ok-found.ensures.tree)
+for_loop-returns-clause-tree t c = rw (statement-For _ _ _, c.in_ok-head-2.ensures, c.line_at.ensures, c.of-2.ensures) (grammar.repeating c.requires.begun (at_next (λ ts. grammar.Heading ts (statements c.in_ok-head.head.first) (option_map expression c.in_ok-head.head.test) (option_map assigned c.in_ok-head.head.step) (drop c.in_ok-head.mid c.args.tokens.now)) c.args.tokens.now c.args.at c.in_ok-head.ensures.tree) c.in_ok-found.ensures.tree)
 
 pub do_loop-returns-in_err-found-clause-stopped : goal.do_loop-returns-in_err-found-clause-stopped
 do_loop-returns-in_err-found-clause-stopped t c = stops_by _ _ c.from_residual.ensures.1 (λ n h. begin_stopped joins_stmt (form a_stmt ∷ []) (form a_body ∷ lexeme While ∷ lexeme Open ∷ expr ∷ lexeme Close ∷ lexeme Semicolon ∷ []) c.args.tokens.now c.args.at n Do refl refl refl c.requires.begun (stopped_before [] joins_stmt (form a_body ∷ []) (lexeme While ∷ lexeme Open ∷ expr ∷ lexeme Close ∷ lexeme Semicolon ∷ []) c.args.tokens.now (c.args.at + 1) n refl h)) c.in_err-found.ensures.stopped
