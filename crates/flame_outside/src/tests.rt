@@ -52,23 +52,39 @@ fn write_word<S: Sink>(sink: &mut S, bytes: &[u8]) -> &'static str {
     }
 }
 
+/// The answers of six calls on files in memory.
+fn depot_answers(alloc: Global, depot: &mut MemDepot) -> Result<String, AllocError> {
+    let first = put_word(depot, "b", b"1234");
+    let second = put_word(depot, "b", b"567");
+    let third = read_text(alloc, depot, "b", 9)?;
+    let fourth = read_text(alloc, depot, "b", 9)?;
+    let fifth = read_text(alloc, depot, "a", 1)?;
+    let sixth = read_text(alloc, depot, "c", 9)?;
+    format!(in alloc; "{first} {second} {third} {fourth} {fifth} {sixth}")
+}
+
 #[test]
-fn devices_in_memory_answer(rt: HostRuntime) -> Result<(), Fail> {
+fn files_in_memory_answer(rt: HostRuntime) -> Result<(), Fail> {
     let alloc = rt.alloc();
     let mut depot = MemDepot::new(alloc, vec![in alloc; 1, 3]?);
-    assert!(rt; depot.set("a", b"12").is_ok());
-    assert_eq!(rt; put_word(&mut depot, "b", b"1234"), "ok");
-    assert_eq!(rt; put_word(&mut depot, "b", b"567"), "failed");
-    assert_eq!(rt; read_text(alloc, &mut depot, "b", 9)?.as_str(), "5");
-    assert_eq!(rt; read_text(alloc, &mut depot, "b", 9)?.as_str(), "failed");
-    assert_eq!(rt; read_text(alloc, &mut depot, "a", 1)?.as_str(), "1");
-    assert_eq!(rt; read_text(alloc, &mut depot, "c", 9)?.as_str(), "missing");
-    assert_eq!(rt; depot.get("a").map(<[u8]>::len), Some(2));
-    assert_eq!(rt; depot.total(), 3);
+    let set = depot.set("a", b"12").is_ok();
+    let answers = depot_answers(alloc, &mut depot)?;
+    assert_eq!(rt; answers.as_str(), "ok failed 5 failed 1 missing");
+    assert_eq!(rt;
+        (set, depot.get("a").is_some(), depot.total()),
+        (true, true, 3)
+    );
+    Ok(())
+}
+
+#[test]
+fn bytes_in_memory_answer(rt: HostRuntime) -> Result<(), Fail> {
+    let alloc = rt.alloc();
     let mut sink = MemSink::new(alloc, vec![in alloc; 1]?);
-    assert_eq!(rt; write_word(&mut sink, b"1234"), "ok");
-    assert_eq!(rt; write_word(&mut sink, b"567"), "failed");
-    assert_eq!(rt; write_word(&mut sink, b"8"), "ok");
+    let first = write_word(&mut sink, b"1234");
+    let second = write_word(&mut sink, b"567");
+    let third = write_word(&mut sink, b"8");
+    assert_eq!(rt; (first, second, third), ("ok", "failed", "ok"));
     assert_eq!(rt; sink.bytes(), b"123458".as_slice());
     Ok(())
 }
@@ -116,34 +132,36 @@ fn make_folder(rt: &(impl Files + Alloc), name: &str) -> io::Result<()> {
     fs::create_dir(rt, name)
 }
 
+/// The answers of calls on real files in a folder that is there.
+fn file_answers<D: Depot>(alloc: Global, depot: &mut D) -> Result<String, AllocError> {
+    let first = put_word(depot, "few_files/made", b"a longer text");
+    let second = put_word(depot, "few_files/made", b"short");
+    let third = put_word(depot, "few_files", b"text");
+    let fourth = read_text(alloc, depot, "few_files/made", 3)?;
+    let fifth = read_text(alloc, depot, "few_files", 100)?;
+    let sixth = read_text(alloc, depot, "few_files/absent", 100)?;
+    format!(in alloc; "{first} {second} {third} {fourth} {fifth} {sixth}")
+}
+
 #[test]
-fn real_devices_answer(rt: HostRuntime) -> Result<(), Fail> {
-    let alloc = rt.alloc();
+fn real_files_answer(rt: HostRuntime) -> Result<(), Fail> {
     let mut depot = HostDepot::new(&rt);
     make_folder(&rt, "few_files")?;
-    assert_eq!(rt;
-        put_word(&mut depot, "few_files/made", b"a longer text"),
-        "ok"
-    );
-    assert_eq!(rt; put_word(&mut depot, "few_files/made", b"short"), "ok");
-    assert_eq!(rt; put_word(&mut depot, "few_files", b"text"), "failed");
-    for (name, most, wanted) in [
-        ("few_files/made", 100, "short"),
-        ("few_files/made", 3, "sho"),
-        ("few_files", 100, "failed"),
-        ("few_files/absent", 100, "missing"),
-    ] {
-        let text = read_text(alloc, &mut depot, name, most)?;
-        assert_eq!(rt; text.as_str(), wanted, "read {name} {most}");
-    }
+    let answers = file_answers(rt.alloc(), &mut depot)?;
     fs::remove_dir_all(&rt, "few_files")?;
-    let mut out = HostSink::out(&rt);
-    assert_eq!(rt; write_word(&mut out, b"to the output\n"), "ok");
-    let mut err = HostSink::err(&rt);
-    assert_eq!(rt; write_word(&mut err, b"to the error stream\n"), "ok");
-    assert_eq!(rt; write_word(&mut err, b"\xff"), "failed");
-    OpenGate.enter(&rt, 0, 0);
+    assert_eq!(rt; answers.as_str(), "ok ok failed sho failed missing");
     Ok(())
+}
+
+#[test]
+fn real_streams_answer(rt: HostRuntime) {
+    let mut out = HostSink::out(&rt);
+    let mut err = HostSink::err(&rt);
+    let first = write_word(&mut out, b"to the output\n");
+    let second = write_word(&mut err, b"to the error stream\n");
+    let third = write_word(&mut err, b"\xff");
+    OpenGate.enter(&rt, 0, 0);
+    assert_eq!(rt; (first, second, third), ("ok", "ok", "failed"));
 }
 
 /// What a call of a stream made up for a test does.

@@ -17,9 +17,13 @@ const SOURCE: &str = "int f() { set_x(get_x() + 1); return 0; }";
 /// One agent, with 0.
 const POPULATION: &str = r#"{"states":{"itno":0,"agents":[{"name":"A","memory":{"x":0}}]}}"#;
 
-/// What the first iteration leaves.
-const FIRST: &str =
-    "{\"states\":{\"itno\":1,\"environment\":{},\"agents\":[{\"name\":\"A\",\"memory\":{\"x\":1}}],\"boards\":[]}}\n";
+/// A run of two iterations.
+const RAN: &str =
+    "0 2|iteration 1 agents 1 messages 0\niteration 2 agents 1 messages 0\n||{\"states\":{\"itno\":1,\"environment\":{},\"agents\":[{\"name\":\"A\",\"memory\":{\"x\":1}}],\"boards\":[]}}\n";
+
+/// One whose second put fails.
+const FAILED: &str =
+    "6 1|iteration 1 agents 1 messages 0\n|write fault: o2.json\n|{\"states\":{\"itno\":1,\"environment\":{},\"agents\":[{\"name\":\"A\",\"memory\":{\"x\":1}}],\"boards\":[]}}\n";
 
 /// A depot with these inputs, of which the listed calls fail.
 fn inputs(alloc: Global, fails: &[u64]) -> Result<MemDepot, Fail> {
@@ -47,38 +51,38 @@ fn run<Rt: Threads + Wait + Sync, S: Sink>(
     Ok(flame(rt, alloc, words.as_slice(), depot, out, err, &OpenGate))
 }
 
-#[test]
-fn a_run_writes_and_prints(rt: HostRuntime) -> Result<(), Fail> {
-    let alloc = rt.alloc();
-    let mut depot = inputs(alloc, &[])?;
+/// What such a run over devices in memory answers and leaves: status, number of files, output, err, and the first file.
+fn outcome<Rt: Threads + Wait + Sync>(
+    rt: &Rt,
+    alloc: Global,
+    fails: &[u64],
+) -> Result<String, Fail> {
+    let mut depot = inputs(alloc, fails)?;
     let mut out = MemSink::new(alloc, Vec::new(alloc));
     let mut err = MemSink::new(alloc, Vec::new(alloc));
-    let ended = run(&rt, alloc, &mut depot, &mut out, &mut err)?;
-    assert_eq!(rt; (ended.status, ended.files), (0, 2));
-    assert_eq!(rt;
-        out.bytes(),
-        b"iteration 1 agents 1 messages 0\niteration 2 agents 1 messages 0\n".as_slice()
-    );
-    assert_eq!(rt; err.bytes(), b"".as_slice());
-    assert_eq!(rt; depot.get("o1.json"), Some(FIRST.as_bytes()));
+    let Ended { status, files } = run(rt, alloc, &mut depot, &mut out, &mut err)?;
+    let output = text_of(out.bytes());
+    let error = text_of(err.bytes());
+    let file = text_of(depot.get("o1.json").unwrap_or(b"no file".as_slice()));
+    Ok(format!(in alloc; "{status} {files}|{output}|{error}|{file}")?)
+}
+
+fn text_of(bytes: &[u8]) -> &str {
+    str::from_utf8(bytes).unwrap_or("no text")
+}
+
+#[test]
+fn a_run_writes_and_prints(rt: HostRuntime) -> Result<(), Fail> {
+    let got = outcome(&rt, rt.alloc(), &[])?;
+    assert_eq!(rt; got.as_str(), RAN);
     Ok(())
 }
 
 #[test]
 fn a_put_that_fails_ends_the_run(rt: HostRuntime) -> Result<(), Fail> {
-    let alloc = rt.alloc();
     // The depot's calls 0 to 2 are reads, 3 and 4 are puts.
-    let mut depot = inputs(alloc, &[4])?;
-    let mut out = MemSink::new(alloc, Vec::new(alloc));
-    let mut err = MemSink::new(alloc, Vec::new(alloc));
-    let ended = run(&rt, alloc, &mut depot, &mut out, &mut err)?;
-    assert_eq!(rt; (ended.status, ended.files), (6, 1));
-    assert_eq!(rt;
-        out.bytes(),
-        b"iteration 1 agents 1 messages 0\n".as_slice()
-    );
-    assert_eq!(rt; err.bytes(), b"write fault: o2.json\n".as_slice());
-    assert_eq!(rt; depot.get("o1.json"), Some(FIRST.as_bytes()));
+    let got = outcome(&rt, rt.alloc(), &[4])?;
+    assert_eq!(rt; got.as_str(), FAILED);
     Ok(())
 }
 
@@ -118,8 +122,10 @@ fn want_of_memory_is_told_once(rt: HostRuntime) -> Result<(), Fail> {
         told: false,
     };
     let ended = run(&rt, alloc, &mut depot, &mut out, &mut err)?;
-    assert_eq!(rt; (ended.status, ended.files), (4, 1));
-    assert_eq!(rt; (out.writes, err.writes), (1, 1));
+    assert_eq!(rt;
+        (ended.status, ended.files, out.writes, err.writes),
+        (4, 1, 1, 1)
+    );
     assert!(rt; err.told);
     Ok(())
 }
