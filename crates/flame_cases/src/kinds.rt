@@ -1,27 +1,38 @@
 //! The calls that cases are of.
 
 use crate::case::Case;
-use crate::lexing;
+use crate::{lexing, running};
 use std::alloc::{AllocError, Global};
+use std::sync::Wait;
+use std::thread::Threads;
 
 /// A call.
 #[derive(Clone, Copy)]
 pub(crate) enum Kind {
     /// `flame_lex::lex`
     Lex,
+    /// `flame_top::flame`
+    Run,
 }
 
 /// The call that the file's folder names.
 pub(crate) fn kind_of(file: &str) -> Option<Kind> {
     match file.split('/').rev().nth(1)? {
         "lex" => Some(Kind::Lex),
+        "run" => Some(Kind::Run),
         _ => None,
     }
 }
 
 /// What the call answers to the case, as a text.
-pub(crate) fn answer(alloc: Global, kind: Kind, case: &Case) -> Result<String, AllocError> {
+pub(crate) fn answer(
+    rt: &(impl Threads + Wait + Sync),
+    alloc: Global,
+    kind: Kind,
+    case: &Case,
+) -> Result<String, AllocError> {
     match kind {
         Kind::Lex => lexing::answer(alloc, case),
+        Kind::Run => running::answer(rt, alloc, case),
     }
 }

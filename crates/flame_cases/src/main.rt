@@ -7,15 +7,17 @@
 mod case;
 mod kinds;
 mod lexing;
+mod running;
+mod watched;
 
 use case::{Case, read_cases};
-use flame_rows::NoMemory;
 use kinds::{Kind, answer, kind_of};
 use std::alloc::Global;
-use std::fs;
 use std::process::ExitCode;
 use std::rt::{Env, Files};
-use std::{env, io};
+use std::sync::Wait;
+use std::thread::Threads;
+use std::{env, fs, io};
 
 /// How many cases a file had, and how many of them differ.
 #[derive(Clone, Copy)]
@@ -25,8 +27,13 @@ struct Tally {
 }
 
 /// One case of a kind: what is wanted and what comes. Tells whether they agree.
-fn agrees(rt: &(impl Print + AllocGlobal), file: &str, kind: Kind, case: &Case) -> io::Result<bool> {
-    let came = answer(rt.alloc(), kind, case)?;
+fn agrees(
+    rt: &(impl Print + AllocGlobal + Threads + Wait + Sync),
+    file: &str,
+    kind: Kind,
+    case: &Case,
+) -> io::Result<bool> {
+    let came = answer(rt, rt.alloc(), kind, case)?;
     if came.as_bytes() == case.bytes("wants") {
         return Ok(true);
     }
@@ -37,8 +44,16 @@ fn agrees(rt: &(impl Print + AllocGlobal), file: &str, kind: Kind, case: &Case) 
 }
 
 /// The cases of a file, one after another.
-fn try_text(rt: &(impl Print + AllocGlobal), file: &str, kind: Kind, text: &str) -> io::Result<Tally> {
-    let mut tally = Tally { cases: 0, differ: 0 };
+fn try_text(
+    rt: &(impl Print + AllocGlobal + Threads + Wait + Sync),
+    file: &str,
+    kind: Kind,
+    text: &str,
+) -> io::Result<Tally> {
+    let mut tally = Tally {
+        cases: 0,
+        differ: 0,
+    };
     for case in &read_cases(rt.alloc(), text)? {
         tally.cases = tally.cases.saturating_add(1);
         if !agrees(rt, file, kind, case)? {
@@ -49,7 +64,10 @@ fn try_text(rt: &(impl Print + AllocGlobal), file: &str, kind: Kind, text: &str)
 }
 
 /// A file of cases. Tells whether all agree, and `None` where it cannot be used.
-fn try_file(rt: &(impl Print + Files + AllocGlobal), file: &str) -> io::Result<Option<bool>> {
+fn try_file(
+    rt: &(impl Print + Files + AllocGlobal + Threads + Wait + Sync),
+    file: &str,
+) -> io::Result<Option<bool>> {
     let Some(kind) = kind_of(file) else {
         println!(rt; "{file}: its folder names no call")?;
         return Ok(None);
@@ -67,7 +85,9 @@ fn try_file(rt: &(impl Print + Files + AllocGlobal), file: &str) -> io::Result<O
 }
 
 /// All files that the words name, in order.
-fn try_all(rt: &(impl Print + Files + Env + AllocGlobal)) -> io::Result<ExitCode> {
+fn try_all(
+    rt: &(impl Print + Files + Env + AllocGlobal + Threads + Wait + Sync),
+) -> io::Result<ExitCode> {
     let mut status = 0;
     for word in env::args(rt)?.skip(1) {
         match try_file(rt, word.as_str())? {
