@@ -44,9 +44,20 @@ impl Case {
         str::from_utf8(self.bytes(title)).unwrap_or("")
     }
 
-    /// Goes on with a line of the file. What follows `|` is a line of the section, what follows `>` its last one without a
-    /// line feed; what follows `%` are bytes, as pairs of hexadecimal digits. An empty line is passed over, and another
-    /// line is the title of a section.
+    /// The lines of the first section of this title.
+    pub(crate) fn lines(&self, alloc: Global, title: &str) -> Result<Vec<String>, AllocError> {
+        let mut lines = Vec::new(alloc);
+        if let Some(text) = self.text(title).strip_suffix("\n") {
+            for line in text.split('\n') {
+                lines.push(String::from_str(alloc, line)?)?;
+            }
+        }
+        Ok(lines)
+    }
+
+    /// Goes on with a line of the file. What follows `|` is a line of the section, what follows `>` its last one
+    /// without a line feed; what follows `%` are bytes, as pairs of hexadecimal digits. An empty line is passed over,
+    /// and another line is the title of a section.
     fn read(&mut self, alloc: Global, line: &str) -> Result<(), AllocError> {
         if let Some(name) = line.strip_prefix("case ") {
             self.name.push_str(name)?;

@@ -1,7 +1,7 @@
 //! The calls that cases are of.
 
 use crate::case::Case;
-use crate::{lexing, running};
+use crate::{lexing, ordering, running};
 use std::alloc::{AllocError, Global};
 use std::sync::Wait;
 use std::thread::Threads;
@@ -13,6 +13,8 @@ pub(crate) enum Kind {
     Lex,
     /// `flame_top::flame`
     Run,
+    /// `flame_words::order`
+    Words,
 }
 
 /// The call that the file's folder names.
@@ -20,6 +22,7 @@ pub(crate) fn kind_of(file: &str) -> Option<Kind> {
     match file.split('/').rev().nth(1)? {
         "lex" => Some(Kind::Lex),
         "run" => Some(Kind::Run),
+        "words" => Some(Kind::Words),
         _ => None,
     }
 }
@@ -34,5 +37,6 @@ pub(crate) fn answer(
     match kind {
         Kind::Lex => lexing::answer(alloc, case),
         Kind::Run => running::answer(rt, alloc, case),
+        Kind::Words => ordering::answer(alloc, case),
     }
 }

@@ -1,12 +1,13 @@
 //! Makes the calls that files of cases name, and compares what they answer with what is wanted.
 //!
-//! Each word is a file of cases; the folder that it lies in names the call. A case that differs is printed with what was
-//! wanted and what came. The status is 0 where none differs, 1 where one does, and 2 where a file cannot be used.
+//! Each word is a file of cases; the folder that it lies in names the call. A case that differs is printed with what
+//! was wanted and what came. The status is 0 where none differs, 1 where one does, and 2 where a file cannot be used.
 #![tactic(auto)]
 
 mod case;
 mod kinds;
 mod lexing;
+mod ordering;
 mod running;
 mod watched;
 

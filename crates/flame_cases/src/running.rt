@@ -26,17 +26,6 @@ fn numbers(alloc: Global, text: &str) -> Result<Vec<u64>, AllocError> {
     Ok(numbers)
 }
 
-/// The words of a section, one a line.
-fn words(alloc: Global, text: &str) -> Result<Vec<String>, AllocError> {
-    let mut words = Vec::new(alloc);
-    if let Some(lines) = text.strip_suffix("\n") {
-        for line in lines.split('\n') {
-            words.push(String::from_str(alloc, line)?)?;
-        }
-    }
-    Ok(words)
-}
-
 /// These bytes, and spaces up to this length.
 fn padded(alloc: Global, bytes: &[u8], length: usize) -> Result<Vec<u8>, AllocError> {
     let mut all = Vec::from_slice(alloc, bytes)?;
@@ -116,7 +105,7 @@ pub(crate) fn answer<Rt: Threads + Wait + Sync>(
     alloc: Global,
     case: &Case,
 ) -> Result<String, AllocError> {
-    let words = words(alloc, case.text("words"))?;
+    let words = case.lines(alloc, "words")?;
     let mut depot = Watched::new(alloc, depot_of(alloc, case)?);
     let mut out = sink_of(alloc, case, "fails out")?;
     let mut err = sink_of(alloc, case, "fails err")?;
