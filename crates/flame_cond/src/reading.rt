@@ -5,8 +5,8 @@ ghost use Rattle.flame_spec.specs.Columns.{width};
 ghost use Rattle.flame_spec.specs.Conditions.{IsReadable};
 ghost use Rattle.flame_cond.specs.Tests.{names, SaysOperand, SaysTruth};
 
-use crate::names::{column, period};
 use crate::forms::{Term, Test};
+use crate::names::{column, period};
 use flame_rows::{NoMemory, Part};
 use flame_spec::{Condition, Operand, TimeUnit, Variable};
 use std::alloc::Global;
