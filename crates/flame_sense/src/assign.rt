@@ -13,7 +13,8 @@ use crate::scene::{Local, Open, Setting, State, newest};
 use crate::words::{Form, column_where};
 use flame_ops::apply;
 use flame_rows::NoMemory;
-use flame_spec::{Assign, Expr, Fault, Item};
+use flame_spec::Fault;
+use flame_spec::{Assign, Expr, Item};
 
 /// The initial value of a local.
 fn initial(

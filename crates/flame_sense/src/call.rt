@@ -13,8 +13,12 @@ use crate::ending::Ending;
 use crate::expression::value;
 use crate::scene::{Open, Setting, State, number_at};
 use crate::words::{Form, width_of};
-use flame_rows::{NoMemory, Row};
-use flame_spec::{AgentType, Born, Expr, Fault, MessageType, Sent, Variable};
+use flame_rows::NoMemory;
+use flame_rows::Row;
+use flame_spec::Fault;
+use flame_spec::{AgentType, MessageType, Variable};
+use flame_spec::{Born, Sent};
+use flame_spec::Expr;
 use std::alloc::Global;
 
 /// The values of the arguments, from left to right, or the first fault.

@@ -7,7 +7,8 @@ ghost use Rattle.flame_sense.specs.Steps.{setting_of, state_of};
 
 use crate::scene::{Open, Setting, State};
 use flame_ops::{Cause, apply, negate};
-use flame_spec::{Expr, Fault, Link, Sign, SignKind};
+use flame_spec::Fault;
+use flame_spec::{Expr, Link, Sign, SignKind};
 
 /// The fault of an operator has the operator's line.
 pub(crate) fn at_line(line: u32, outcome: Result<i32, Cause>) -> Result<i32, Fault>

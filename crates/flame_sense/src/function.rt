@@ -7,7 +7,8 @@ ghost use Rattle.flame_spec.specs.Functions.{functions};
 ghost use Rattle.flame_sense.specs.Outcomes.{definitions, body_of};
 ghost use Rattle.flame_sense.specs.Steps.{placed, found_function, body_in};
 
-use flame_spec::{AgentType, Def, Function, Model, Stmt, Unit};
+use flame_spec::{AgentType, Function, Model};
+use flame_spec::{Def, Stmt, Unit};
 
 /// The function of this number in document order, with its type.
 pub(crate) fn function_of(model: &Model, function: u32) -> Option<(&AgentType, &Function)>

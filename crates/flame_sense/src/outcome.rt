@@ -10,8 +10,12 @@ use crate::function::{body_of, function_of};
 use crate::reading::readings;
 use crate::scene::{Open, Setting, State};
 use crate::statement::statements;
-use flame_rows::{Bag, NoMemory, Row, Seq};
-use flame_spec::{AgentType, Effect, Function, Outcome, Source};
+use flame_rows::NoMemory;
+use flame_rows::Bag;
+use flame_rows::Row;
+use flame_rows::Seq;
+use flame_spec::{AgentType, Function};
+use flame_spec::{Effect, Outcome, Source};
 use std::alloc::Global;
 
 /// The outcome of a function that ended so, and left this.

@@ -10,7 +10,9 @@ use crate::call::message_where;
 use crate::filter::{reads, sorted};
 use crate::scene::Reading;
 use crate::words::Form;
-use flame_rows::{Bag, NoMemory, Row};
+use flame_rows::NoMemory;
+use flame_rows::Bag;
+use flame_rows::Row;
 use flame_spec::{AgentType, Input, MessageType, Model};
 use std::alloc::Global;
 

@@ -9,7 +9,8 @@ ghost use Rattle.flame_sense.specs.Steps.{is_written, reading_of, setting_of, st
 
 use crate::words::{Form, column_of, column_where};
 use flame_rows::Row;
-use flame_spec::{AgentType, Born, MessageType, Model, Sent};
+use flame_spec::{AgentType, MessageType, Model};
+use flame_spec::{Born, Sent};
 use std::alloc::Global;
 
 /// A message that the function reads, and the rows that a loop over it gives, in order.

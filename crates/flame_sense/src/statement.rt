@@ -18,7 +18,8 @@ use crate::expression::value;
 use crate::scene::{Open, Setting, State};
 use flame_ops::Cause;
 use flame_rows::NoMemory;
-use flame_spec::{Arm, Assign, Expr, Fault, Stmt};
+use flame_spec::Fault;
+use flame_spec::{Arm, Assign, Expr, Stmt};
 
 /// What a statement does.
 #[cycle(run)]

@@ -9,7 +9,8 @@ mod reader;
 mod scene;
 
 use crate::outcome::evaluate;
-use flame_rows::{NoMemory, Seq};
+use flame_rows::NoMemory;
+use flame_rows::Seq;
 use flame_spec::{Outcome, Source};
 use reader::unit;
 use scene::{boards, model, row};

@@ -3,7 +3,9 @@
 ghost use Rattle.std.specs.Prelude.{◌<◌};
 
 use flame_ops::Op;
-use flame_rows::{NoMemory, Seq, Text};
+use flame_rows::NoMemory;
+use flame_rows::Seq;
+use flame_rows::Text;
 use flame_spec::{Arm, Assign, Def, Expr, Head, Item, Link, Sign, SignKind, Stmt, Unit};
 use std::alloc::Global;
 

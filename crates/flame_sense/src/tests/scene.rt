@@ -3,10 +3,13 @@
 //! Messages are m, of k and v, and n, of v. Agents are A, of x and y, and B, of z. There is one constant, limit.
 
 use flame_ops::Op;
-use flame_rows::{Bag, NoMemory, Row, Seq, Text};
-use flame_spec::{
-    AgentType, Condition, Function, Input, MessageType, Model, Operand, Sort, Variable,
-};
+use flame_rows::NoMemory;
+use flame_rows::Bag;
+use flame_rows::Row;
+use flame_rows::Seq;
+use flame_rows::Text;
+use flame_spec::{Condition, Operand};
+use flame_spec::{AgentType, Function, Input, MessageType, Model, Sort, Variable};
 use std::alloc::Global;
 
 /// Reads m and n.
