@@ -39,18 +39,18 @@ use Rattle.flame_laws.proofs.UsedKnown.{used_declared}
 
 -- ---- tests
 
-left_true : (a b : Bool) → a && b ≡ true → a ≡ true
+pub left_true : (a b : Bool) → a && b ≡ true → a ≡ true
 left_true true b e = refl
 left_true false b e = cc
 
-right_true : (a b : Bool) → a && b ≡ true → b ≡ true
+pub right_true : (a b : Bool) → a && b ≡ true → b ≡ true
 right_true true b e = e
 right_true false b e = cc
 
 both_true : (a b : Bool) → a ≡ true → b ≡ true → a && b ≡ true
 both_true a b e f = cc
 
-all_at : {X : Type 0} (p : X → Bool) (xs : List X) (k : ℕ) (x : X)
+pub all_at : {X : Type 0} (p : X → Bool) (xs : List X) (k : ℕ) (x : X)
     → list_all p xs ≡ true
     → slice_get xs k ≡ Some x
     → p x ≡ true
@@ -158,7 +158,7 @@ units_formed model h =
     left_true (list_all is_well_formed_unit model.units) _
     (right_true (list_all is_filled model.files) _ (right_true (list_all is_name model.constants) _ h))
 
-agents_formed : (model : Model) → is_well_formed model ≡ true → list_all is_well_formed_agent model.agents ≡ true
+pub agents_formed : (model : Model) → is_well_formed model ≡ true → list_all is_well_formed_agent model.agents ≡ true
 agents_formed model h =
     right_true (list_all is_well_formed_message model.messages) _
     (right_true (list_all is_well_formed_unit model.units) _

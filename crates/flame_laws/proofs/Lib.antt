@@ -25,3 +25,4 @@ pub mod Periods
 pub mod Unseen
 pub mod UnseenStatements
 pub mod Columned
+pub mod Narrow

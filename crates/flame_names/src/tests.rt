@@ -2,7 +2,7 @@
 
 use crate::naming::names;
 use flame_rows::{Fail, NoMemory, Seq, Text};
-use flame_spec::{Model, NameKind};
+use flame_spec::Model;
 use std::alloc::Global;
 use std::test::Fail as Failed;
 
@@ -34,7 +34,7 @@ fn the_first_fault_is_named(rt: HostRuntime) -> Result<(), Failed> {
     let model = model(alloc, "x", "X")?;
     match names(alloc, &model) {
         Err(Fail::Fault(fault)) => {
-            assert!(rt; fault.kind == NameKind::Clash);
+            assert_eq!(rt; fault.kind.name(), "Clash");
             assert_eq!(rt; fault.path.as_str(), "/xmodel/environment/constants/1/name");
             assert_eq!(rt; fault.name.as_str(), "X");
         }

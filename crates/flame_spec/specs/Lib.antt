@@ -22,6 +22,7 @@ pub mod MessageFaults
 pub mod Leaves
 pub mod FunctionFaults
 pub mod NameFaults
+pub mod KindNames
 pub mod Conditions
 pub mod Views
 pub mod Choice

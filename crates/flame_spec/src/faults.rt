@@ -1,5 +1,8 @@
 //! Faults of transition functions, of names in models, and of the bodies in function files.
 
+ghost use Rattle.std.specs.Prelude.{◌≡◌};
+ghost use Rattle.flame_spec.specs.KindNames.{name_of_kind};
+
 use flame_ops::Cause;
 use flame_rows::Text;
 
@@ -49,6 +52,26 @@ pub enum NameKind {
     NotSingle,
     /// With this array the variables before it and it are wider than 4,096 numbers.
     TooWide,
+}
+
+impl NameKind {
+    /// The kind's name, as it is printed.
+    pub fn name(&self) -> &'static str
+        ensures { result.now ≡ name_of_kind self.now }
+    {
+        match self {
+            NameKind::Duplicate => "Duplicate",
+            NameKind::Clash => "Clash",
+            NameKind::UnknownMessage => "UnknownMessage",
+            NameKind::UnknownVariable => "UnknownVariable",
+            NameKind::UnknownUnit => "UnknownUnit",
+            NameKind::FunctionShared => "FunctionShared",
+            NameKind::RandomOrder => "RandomOrder",
+            NameKind::LongUnit => "LongUnit",
+            NameKind::NotSingle => "NotSingle",
+            NameKind::TooWide => "TooWide",
+        }
+    }
 }
 
 /// A place of the function files that cannot stand in a function of the model.

@@ -1,0 +1,9 @@
+-- Rows are as wide as they have variables.
+use Rattle.flame_laws.proofs.Narrow.{memory_narrow, message_narrow}
+use Rattle.flame_laws.proofs.accepted_laws.narrow_rows.Goals as goal
+
+pub returns-clause-memories : goal.returns-clause-memories
+returns-clause-memories c = memory_narrow
+
+pub returns-clause-messages : goal.returns-clause-messages
+returns-clause-messages c = message_narrow
