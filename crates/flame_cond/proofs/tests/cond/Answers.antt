@@ -3,7 +3,7 @@ use Rattle.flame_cond.proofs.tests.cond.Goals as goal
 
 pub of-requires-2 : goal.of-requires-2
 of-requires-2 c = record {
-  lengths = c.is_two-written.ensures _;
+  lengths = c.is_two-written.ensures c.no_units.result;
   periods = c.no_units.ensures;
   memory = search rules;
   message = search rules;
