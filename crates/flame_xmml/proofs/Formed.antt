@@ -1,6 +1,6 @@
 -- What a value without shape faults stands for is well formed.
 use Rattle.std.proofs.Common.{◌≡◌, ℕ, zero, suc, ◌+◌, ◌<◌, List, [], ◌∷◌, ◌++◌, map, Bool, true, false, cond, refl, sym, ap, ◌∙◌, subst, arith, rules, codes}
-use Rattle.std.proofs.Common.{Option, Some, None, not, ◌&&◌, true≢false}
+use Rattle.std.proofs.Common.{Option, Some, None, not, ◌&&◌}
 use Rattle.std.specs.Prelude.{ℤ, pos, is_some, is_none, unwrap_or, option_map, option_and_then, int_le}
 use Rattle.std.specs.List.{list_all}
 use Rattle.std.specs.Option.{option_map_or}
@@ -8,7 +8,7 @@ use Rattle.std.specs.Str.{bytes_eq}
 use Rattle.serde_json.specs.Data.{Data, null, boolean, number, string, array, object, depth}
 use Rattle.serde_json.specs.Find.{as_null, as_str}
 use Rattle.flame_ops.specs.declared.integers.Op.{Op}
-use Rattle.flame_ops.specs.declared.integers.Op.TheVariants.{Lt, Gt, Le, Ge, Eq, Ne}
+use Rattle.flame_ops.specs.declared.integers.Op.TheVariants.{Eq}
 use Rattle.flame_ops.specs.Integers.{is_int}
 use Rattle.flame_spec.specs.declared.conditions.Condition.{Condition, fold-Condition, the_lemmas}
 use Rattle.flame_spec.specs.declared.conditions.Condition.{Compare as comparison, And as conjunction}
@@ -31,14 +31,14 @@ use Rattle.flame_xmml.specs.declared.words.Connective.TheVariants.{Compare, And,
 use Rattle.flame_xmml.specs.ValueParts.{part, has, is_object, members, wanted, leaf, required, optional, object_faults, list_faults}
 use Rattle.flame_xmml.specs.Wants.{name_of, filled_of, int_of, positive_of, held, whole_of, either, after_prefix, name_after}
 use Rattle.flame_xmml.specs.Wants.{agent_named, message_named, number_named, operand_of, phase_of, connective_of, connective_named}
-use Rattle.flame_xmml.specs.ConditionShapes.{side_of, phase_at, duration_at, time_of, sides_of, condition_of, condition_faults}
-use Rattle.flame_xmml.specs.ConditionShapes.{condition_keys, condition_parts, sides_keys, time_keys}
+use Rattle.flame_xmml.specs.ConditionShapes.{side_of, time_of, sides_of, condition_of, condition_faults}
+use Rattle.flame_xmml.specs.ConditionShapes.{sides_keys, time_keys}
 use Rattle.flame_xmml.specs.ShapeFaults.{variable_faults, unit_faults, environment_faults, message_faults, sort_faults}
 use Rattle.flame_xmml.specs.ShapeFaults.{input_faults, output_faults, function_faults, agent_faults, xmodel_faults, shape_faults}
 use Rattle.flame_xmml.specs.ShapeFaults.{variable_keys, unit_keys, environment_keys, message_keys, sort_keys, input_keys}
 use Rattle.flame_xmml.specs.ShapeFaults.{output_keys, function_keys, agent_keys, xmodel_keys}
 use Rattle.flame_xmml.specs.LeafShapes.{file_faults}
-use Rattle.flame_xmml.specs.Models.{name_at, filled, filled_at, period_at, list_at, there, variable_of, unit_of, message_of}
+use Rattle.flame_xmml.specs.Models.{name_at, filled, period_at, list_at, there, variable_of, unit_of, message_of}
 use Rattle.flame_xmml.specs.Models.{sort_of, input_of, function_of, agent_of, model_of}
 use Rattle.flame_xmml.proofs.Layers.{part-depth, condition_faults-open, condition_of-open}
 

@@ -1,5 +1,5 @@
 -- Paths of places within a place.
-use Rattle.std.proofs.Common.{◌≡◌, ℕ, List, [], codes, Bool, true, Bor, refl, sym, ap, ◌∙◌}
+use Rattle.std.proofs.Common.{◌≡◌, ℕ, List, codes, Bool, true, Bor, refl, sym, ap, ◌∙◌}
 use Rattle.serde_json.specs.Data.{Data}
 use Rattle.flame_spec.specs.Paths.{root, at_key}
 use Rattle.flame_xmml.specs.declared.faults.Shape.{Shape}

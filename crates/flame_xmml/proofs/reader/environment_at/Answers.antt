@@ -4,7 +4,6 @@ use Rattle.flame_xmml.specs.ShapeFaults.{environment_faults}
 use Rattle.flame_xmml.specs.Models.{environment_of}
 use Rattle.flame_xmml.proofs.Firsts.{reads_along}
 use Rattle.flame_xmml.proofs.Paths.{optional-inside}
-use Rattle.flame_xmml.specs.declared.reader.Environment.{Environment}
 use Rattle.serde_json.specs.View.{view}
 use Rattle.flame_xmml.proofs.reader.environment_at.Goals as goal
 
