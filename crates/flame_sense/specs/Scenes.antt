@@ -1,89 +1,133 @@
--- What a function has before it while it runs, and what it changes.
-use Rattle.std.specs.Prelude.{ℕ, ℤ, pos, List, [], ◌∷◌, Option, Some, None, option_map, unwrap_or, if◌then◌else◌, find, Bool}
-use Rattle.std.specs.List.{position_from}
-use Rattle.std.specs.Option.{option_or}
+-- What a function has before it while it runs, what it changes, and what the words of its body stand for. A word goes by
+-- the look-up of its kind; what no accepted source has has a plain default, so that each function has an outcome.
+use Rattle.std.specs.Prelude.{ℕ, zero, suc, ◌+◌, ◌==◌, ℤ, pos, negsuc, nat_lt, List, [], ◌∷◌, Option, Some, None, is_some}
+use Rattle.std.specs.Prelude.{unwrap_or, if◌then◌else◌}
 use Rattle.std.specs.Str.{bytes_eq}
-use Rattle.flame_spec.specs.declared.models.Model.{Model}
-use Rattle.flame_spec.specs.declared.models.AgentType.{AgentType}
+use Rattle.flame_spec.specs.declared.faults.Fault.{Fault}
 use Rattle.flame_spec.specs.declared.models.MessageType.{MessageType}
+use Rattle.flame_spec.specs.declared.models.Variable.{Variable}
 use Rattle.flame_spec.specs.declared.outcomes.Sent.{Sent}
 use Rattle.flame_spec.specs.declared.outcomes.Born.{Born}
-use Rattle.flame_spec.specs.Columns.{column}
+use Rattle.flame_spec.specs.Columns.{width_of}
 use Rattle.flame_spec.specs.Conditions.{number_at}
-use Rattle.flame_sense.specs.Words.{is_capitals, is_get, is_row, is_iteration, column_where}
+use Rattle.flame_spec.specs.Definitions.{Definition}
+use Rattle.flame_spec.specs.ExpressionFaults.{member_read}
+use Rattle.flame_spec.specs.LookUps.{Given, in_memory, constant, iteration, memory_named, memory_got, message_read}
+use Rattle.flame_spec.specs.Scopes.{Context, memory_at, messages_at, given_at}
 
--- a message that the function reads, and the rows that a loop over it gives, in order
-pub record Reading : Type 0 where
-  pub message : MessageType
-  pub rows : List (List ℤ)
+-- ---- what it has before it
 
--- a message, and the row at which an open loop over it stands
+-- where a loop over a message stands: the number of the message, and its row [FLAME User Manual]
 pub record Current : Type 0 where
-  pub message : MessageType
+  pub message : ℕ
   pub row : List ℤ
 
--- what a function has before it and does not change: the model, the type of the agent, the constants, the number of the
--- iteration, what it reads, and where the open message loops stand, the innermost first
-pub record Setting : Type 0 where
-  pub model : Model
-  pub agent : AgentType
+-- how a call of a helper ends: with a value and the fuel that is left, or with a fault [C, 6.5.2.2; fuel: own]
+pub data Gave : Type 0 where
+  gave : ℤ → ℕ → Gave
+  failed : Fault → Gave
+
+-- how calls of helpers end, by the line of the call, the helper, the values of the arguments and the fuel [own]
+abbrev pub Calls : Type 0
+Calls = ℕ → Definition → List ℤ → ℕ → Gave
+
+-- what a body has before it and does not change: the model, the helpers and the function that runs, which a helper has
+-- none of; the constants; the number of the iteration; the rows that a loop over each input gives, in order; where the
+-- open loops over messages stand, from the inside; and how calls of helpers end [FLAME User Manual; helpers: C, 6.9.1]
+pub record Scene : Type 0 where
+  pub context : Context
   pub constants : List ℤ
   pub iteration : ℤ
-  pub readings : List Reading
+  pub readings : List (List (List ℤ))
   pub open_loops : List Current
+  pub calls : Calls
 
--- a local
+-- ---- what it changes
+
+-- a local [C, 6.2.1]
 pub record Local : Type 0 where
   pub name : List ℕ
   pub value : ℤ
 
--- what it changes: the memory, the visible locals, the newest first, the messages and births in the order in which they
--- were added, and the fuel
-pub record State : Type 0 where
+-- the memory; the visible locals, the newest first; the messages and births in the order in which they were added; and
+-- the fuel [FLAME User Manual; fuel: own]
+pub record Progress : Type 0 where
   pub memory : List ℤ
   pub locals : List Local
   pub sent : List Sent
   pub born : List Born
   pub fuel : ℕ
 
--- the value of the newest local of this name
+-- ---- names
+
+-- the value of the newest local of this name [C, 6.2.1]
 abbrev pub local_value : List ℕ → List Local → Option ℤ
 local_value word [] = None
 local_value word (local ∷ locals) =
     if bytes_eq local.name word then Some local.value else local_value word locals
 
--- the value of the memory variable whose name passes
-abbrev pub memory_value : (List ℕ → Bool) → Setting → State → Option ℤ
-memory_value passes setting s = option_map (number_at s.memory) (column_where passes setting.agent.memory)
+-- the value of what the model gives to a word; of nothing 0 [FLAME User Manual; of nothing: own]
+abbrev pub value_given : Option Given → Scene → Progress → ℤ
+value_given (Some (in_memory column variable)) scene s = number_at s.memory column
+value_given (Some (constant number)) scene s = number_at scene.constants number
+value_given (Some iteration) scene s = scene.iteration
+value_given None scene s = pos 0
 
--- the value of the constant whose name in capitals is the word
-abbrev pub constant_value : List ℕ → Setting → Option ℤ
-constant_value word setting = option_map (number_at setting.constants) (position_from (is_capitals word) 0 setting.model.constants)
+-- the value of a name: that of the newest local, or else of what the model gives to it [C, 6.2.1; FLAME User Manual]
+abbrev pub named : List ℕ → Scene → Progress → ℤ
+named word scene s = unwrap_or (local_value word s.locals) (value_given (given_at scene.context word) scene s)
 
--- the number of the iteration, where the word is `iteration_loop`
-abbrev pub iteration_value : List ℕ → Setting → Option ℤ
-iteration_value word setting = if is_iteration word then Some setting.iteration else None
+-- the array that a name is: the memory variable that it is in capitals, where no local has the name
+-- [C, 6.2.1; FLAME User Manual]
+abbrev pub array_named : List ℕ → Scene → Progress → Option (ℕ × Variable)
+array_named word scene s =
+    if is_some (local_value word s.locals) then None else memory_named (memory_at scene.context) word
 
--- what a name stands for: a local, or else `iteration_loop`, a memory variable in capitals or a constant in capitals;
--- a name that is none of them, which no accepted source has, counts as 0
-abbrev pub named : List ℕ → Setting → State → ℤ
-named word setting s =
-    unwrap_or
-    (option_or (local_value word s.locals)
-    (option_or (iteration_value word setting)
-    (option_or (memory_value (is_capitals word) setting s)
-    (constant_value word setting))))
-    (pos 0)
+-- the number of a row in a variable's column; of no variable 0 [own]
+abbrev pub value_found : Option (ℕ × Variable) → List ℤ → ℤ
+value_found None row = pos 0
+value_found (Some found) row = number_at row found.0
 
--- what `get_x()` gives
-abbrev pub got : List ℕ → Setting → State → ℤ
-got word setting s = unwrap_or (memory_value (is_get word) setting s) (pos 0)
+-- the value of `get_x()`: that of the memory variable x [FLAME User Manual]
+abbrev pub got : List ℕ → Scene → Progress → ℤ
+got word scene s = value_found (memory_got (memory_at scene.context) word) s.memory
 
--- a variable of the message at which a loop stands
-abbrev pub variable_of : List ℕ → Option Current → ℤ
-variable_of variable None = pos 0
-variable_of variable (Some current) = number_at current.row (column variable current.message.variables)
+-- ---- the message at which a loop stands
 
--- what `m_message->x` gives: the variable x of the message at which the innermost loop over m stands
-abbrev pub field_in : List ℕ → List ℕ → List Current → ℤ
-field_in word variable open_loops = variable_of variable (find (λ current. is_row word current.message.name) open_loops)
+-- the row of the innermost of these loops that is over the message; of none an empty one [FLAME User Manual; own]
+abbrev pub row_over : ℕ → List Current → List ℤ
+row_over message [] = []
+row_over message (current ∷ outer) = if current.message == message then current.row else row_over message outer
+
+-- the row of the message that was found, if one was [own]
+abbrev pub row_found : Option (ℕ × MessageType) → List Current → List ℤ
+row_found None open_loops = []
+row_found (Some found) open_loops = row_over found.0 open_loops
+
+-- the row that the word `m_message` reads [FLAME User Manual]
+abbrev pub row_read : List ℕ → Scene → List ℤ
+row_read word scene = row_found (message_read (messages_at scene.context) word) scene.open_loops
+
+-- the value of `m_message->x` [FLAME User Manual]
+abbrev pub field_value : List ℕ → List ℕ → Scene → ℤ
+field_value word variable scene = value_found (member_read scene.context word variable) (row_read word scene)
+
+-- ---- arrays
+
+-- the column of the element of this index, counted from 0, where the variable has one: an index is from 0 to the length
+-- less 1. A single variable counts as an array of length 1, and no variable has no element [C, 6.5.2.1; bounds: own]
+abbrev pub element_column : Option (ℕ × Variable) → ℤ → Option ℕ
+element_column None index = None
+element_column (Some found) (pos n) = if nat_lt n (width_of found.1) then Some (found.0 + n) else None
+element_column (Some found) (negsuc n) = None
+
+-- so many numbers of a row in order, from this column on [own]
+abbrev pub numbers_from : ℕ → ℕ → List ℤ → List ℤ
+numbers_from zero column row = []
+numbers_from (suc n) column row = number_at row column ∷ numbers_from n (column + 1) row
+
+-- what an argument stands for that names this variable of a row: its numbers in order; where it names none, its value
+-- [FLAME User Manual; own]
+abbrev pub numbers_of : Option (ℕ × Variable) → List ℤ → ℤ → List ℤ
+numbers_of None row value = value ∷ []
+numbers_of (Some found) row value = numbers_from (width_of found.1) found.0 row

@@ -1,179 +1,242 @@
 -- What statements do.
-use Rattle.std.specs.Prelude.{ℕ, zero, suc, ℤ, pos, List, [], ◌∷◌, ◌++◌, Option, Some, None, Result, Ok, Err, is_some, find, map, slice_set, if◌then◌else◌}
+use Rattle.std.specs.Prelude.{ℕ, zero, suc, ℤ, pos, List, [], ◌∷◌, ◌++◌, Option, Some, None, Result, Ok, is_some, map}
+use Rattle.std.specs.Prelude.{slice_set, slice_index_or, if◌then◌else◌}
 use Rattle.std.specs.Str.{bytes_eq}
 use Rattle.flame_ops.specs.declared.integers.Op.{Op}
 use Rattle.flame_ops.specs.Integers.{applied}
 use Rattle.flame_spec.specs.declared.faults.Fault.{Fault}
-use Rattle.flame_spec.specs.declared.models.MessageType.{MessageType}
 use Rattle.flame_spec.specs.declared.models.AgentType.{AgentType}
+use Rattle.flame_spec.specs.declared.models.Input.{Input}
+use Rattle.flame_spec.specs.declared.models.MessageType.{MessageType}
+use Rattle.flame_spec.specs.declared.models.Variable.{Variable}
+use Rattle.flame_spec.specs.CallFaults.{Deed, sets, sends, bears, calls, deed_of}
 use Rattle.flame_spec.specs.Columns.{width}
 use Rattle.flame_spec.specs.Conditions.{number_at}
-use Rattle.flame_spec.specs.Trees.{Expression, Expressions, no_parts, part, Declared, Assigned}
+use Rattle.flame_spec.specs.Definitions.{Definition, helper_named}
+use Rattle.flame_spec.specs.Functions.{Place}
+use Rattle.flame_spec.specs.LookUps.{memory_named, message_looped, input_of}
+use Rattle.flame_spec.specs.Scopes.{memory_at, messages_at}
+use Rattle.flame_spec.specs.Trees.{Expression, Stored, plain, called, Indexed, Declared, Assigned}
 use Rattle.flame_spec.specs.Trees.{Statement, empty, declare, assign, call, block, branch, while, for, do_while, loop_over, return, break, continue}
 use Rattle.flame_spec.specs.Trees.{Statements, no_more, also, Arms, no_arms, arm}
-use Rattle.flame_sense.specs.Words.{is_capitals, is_set, is_add_message, is_add_agent, column_where, numbered_where}
-use Rattle.flame_sense.specs.Scenes.{Setting, State, Local, Reading, Current, local_value, named}
-use Rattle.flame_sense.specs.Expressions.{on_value, at_line, holds, value_of}
-use Rattle.flame_sense.specs.Endings.{End, went_on, broke, continued, returned, with_value, with_values, on_to, in_scope}
+use Rattle.flame_sense.specs.Scenes.{Scene, Progress, Local, Current, local_value, named, array_named, element_column}
+use Rattle.flame_sense.specs.Expressions.{at_line, holds, bad_index, value_of, values_of}
+use Rattle.flame_sense.specs.Ends.{End, went_on, broke, continued, returned, faulted}
+use Rattle.flame_sense.specs.Ends.{with_value, with_values, after_call, on_to, in_scope}
 use Rattle.flame_sense.specs.Loops.{turn, loop, each_row}
+
+-- ---- values, which may be those of helpers
+
+-- a helper is called with these values; a word that names no helper gives 0 [C, 6.5.2.2; without one: own]
+abbrev pub helped :
+    Option (ℕ × Definition) → ℕ → List ℤ → Scene → Progress → (ℤ → Progress → End) → End
+helped None line values scene s go = go (pos 0) s
+helped (Some found) line values scene s go = after_call (scene.calls line found.1 values s.fuel) s go
+
+-- what is stored: the value of an expression, or what a helper returns for the values of its arguments
+-- [C, 6.5.16; C, 6.5.2.2]
+abbrev pub by_value : Stored → Scene → Progress → (ℤ → Progress → End) → End
+by_value (plain e) scene s go = with_value (value_of e scene s) (λ v. go v s)
+by_value (called line word arguments) scene s go =
+    with_values (values_of arguments scene s) (λ values.
+    helped (helper_named scene.context.helpers word) line values scene s go)
 
 -- ---- declarations
 
--- the initial value of a local; without one it is 0
-abbrev pub initial : Option Expression → Setting → State → Result ℤ Fault
-initial None setting s = Ok (pos 0)
-initial (Some e) setting s = value_of e setting s
+-- the initial value of a local; without one it is 0 [C, 6.7.9; without one: own]
+abbrev pub by_initial : Option Stored → Scene → Progress → (ℤ → Progress → End) → End
+by_initial None scene s go = go (pos 0) s
+by_initial (Some value) scene s go = by_value value scene s go
 
--- the local is visible from here on
-abbrev pub with_local : List ℕ → ℤ → State → State
+-- the local is visible from here on [C, 6.2.1]
+abbrev pub with_local : List ℕ → ℤ → Progress → Progress
 with_local name v s = record s { locals = record { name = name; value = v } ∷ s.locals }
 
--- the items in order; an item's own name is not visible in its value
-abbrev pub declarations : List Declared → Setting → State → End
-declarations [] setting s = went_on s
-declarations (item ∷ items) setting s =
-    with_value (initial item.value setting s) (λ v. declarations items setting (with_local item.name v s))
+-- the items in order; an item's own name is not visible in its value [C, 6.7; an item in its own value: own]
+abbrev pub declarations : List Declared → Scene → Progress → End
+declarations [] scene s = went_on s
+declarations (item ∷ items) scene s =
+    by_initial item.value scene s (λ v t. declarations items scene (with_local item.name v t))
 
--- ---- assignments
+-- ---- what assignments store
 
--- the newest local of this name has the value
+-- the newest local of this name has the value [C, 6.5.16]
 abbrev pub set_local : List ℕ → ℤ → List Local → List Local
 set_local word v [] = []
 set_local word v (local ∷ locals) =
     if bytes_eq local.name word then record { name = local.name; value = v } ∷ locals
     else local ∷ set_local word v locals
 
--- the memory has the value in this column
-abbrev pub set_memory : Option ℕ → ℤ → State → State
-set_memory None v s = s
-set_memory (Some column) v s = record s { memory = slice_set s.memory column v }
+-- the memory has the value in this column [FLAME User Manual]
+abbrev pub set_column : ℕ → ℤ → Progress → Progress
+set_column column v s = record s { memory = slice_set s.memory column v }
 
--- the local of this name has the value, or else the memory variable of this name in capitals; a name that is neither,
--- which no accepted source assigns to, leaves all as it was
-abbrev pub stored : List ℕ → ℤ → Setting → State → State
-stored word v setting s =
+-- the memory has the value in the column of the variable that was found; without one all is as it was
+-- [FLAME User Manual; without one: own]
+abbrev pub set_found : Option (ℕ × Variable) → ℤ → Progress → Progress
+set_found None v s = s
+set_found (Some found) v s = set_column found.0 v s
+
+-- the newest local of this name has the value, or else the memory variable that it is in capitals
+-- [C, 6.5.16; FLAME User Manual]
+abbrev pub set_name : List ℕ → ℤ → Scene → Progress → Progress
+set_name word v scene s =
     if is_some (local_value word s.locals) then record s { locals = set_local word v s.locals }
-    else set_memory (column_where (is_capitals word) setting.agent.memory) v s
+    else set_found (memory_named (memory_at scene.context) word) v s
 
--- `x = e` gives the value of e, and `x += e` what the operator gives for x and e
-abbrev pub assigned_value : Option Op → Assigned → Setting → State → Result ℤ Fault
-assigned_value None a setting s = value_of a.value setting s
-assigned_value (Some op) a setting s =
-    on_value (value_of a.value setting s) (λ v. at_line a.op_line (applied op (named a.name setting s) v))
+-- ---- assignments
 
-abbrev pub assignment : Assigned → Setting → State → End
-assignment a setting s = with_value (assigned_value a.op a setting s) (λ v. went_on (stored a.name v setting s))
+-- the column of an element goes on; where there is no such element, the fault has the line of the bracket [own]
+abbrev pub with_column : ℕ → Option ℕ → (ℕ → End) → End
+with_column line None go = faulted (bad_index line)
+with_column line (Some column) go = go column
+
+-- `x = v`: the value, then the store [C, 6.5.16.1]
+abbrev pub name_set : Assigned → Scene → Progress → End
+name_set a scene s = by_value a.value scene s (λ v t. went_on (set_name a.name v scene t))
+
+-- `x op= v`: the left side is read first, then comes the value, then the operator, then the store
+-- [C, 6.5.16.2; order: own]
+abbrev pub name_changed : Op → Assigned → Scene → Progress → End
+name_changed op a scene s =
+    by_value a.value scene s (λ v t.
+    with_value (at_line a.op_line (applied op (named a.name scene s) v)) (λ w.
+    went_on (set_name a.name w scene t)))
+
+-- `x[e] = v`: the index, then the value, then the test of the index, then the store [C, 6.5.16.1; order: own]
+abbrev pub element_set : Indexed → Assigned → Scene → Progress → End
+element_set place a scene s =
+    with_value (value_of place.index scene s) (λ i.
+    by_value a.value scene s (λ v t.
+    with_column place.line (element_column (array_named a.name scene s) i) (λ column.
+    went_on (set_column column v t))))
+
+-- `x[e] op= v`: the index, then its test, then the element, then the value, then the operator, then the store
+-- [C, 6.5.16.2; order: own]
+abbrev pub element_changed : Indexed → Op → Assigned → Scene → Progress → End
+element_changed place op a scene s =
+    with_value (value_of place.index scene s) (λ i.
+    with_column place.line (element_column (array_named a.name scene s) i) (λ column.
+    by_value a.value scene s (λ v t.
+    with_value (at_line a.op_line (applied op (number_at s.memory column) v)) (λ w.
+    went_on (set_column column w t)))))
+
+-- an assignment by its form [own]
+abbrev pub assigned_by : Option Indexed → Option Op → Assigned → Scene → Progress → End
+assigned_by None None a scene s = name_set a scene s
+assigned_by None (Some op) a scene s = name_changed op a scene s
+assigned_by (Some place) None a scene s = element_set place a scene s
+assigned_by (Some place) (Some op) a scene s = element_changed place op a scene s
+
+-- an assignment [C, 6.5.16]
+abbrev pub assignment : Assigned → Scene → Progress → End
+assignment a scene s = assigned_by a.subscript a.op a scene s
 
 -- ---- calls
 
--- a value and the values behind it, or the first fault
-abbrev pub value_and : Result ℤ Fault → Result (List ℤ) Fault → Result (List ℤ) Fault
-value_and (Err fault) more = Err fault
-value_and (Ok v) (Err fault) = Err fault
-value_and (Ok v) (Ok vs) = Ok (v ∷ vs)
-
--- the values of the arguments, from left to right
-abbrev pub values_of : Expressions → Setting → State → Result (List ℤ) Fault
-values_of no_parts setting s = Ok []
-values_of (part e parts) setting s = value_and (value_of e setting s) (values_of parts setting s)
-
--- a row of this width: the values in order. An accepted source gives as many as the row is wide; further ones would be
--- cut off, and missing ones 0
+-- a row of this width: the values in order. An accepted source gives as many as the row is wide; further ones are cut
+-- off, and missing ones are 0 [own]
 abbrev pub fitted : ℕ → List ℤ → List ℤ
 fitted zero values = []
 fitted (suc n) [] = pos 0 ∷ fitted n []
 fitted (suc n) (v ∷ values) = v ∷ fitted n values
 
--- `set_x(e)` sets the memory variable x
-abbrev pub set_by : List ℕ → List ℤ → Setting → State → State
-set_by word values setting s =
-    set_memory (column_where (is_set word) setting.agent.memory) (number_at values 0) s
+-- the message stands behind those that were added before [FLAME User Manual]
+abbrev pub with_message : ℕ → MessageType → List ℤ → Progress → Progress
+with_message number message values s =
+    record s { sent = s.sent ++ record { message = number; row = fitted (width message.variables) values } ∷ [] }
 
--- the message is added behind those that were added before
-abbrev pub with_message : Option (ℕ × MessageType) → List ℤ → State → State
-with_message None values s = s
-with_message (Some found) values s =
-    record s { sent = s.sent ++ record { message = found.0; row = fitted (width found.1.variables) values } ∷ [] }
+-- the agent stands behind those that were added before [FLAME User Manual]
+abbrev pub with_birth : ℕ → AgentType → List ℤ → Progress → Progress
+with_birth number type values s =
+    record s { born = s.born ++ record { agent = number; row = fitted (width type.memory) values } ∷ [] }
 
--- `add_m_message(e1, e2)` adds a message m
-abbrev pub send_by : List ℕ → List ℤ → Setting → State → State
-send_by word values setting s =
-    with_message (numbered_where (λ message. is_add_message word message.name) 0 setting.model.messages) values s
-
--- the agent is added behind those that were added before
-abbrev pub with_birth : Option (ℕ × AgentType) → List ℤ → State → State
-with_birth None values s = s
-with_birth (Some found) values s =
-    record s { born = s.born ++ record { agent = found.0; row = fitted (width found.1.memory) values } ∷ [] }
-
--- `add_a_agent(e1, e2)` adds an agent of the type a
-abbrev pub bear_by : List ℕ → List ℤ → Setting → State → State
-bear_by word values setting s =
-    with_birth (numbered_where (λ agent. is_add_agent word agent.name) 0 setting.model.agents) values s
-
--- what a call does, by its word: at most one of the three, since no word is of two kinds
-abbrev pub called : List ℕ → List ℤ → Setting → State → State
-called word values setting s = bear_by word values setting (send_by word values setting (set_by word values setting s))
+-- what a call statement on this line does with the values of its arguments: it sets a memory variable to the first, sends
+-- a message, bears an agent, or calls a helper, whose value counts for nothing; a word that is none of these does nothing
+-- [FLAME User Manual; C, 6.8.3; nothing: own]
+abbrev pub done : Option Deed → ℕ → List ℤ → Scene → Progress → End
+done None line values scene s = went_on s
+done (Some (sets column variable)) line values scene s = went_on (set_column column (number_at values 0) s)
+done (Some (sends number message)) line values scene s = went_on (with_message number message values s)
+done (Some (bears number type)) line values scene s = went_on (with_birth number type values s)
+done (Some (calls number helper)) line values scene s =
+    after_call (scene.calls line helper values s.fuel) s (λ v t. went_on t)
 
 -- ---- loops
 
--- the test of a `for`; without one it always holds
-abbrev pub test_value : Option Expression → Setting → State → Result ℤ Fault
-test_value None setting s = Ok (pos 1)
-test_value (Some e) setting s = value_of e setting s
+-- the test of a `for`; without one it always holds [C, 6.8.5.3]
+abbrev pub test_value : Option Expression → Scene → Progress → Result ℤ Fault
+test_value None scene s = Ok (pos 1)
+test_value (Some e) scene s = value_of e scene s
 
--- the step of a `for`, if it has one
-abbrev pub step_of : Option Assigned → Setting → State → End
-step_of None setting s = went_on s
-step_of (Some a) setting s = assignment a setting s
+-- the step of a `for`, if it has one [C, 6.8.5.3]
+abbrev pub step_of : Option Assigned → Scene → Progress → End
+step_of None scene s = went_on s
+step_of (Some a) scene s = assignment a scene s
 
-abbrev pub rows_of : Option Reading → List Current
-rows_of None = []
-rows_of (Some reading) = map (λ row. record { message = reading.message; row = row }) reading.rows
+-- the input by which the function that runs reads the message that was found [XMML]
+abbrev pub input_for : Option Place → Option (ℕ × MessageType) → Option (ℕ × Input)
+input_for None message = None
+input_for (Some place) None = None
+input_for (Some place) (Some message) = input_of place.function message.1
 
--- the rows of a loop whose START has this word: those of the message that is the word in capitals, among the messages
--- that the function reads; none where it reads no such message, as in no accepted source
-abbrev pub loop_rows : List ℕ → Setting → List Current
-loop_rows word setting = rows_of (find (λ reading. is_capitals word reading.message.name) setting.readings)
+-- the rows of this input; of none there are none [own]
+abbrev pub rows_of : Option (ℕ × Input) → Scene → List (List ℤ)
+rows_of None scene = []
+rows_of (Some input) scene = slice_index_or scene.readings input.0 []
 
--- inside a loop that stands at this row
-abbrev pub inside : Current → Setting → Setting
-inside current setting = record setting { open_loops = current ∷ setting.open_loops }
+-- where a loop over the message that was found stands, turn by turn [FLAME User Manual]
+abbrev pub currents_of : Option (ℕ × MessageType) → List (List ℤ) → List Current
+currents_of None rows = []
+currents_of (Some message) rows = map (λ row. record { message = message.0; row = row }) rows
 
--- ---- statements; each body is a scope
+-- the turns of a loop over this message: the rows of the input by which the function reads it [FLAME User Manual]
+abbrev pub currents_over : Option (ℕ × MessageType) → Scene → List Current
+currents_over message scene = currents_of message (rows_of (input_for scene.context.runs message) scene)
+
+-- the turns of a loop that is named so [FLAME User Manual]
+abbrev pub loop_currents : List ℕ → Scene → List Current
+loop_currents word scene = currents_over (message_looped (messages_at scene.context) word) scene
+
+-- inside a loop that stands at this row [FLAME User Manual]
+abbrev pub inside : Current → Scene → Scene
+inside current scene = record scene { open_loops = current ∷ scene.open_loops }
+
+-- ---- statements
 
 abbrev mutual
-  pub meaning : Statement → Setting → State → End
-  meaning empty setting s = went_on s
-  meaning (declare items) setting s = declarations items setting s
-  meaning (assign a) setting s = assignment a setting s
-  meaning (call line word arguments) setting s =
-      with_values (values_of arguments setting s) (λ values. went_on (called word values setting s))
-  meaning (block body) setting s = in_scope (meanings body setting) s
-  meaning (branch tests otherwise) setting s = first_arm tests (in_scope (meanings otherwise setting)) setting s
-  meaning (while line test body) setting s =
-      loop line (test_value (Some test) setting) (in_scope (meanings body setting)) (step_of None setting) s
-  meaning (for line first test step body) setting s =
+  -- a statement; each body is a scope [C, 6.8; `loop_over`: FLAME User Manual]
+  pub meaning : Statement → Scene → Progress → End
+  meaning empty scene s = went_on s
+  meaning (declare items) scene s = declarations items scene s
+  meaning (assign a) scene s = assignment a scene s
+  meaning (call line word arguments) scene s =
+      with_values (values_of arguments scene s) (λ values. done (deed_of scene.context word) line values scene s)
+  meaning (block body) scene s = in_scope (meanings body scene) s
+  meaning (branch tests otherwise) scene s = first_arm tests (in_scope (meanings otherwise scene)) scene s
+  meaning (while line test body) scene s =
+      loop line (test_value (Some test) scene) (in_scope (meanings body scene)) (step_of None scene) s
+  meaning (for line first test step body) scene s =
       in_scope (λ t.
-      on_to (meanings first setting t)
-      (loop line (test_value test setting) (in_scope (meanings body setting)) (step_of step setting))) s
-  meaning (do_while line body test) setting s =
-      turn line (in_scope (meanings body setting))
-      (loop line (test_value (Some test) setting) (in_scope (meanings body setting)) (step_of None setting)) s
-  meaning (loop_over line word body end_line end_word) setting s =
-      each_row line (λ current. in_scope (meanings body (inside current setting))) (loop_rows word setting) s
-  meaning (return e) setting s = with_value (value_of e setting s) (λ v. returned v s)
-  meaning (break line) setting s = broke s
-  meaning (continue line) setting s = continued s
+      on_to (meanings first scene t)
+      (loop line (test_value test scene) (in_scope (meanings body scene)) (step_of step scene))) s
+  meaning (do_while line body test) scene s =
+      turn line (in_scope (meanings body scene))
+      (loop line (test_value (Some test) scene) (in_scope (meanings body scene)) (step_of None scene)) s
+  meaning (loop_over line word body end_line end_word) scene s =
+      each_row line (λ current. in_scope (meanings body (inside current scene))) (loop_currents word scene) s
+  meaning (return e) scene s = with_value (value_of e scene s) (λ v. returned v s)
+  meaning (break line) scene s = broke s
+  meaning (continue line) scene s = continued s
 
-  -- one after another
-  pub meanings : Statements → Setting → State → End
-  meanings no_more setting s = went_on s
-  meanings (also statement more) setting s = on_to (meaning statement setting s) (meanings more setting)
+  -- one after another [C, 6.8.2]
+  pub meanings : Statements → Scene → Progress → End
+  meanings no_more scene s = went_on s
+  meanings (also statement more) scene s = on_to (meaning statement scene s) (meanings more scene)
 
-  -- the body of the first test that holds, and where none does what stands behind `else`
-  pub first_arm : Arms → (State → End) → Setting → State → End
-  first_arm no_arms otherwise setting s = otherwise s
-  first_arm (arm test body more) otherwise setting s =
-      with_value (value_of test setting s) (λ v.
-      if holds v then in_scope (meanings body setting) s else first_arm more otherwise setting s)
+  -- the body of the first test that holds, and where none does what stands behind `else` [C, 6.8.4.1]
+  pub first_arm : Arms → (Progress → End) → Scene → Progress → End
+  first_arm no_arms otherwise scene s = otherwise s
+  first_arm (arm test body more) otherwise scene s =
+      with_value (value_of test scene s) (λ v.
+      if holds v then in_scope (meanings body scene) s else first_arm more otherwise scene s)
