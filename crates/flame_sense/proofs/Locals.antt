@@ -5,10 +5,9 @@ use Rattle.std.specs.Str.{bytes_eq}
 use Rattle.std.proofs.lemmas.List.{reverse-append, map-append, at_drop_more, take-append-drop, set_split, length-reverse, length-map}
 use Rattle.std.proofs.Math.Seq.{drop-append_seam}
 use Rattle.flame_sense.specs.declared.scene.Local as variable
-use Rattle.flame_sense.specs.Words.{is_capitals, column_where}
-use Rattle.flame_sense.specs.Scenes.{Setting, State, Local, local_value}
-use Rattle.flame_sense.specs.Statements.{set_local, set_memory, stored}
-use Rattle.flame_sense.specs.Steps.{local_of, visible, StandsAt}
+use Rattle.flame_sense.specs.Scenes.{Local, local_value}
+use Rattle.flame_sense.specs.Statements.{set_local}
+use Rattle.flame_sense.specs.StandsFor.{local_of, visible, StandsAt}
 
 pub visible-append : (xs ys : List variable.Local) → visible (xs ++ ys) ≡ visible ys ++ visible xs
 visible-append xs ys = ap reverse (map-append local_of xs ys) ∙ reverse-append (map local_of xs) (map local_of ys)
@@ -121,16 +120,3 @@ visible-take n locals =
     ∙ ap (λ l. drop (length (visible (drop n locals))) (visible l)) (sym (take-append-drop n locals))
     ∙ ap (drop (length (visible (drop n locals)))) (visible-append (take n locals) (drop n locals))
     ∙ drop-append_seam (visible (drop n locals)) (visible (take n locals)))
-
--- a store goes to the newest local of the name
-pub stored_there :
-    (word : List ℕ) (v : ℤ) (setting : Setting) (s : State) (locals : List variable.Local) (i : ℕ) (d x : variable.Local)
-    → StandsAt word locals i
-    → local_of x ≡ record { name = (get_or locals i d).name.now; value = v }
-    → s.locals ≡ visible locals
-    → record s { locals = visible (slice_set locals i x) } ≡ stored word v setting s
-stored_there word v setting s locals i d x at is has =
-    sym (ap (λ o. cond (is_some o) (record s { locals = set_local word v s.locals })
-    (set_memory (column_where (is_capitals word) setting.agent.memory) v s))
-    (ap (local_value word) has ∙ value_there word locals i d at)
-    ∙ ap (λ l. record s { locals = l }) (ap (set_local word v) has ∙ set_there word v locals i d x at is))

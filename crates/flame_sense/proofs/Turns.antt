@@ -1,19 +1,24 @@
 -- Fuel never rises, so a loop may be begun anew with what is left.
-use Rattle.std.proofs.Common.{◌≡◌, ◌≢◌, ℕ, zero, suc, ◌-◌, ◌<◌, ◌≤◌, refl, sym, ap, ◌∙◌, Bool, true, false, cond, Option, arith}
+use Rattle.std.proofs.Common.{◌≡◌, ◌≢◌, ℕ, zero, suc, ◌-◌, ◌<◌, ◌≤◌, List, [], refl, sym, ap, ◌∙◌, Bool, true, false, cond, Option, arith}
 use Rattle.std.specs.Prelude.{ℤ, Result, Ok, Err}
 use Rattle.flame_spec.specs.declared.faults.Fault.{Fault}
 use Rattle.flame_spec.specs.declared.models.Model.{Model}
+use Rattle.flame_spec.specs.Definitions.{Definition}
 use Rattle.flame_spec.specs.Trees.{Expression, Statements, Assigned}
-use Rattle.flame_sense.specs.Scenes.{Setting, State}
+use Rattle.flame_sense.specs.declared.scene.Open.{Open}
+use Rattle.flame_sense.specs.declared.scene.Scene as code
+use Rattle.flame_sense.specs.Scenes.{Scene, Progress, gave, Calls}
 use Rattle.flame_sense.specs.Expressions.{holds}
-use Rattle.flame_sense.specs.Endings.{End, went_on, broke, continued, returned, faulted, with_value, on_to, in_scope}
-use Rattle.flame_sense.specs.Loops.{out_of_fuel, pay_from, after_turn, turn, turns, loop}
+use Rattle.flame_sense.specs.Ends.{End, went_on, broke, continued, returned, faulted, no_fuel, with_value, on_to, in_scope}
+use Rattle.flame_sense.specs.Loops.{pay_from, after_turn, turn, turns, loop}
 use Rattle.flame_sense.specs.Statements.{test_value, meanings, step_of}
+use Rattle.flame_sense.specs.HelperCalls.{gives, entered, helper_scene, calls_within}
 use Rattle.flame_sense.specs.Kept.{IsKept, IsKeptByPaying, Leaves}
+use Rattle.flame_sense.specs.StandsFor.{scene_seen}
 use Rattle.flame_sense.proofs.Keeps.{scoped, statements_keep, step_keeps}
 
 -- no more fuel than before
-abbrev pub Falls : State → State → Type 0
+abbrev pub Falls : Progress → Progress → Type 0
 Falls s t = t.fuel ≤ s.fuel
 
 pub fuel_kept : (model : Model) → IsKept model Falls
@@ -22,20 +27,64 @@ fuel_kept model = record {
   joined = λ s t u h g. omega arith;
   locals = λ s locals. omega arith;
   memory = λ s column v. omega arith;
-  message = λ s passes found values e. omega arith;
-  birth = λ s passes found values e. omega arith;
+  message = λ s word found values e. omega arith;
+  birth = λ s word found values e. omega arith;
 }
 
-pub fuel_paid : IsKeptByPaying Falls
-fuel_paid = λ s fuel e. omega arith
+-- calls leave no more than there was
+abbrev pub Fall : Calls → Type 0
+Fall calls = IsKeptByPaying calls Falls
 
-pub body_falls : (body : Statements) (setting : Setting) (s : State) → Leaves Falls s (in_scope (meanings body setting) s)
-body_falls body setting s =
-    scoped setting.model Falls (fuel_kept setting.model) (meanings body setting)
-    (λ t. statements_keep setting.model Falls (fuel_kept setting.model) fuel_paid body setting t refl) s
+given_falls :
+    (s : Progress) (e : End) (v : ℤ) (fuel : ℕ)
+    → Leaves Falls s e
+    → gives e ≡ gave v fuel
+    → fuel ≤ s.fuel
+given_falls s (went_on t) v fuel h e = let same : t.fuel ≡ fuel = cc in omega (arith, h, same)
+given_falls s (broke t) v fuel h e = let same : t.fuel ≡ fuel = cc in omega (arith, h, same)
+given_falls s (continued t) v fuel h e = let same : t.fuel ≡ fuel = cc in omega (arith, h, same)
+given_falls s (returned w t) v fuel h e = let same : t.fuel ≡ fuel = cc in omega (arith, h, same)
+given_falls s (faulted fault) v fuel h e = cc
 
-pub step_falls : (step : Option Assigned) (setting : Setting) (s : State) → Leaves Falls s (step_of step setting s)
-step_falls step setting s = step_keeps setting.model Falls (fuel_kept setting.model) step setting s
+call_falls :
+    (levels : ℕ) (model : Model) (helpers : List Definition) (constants : List ℤ) (iteration : ℤ)
+    (line : ℕ) (helper : Definition) (values : List ℤ) (before : ℕ) (v : ℤ) (fuel : ℕ)
+    → calls_within levels model helpers constants iteration line helper values before ≡ gave v fuel
+    → fuel ≤ before
+call_falls levels model helpers constants iteration line helper values zero v fuel e = cc
+call_falls zero model helpers constants iteration line helper values (suc before) v fuel e = cc
+call_falls (suc levels) model helpers constants iteration line helper values (suc before) v fuel e =
+    let calls : Calls = calls_within levels model helpers constants iteration in
+    let scene : Scene = helper_scene model helpers constants iteration calls in
+    let s : Progress = entered helper.parameters values before in
+    let fall : Fall calls = record {
+      paid = λ t left e. omega arith;
+      called = λ t at other given w left e. call_falls levels model helpers constants iteration at other given t.fuel w left e;
+    } in
+    let less = given_falls s (meanings helper.body scene s) v fuel
+    (statements_keep model calls Falls (fuel_kept model) fall helper.body scene s
+    (record { same_model = refl; same_calls = refl })) e in
+    omega (arith, less)
+
+pub calls_fall :
+    (levels : ℕ) (model : Model) (helpers : List Definition) (constants : List ℤ) (iteration : ℤ)
+    → Fall (calls_within levels model helpers constants iteration)
+calls_fall levels model helpers constants iteration = record {
+  paid = λ s fuel e. omega arith;
+  called = λ s line helper values v fuel e.
+      call_falls levels model helpers constants iteration line helper values s.fuel v fuel e;
+}
+
+pub body_falls : (body : Statements) (scene : Scene) (s : Progress) → Fall scene.calls → Leaves Falls s (in_scope (meanings body scene) s)
+body_falls body scene s fall =
+    scoped scene.context.model scene.calls Falls (fuel_kept scene.context.model) fall (meanings body scene)
+    (λ t. statements_keep scene.context.model scene.calls Falls (fuel_kept scene.context.model) fall body scene t
+    (record { same_model = refl; same_calls = refl })) s
+
+pub step_falls : (step : Option Assigned) (scene : Scene) (s : Progress) → Fall scene.calls → Leaves Falls s (step_of step scene s)
+step_falls step scene s fall =
+    step_keeps scene.context.model scene.calls Falls (fuel_kept scene.context.model) fall step scene s
+    (record { same_model = refl; same_calls = refl })
 
 same_value :
     (r : Result ℤ Fault) (go other : ℤ → End)
@@ -49,9 +98,9 @@ same_bool b e f g h = ap (λ x. cond b x g) h
 
 -- what follows matters only with the fuel that is left
 same_onward :
-    (s : State) (e : End) (go other : State → End)
+    (s : Progress) (e : End) (go other : Progress → End)
     → Leaves Falls s e
-    → ((t : State) → t.fuel ≤ s.fuel → go t ≡ other t)
+    → ((t : Progress) → t.fuel ≤ s.fuel → go t ≡ other t)
     → on_to e go ≡ on_to e other
 same_onward s (went_on t) go other h k = k t h
 same_onward s (broke t) go other h k = refl
@@ -60,9 +109,9 @@ same_onward s (returned v t) go other h k = refl
 same_onward s (faulted fault) go other h k = refl
 
 same_turn_end :
-    (s : State) (e : End) (next other : State → End)
+    (s : Progress) (e : End) (next other : Progress → End)
     → Leaves Falls s e
-    → ((t : State) → t.fuel ≤ s.fuel → next t ≡ other t)
+    → ((t : Progress) → t.fuel ≤ s.fuel → next t ≡ other t)
     → after_turn e next ≡ after_turn e other
 same_turn_end s (went_on t) next other h k = k t h
 same_turn_end s (broke t) next other h k = refl
@@ -71,21 +120,21 @@ same_turn_end s (returned v t) next other h k = refl
 same_turn_end s (faulted fault) next other h k = refl
 
 same_paid :
-    (fuel line : ℕ) (s : State) (go other : State → End)
+    (fuel line : ℕ) (s : Progress) (go other : Progress → End)
     → s.fuel ≡ fuel
-    → ((t : State) → t.fuel < s.fuel → go t ≡ other t)
+    → ((t : Progress) → t.fuel < s.fuel → go t ≡ other t)
     → pay_from fuel line s go ≡ pay_from fuel line s other
 same_paid zero line s go other e k = refl
 same_paid (suc fuel) line s go other e k = k (record s { fuel = fuel }) (omega arith)
 
 module _
-    (line : ℕ) (test : State → Result ℤ Fault) (body step : State → End)
-    (body_keeps : (s : State) → Leaves Falls s (body s))
-    (step_falls_too : (s : State) → Leaves Falls s (step s)) where
+    (line : ℕ) (test : Progress → Result ℤ Fault) (body step : Progress → End)
+    (body_keeps : (s : Progress) → Leaves Falls s (body s))
+    (step_falls_too : (s : Progress) → Leaves Falls s (step s)) where
   -- a turn, and then what matters only with less fuel
   same_turn :
-      (s : State) (next other : State → End)
-      → ((t : State) → t.fuel < s.fuel → next t ≡ other t)
+      (s : Progress) (next other : Progress → End)
+      → ((t : Progress) → t.fuel < s.fuel → next t ≡ other t)
       → turn line body next s ≡ turn line body other s
   same_turn s next other k =
       same_paid s.fuel line s (λ t. after_turn (body t) next) (λ t. after_turn (body t) other) refl
@@ -93,7 +142,7 @@ module _
 
   -- more units than there are make no difference
   enough :
-      (n m : ℕ) (s : State)
+      (n m : ℕ) (s : Progress)
       → s.fuel ≤ n
       → s.fuel ≤ m
       → turns n line test body step s ≡ turns m line test body step s
@@ -114,7 +163,7 @@ module _
 
   -- a loop is its test, and where that holds a turn, the step and the loop again
   pub again :
-      (s : State)
+      (s : Progress)
       → loop line test body step s
       ≡ with_value (test s) (λ v. cond (holds v) (turn line body (λ t. on_to (step t) (loop line test body step)) s) (went_on s))
   again s =
@@ -125,89 +174,81 @@ module _
       (λ u le. enough s.fuel u.fuel u (omega arith) (omega arith)))))
 
 -- the loop of a test, a body and a step, as a function has them
-abbrev pub whole : ℕ → (State → Result ℤ Fault) → Statements → Option Assigned → Setting → State → End
-whole line test body step setting = loop line test (in_scope (meanings body setting)) (step_of step setting)
+abbrev pub whole : ℕ → (Progress → Result ℤ Fault) → Statements → Option Assigned → Scene → Progress → End
+whole line test body step scene = loop line test (in_scope (meanings body scene)) (step_of step scene)
 
 -- what follows a turn
-abbrev pub stepped : ℕ → (State → Result ℤ Fault) → Statements → Option Assigned → Setting → State → End
-stepped line test body step setting t = on_to (step_of step setting t) (whole line test body step setting)
+abbrev pub stepped : ℕ → (Progress → Result ℤ Fault) → Statements → Option Assigned → Scene → Progress → End
+stepped line test body step scene t = on_to (step_of step scene t) (whole line test body step scene)
+
+-- a test, and where it holds a turn
+abbrev pub rolled : ℕ → (Progress → Result ℤ Fault) → Statements → Option Assigned → Scene → Progress → ℤ → End
+rolled line test body step scene s v =
+    cond (holds v) (turn line (in_scope (meanings body scene)) (stepped line test body step scene) s) (went_on s)
 
 unrolled :
-    (line : ℕ) (test : State → Result ℤ Fault) (body : Statements) (step : Option Assigned) (setting : Setting) (s : State)
-    → whole line test body step setting s
-    ≡ with_value (test s) (λ v.
-    cond (holds v) (turn line (in_scope (meanings body setting)) (stepped line test body step setting) s) (went_on s))
-unrolled line test body step setting s =
-    again line test (in_scope (meanings body setting)) (step_of step setting) (body_falls body setting) (step_falls step setting) s
+    (line : ℕ) (test : Progress → Result ℤ Fault) (body : Statements) (step : Option Assigned) (scene : Scene) (s : Progress)
+    → Fall scene.calls
+    → whole line test body step scene s ≡ with_value (test s) (rolled line test body step scene s)
+unrolled line test body step scene s fall =
+    again line test (in_scope (meanings body scene)) (step_of step scene)
+    (λ t. body_falls body scene t fall) (λ t. step_falls step scene t fall) s
 
 -- a test that faults ends the loop
 pub test_faults :
-    (line : ℕ) (test : State → Result ℤ Fault) (body : Statements) (step : Option Assigned) (setting : Setting) (s : State)
+    (line : ℕ) (test : Progress → Result ℤ Fault) (body : Statements) (step : Option Assigned) (scene : Scene) (s : Progress)
     (fault : Fault)
+    → Fall scene.calls
     → test s ≡ Err fault
-    → whole line test body step setting s ≡ faulted fault
-test_faults line test body step setting s fault e =
-    unrolled line test body step setting s
-    ∙ ap (λ r. with_value r (λ v.
-    cond (holds v) (turn line (in_scope (meanings body setting)) (stepped line test body step setting) s) (went_on s))) e
+    → whole line test body step scene s ≡ faulted fault
+test_faults line test body step scene s fault fall e =
+    unrolled line test body step scene s fall
+    ∙ ap (λ r. with_value r (rolled line test body step scene s)) e
 
 -- a test that is 0 ends it
 pub test_ends :
-    (line : ℕ) (test : State → Result ℤ Fault) (body : Statements) (step : Option Assigned) (setting : Setting) (s : State)
+    (line : ℕ) (test : Progress → Result ℤ Fault) (body : Statements) (step : Option Assigned) (scene : Scene) (s : Progress)
     (v : ℤ)
+    → Fall scene.calls
     → test s ≡ Ok v
     → holds v ≡ false
-    → whole line test body step setting s ≡ went_on s
-test_ends line test body step setting s v e h =
-    unrolled line test body step setting s
-    ∙ ap (λ r. with_value r (λ w.
-    cond (holds w) (turn line (in_scope (meanings body setting)) (stepped line test body step setting) s) (went_on s))) e
-    ∙ ap (λ b. cond b (turn line (in_scope (meanings body setting)) (stepped line test body step setting) s) (went_on s)) h
+    → whole line test body step scene s ≡ went_on s
+test_ends line test body step scene s v fall e h =
+    unrolled line test body step scene s fall
+    ∙ ap (λ r. with_value r (rolled line test body step scene s)) e
+    ∙ ap (λ b. cond b (turn line (in_scope (meanings body scene)) (stepped line test body step scene) s) (went_on s)) h
 
 -- and one that holds asks for a turn
 pub test_holds :
-    (line : ℕ) (test : State → Result ℤ Fault) (body : Statements) (step : Option Assigned) (setting : Setting) (s : State)
+    (line : ℕ) (test : Progress → Result ℤ Fault) (body : Statements) (step : Option Assigned) (scene : Scene) (s : Progress)
     (v : ℤ)
+    → Fall scene.calls
     → test s ≡ Ok v
     → holds v ≡ true
-    → whole line test body step setting s
-    ≡ turn line (in_scope (meanings body setting)) (stepped line test body step setting) s
-test_holds line test body step setting s v e h =
-    unrolled line test body step setting s
-    ∙ ap (λ r. with_value r (λ w.
-    cond (holds w) (turn line (in_scope (meanings body setting)) (stepped line test body step setting) s) (went_on s))) e
-    ∙ ap (λ b. cond b (turn line (in_scope (meanings body setting)) (stepped line test body step setting) s) (went_on s)) h
+    → whole line test body step scene s
+    ≡ turn line (in_scope (meanings body scene)) (stepped line test body step scene) s
+test_holds line test body step scene s v fall e h =
+    unrolled line test body step scene s fall
+    ∙ ap (λ r. with_value r (rolled line test body step scene s)) e
+    ∙ ap (λ b. cond b (turn line (in_scope (meanings body scene)) (stepped line test body step scene) s) (went_on s)) h
+
+-- the calls that the program makes
+pub scene_falls : (scene : code.Scene) (open_loops : Open) → Fall (scene_seen scene open_loops).calls
+scene_falls scene open_loops = calls_fall scene.left _ _ _ _
 
 -- without a unit no turn can be paid
 pub not_paid :
-    (line : ℕ) (body next : State → End) (s : State)
+    (line : ℕ) (body next : Progress → End) (s : Progress)
     → s.fuel ≡ 0
-    → turn line body next s ≡ out_of_fuel line
+    → turn line body next s ≡ faulted (no_fuel line)
 not_paid line body next s e = ap (λ f. pay_from f line s (λ t. after_turn (body t) next)) e
 
 -- a turn that is paid for
 pub paid :
-    (line fuel : ℕ) (body next : State → End) (s : State)
+    (line fuel : ℕ) (body next : Progress → End) (s : Progress)
     → s.fuel ≢ 0
     → fuel ≡ s.fuel - 1
     → turn line body next s ≡ after_turn (body (record s { fuel = fuel })) next
 paid line fuel body next s h e =
     let f : s.fuel ≡ suc fuel = omega arith in
     ap (λ k. pay_from k line s (λ t. after_turn (body t) next)) f
-
-pub turn_takes_one :
-    (line fuel : ℕ) (body next : State → End) (s : State)
-    → s.fuel ≡ suc fuel
-    → turn line body next s ≡ after_turn (body (record s { fuel = fuel })) next
-turn_takes_one line fuel body next s e = ap (λ k. pay_from k line s (λ t. after_turn (body t) next)) e
-
-pub loop_goes_on :
-    (line : ℕ) (test : Option Expression) (body : Statements) (step : Option Assigned) (setting : Setting) (s : State)
-    → loop line (test_value test setting) (in_scope (meanings body setting)) (step_of step setting) s
-    ≡ with_value (test_value test setting s) (λ v.
-    cond (holds v)
-    (turn line (in_scope (meanings body setting))
-    (λ t. on_to (step_of step setting t)
-    (loop line (test_value test setting) (in_scope (meanings body setting)) (step_of step setting))) s)
-    (went_on s))
-loop_goes_on line test body step setting s = unrolled line (test_value test setting) body step setting s

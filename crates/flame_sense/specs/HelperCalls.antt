@@ -1,11 +1,11 @@
 -- How calls of helpers end. A helper sees its parameters, its locals, the constants, the number of the iteration and the
 -- other helpers; it has no memory and no messages.
-use Rattle.std.specs.Prelude.{ℕ, zero, suc, ℤ, pos, List, [], ◌∷◌}
+use Rattle.std.specs.Prelude.{ℕ, zero, suc, ℤ, pos, List, [], ◌∷◌, None}
 use Rattle.flame_spec.specs.declared.models.Model.{Model}
 use Rattle.flame_spec.specs.declared.trees.Parameter.{Parameter}
 use Rattle.flame_spec.specs.Definitions.{Definition}
-use Rattle.flame_spec.specs.HelperFaults.{helper_context, deepest_calls}
-use Rattle.flame_sense.specs.Scenes.{Scene, Progress, Local, Gave, gave, failed, Calls}
+use Rattle.flame_spec.specs.HelperFaults.{deepest_calls}
+use Rattle.flame_sense.specs.Scenes.{Scene, Progress, Local, Gave, gave, failed, Calls, context_for}
 use Rattle.flame_sense.specs.Ends.{End, went_on, broke, continued, returned, faulted, no_fuel}
 use Rattle.flame_sense.specs.Statements.{meanings}
 
@@ -39,9 +39,9 @@ entered parameters values fuel = record {
 }
 
 -- what a helper has before it: no function runs, nothing is read, and no loop is open [own]
-abbrev pub helper_scene : Model → List Definition → List ℤ → ℤ → Calls → Definition → Scene
-helper_scene model helpers constants iteration calls helper = record {
-  context = helper_context model helpers helper;
+abbrev pub helper_scene : Model → List Definition → List ℤ → ℤ → Calls → Scene
+helper_scene model helpers constants iteration calls = record {
+  context = context_for model helpers None;
   constants = constants;
   iteration = iteration;
   readings = [];
@@ -58,7 +58,7 @@ calls_within zero model helpers constants iteration line helper values (suc fuel
 calls_within (suc levels) model helpers constants iteration line helper values (suc fuel) =
     gives
     (meanings helper.body
-    (helper_scene model helpers constants iteration (calls_within levels model helpers constants iteration) helper)
+    (helper_scene model helpers constants iteration (calls_within levels model helpers constants iteration))
     (entered helper.parameters values fuel))
 
 -- how calls end: in an accepted source at most 64 are open inside one another, the greatest height of helpers [own]

@@ -12,3 +12,8 @@ pub mod Loops
 pub mod Statements
 pub mod HelperCalls
 pub mod Outcomes
+-- ---- the program's own words
+pub mod StandsFor
+pub mod Kept
+pub mod Acts
+pub mod Depths

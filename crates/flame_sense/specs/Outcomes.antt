@@ -11,9 +11,8 @@ use Rattle.flame_spec.specs.declared.outcomes.Outcome.TheVariants.{Ended, Faulte
 use Rattle.flame_spec.specs.Definitions.{helpers, body_of}
 use Rattle.flame_spec.specs.Functions.{functions, Place}
 use Rattle.flame_spec.specs.Lists.{numbered_where}
-use Rattle.flame_spec.specs.Scopes.{Context}
 use Rattle.flame_spec.specs.Views.{view_of}
-use Rattle.flame_sense.specs.Scenes.{Scene, Progress}
+use Rattle.flame_sense.specs.Scenes.{Scene, Progress, context_for}
 use Rattle.flame_sense.specs.Expressions.{holds}
 use Rattle.flame_sense.specs.Ends.{End, went_on, broke, continued, returned, faulted}
 use Rattle.flame_sense.specs.Statements.{meanings}
@@ -39,19 +38,10 @@ finished (continued s) = ended (Some s.memory) s
 finished (returned v s) = if holds v then ended None s else ended (Some s.memory) s
 finished (faulted fault) = Faulted fault
 
--- where the function of this place runs; the number of a file is for check faults alone [own]
-abbrev pub context_of : Source → Place → Context
-context_of source place = record {
-  model = source.model;
-  helpers = helpers source.model source.units;
-  runs = Some place;
-  file = 0;
-}
-
 -- what the function of this place has before it [FLAME User Manual]
 abbrev pub scene_of : Source → Place → List (List (List ℤ)) → List ℤ → ℤ → Scene
 scene_of source place readings constants iteration = record {
-  context = context_of source place;
+  context = context_for source.model (helpers source.model source.units) (Some place);
   constants = constants;
   iteration = iteration;
   readings = readings;

@@ -4,6 +4,7 @@ use Rattle.std.specs.Prelude.{ℕ, zero, suc, ◌+◌, ◌==◌, ℤ, pos, negsu
 use Rattle.std.specs.Prelude.{unwrap_or, if◌then◌else◌}
 use Rattle.std.specs.Str.{bytes_eq}
 use Rattle.flame_spec.specs.declared.faults.Fault.{Fault}
+use Rattle.flame_spec.specs.declared.models.Model.{Model}
 use Rattle.flame_spec.specs.declared.models.MessageType.{MessageType}
 use Rattle.flame_spec.specs.declared.models.Variable.{Variable}
 use Rattle.flame_spec.specs.declared.outcomes.Sent.{Sent}
@@ -12,6 +13,7 @@ use Rattle.flame_spec.specs.Columns.{width_of}
 use Rattle.flame_spec.specs.Conditions.{number_at}
 use Rattle.flame_spec.specs.Definitions.{Definition}
 use Rattle.flame_spec.specs.ExpressionFaults.{member_read}
+use Rattle.flame_spec.specs.Functions.{Place}
 use Rattle.flame_spec.specs.LookUps.{Given, in_memory, constant, iteration, memory_named, memory_got, message_read}
 use Rattle.flame_spec.specs.Scopes.{Context, memory_at, messages_at, given_at}
 
@@ -41,6 +43,11 @@ pub record Scene : Type 0 where
   pub readings : List (List (List ℤ))
   pub open_loops : List Current
   pub calls : Calls
+
+-- what the words of a body go by, where it is that of this function of the model, or of a helper, which is none; the number
+-- of a file is for check faults alone, and 0 here [own]
+abbrev pub context_for : Model → List Definition → Option Place → Context
+context_for model helpers runs = record { model = model; helpers = helpers; runs = runs; file = 0 }
 
 -- ---- what it changes
 

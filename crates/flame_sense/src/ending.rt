@@ -16,3 +16,12 @@ pub(crate) enum Ending {
     /// It faulted.
     Faulted(Fault),
 }
+
+/// How a call of a helper ended.
+#[derive(Clone, Copy, Debug, PartialEq, Eq)]
+pub(crate) enum Gave {
+    /// It gave this value, and left this fuel.
+    Value(i32, u32),
+    /// It faulted.
+    Failed(Fault),
+}

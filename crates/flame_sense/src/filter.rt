@@ -10,10 +10,8 @@ ghost use Rattle.flame_spec.specs.Views.{is_read, key_of, key_order, view_order}
 use crate::scene::number_at;
 use crate::words::column_of;
 use flame_ops::Op;
-use flame_rows::NoMemory;
-use flame_rows::Row;
-use flame_spec::{Condition, Operand};
-use flame_spec::{AgentType, MessageType, Sort};
+use flame_rows::{NoMemory, Row};
+use flame_spec::{AgentType, Condition, MessageType, Operand, Sort};
 use std::cmp::Ordering;
 
 /// The value of what a filter compares.

@@ -1,17 +1,13 @@
 //! What transition functions mean: the outcome of a function's body for an agent, and a plain program that gives it.
 #![tactic(auto)]
 
-mod assign;
-mod call;
+mod arguments;
+mod deed;
 mod ending;
 mod expression;
 mod filter;
-mod function;
-pub mod laws;
-pub mod outcome;
+mod found;
 mod reading;
 mod scene;
-mod statement;
-#[cfg(test)]
-mod tests;
+mod store;
 mod words;

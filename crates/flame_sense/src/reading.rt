@@ -1,18 +1,15 @@
 //! What a function reads: the views of its inputs, with the memory at its entry.
 
-ghost use Rattle.std.specs.Prelude.{◌≡◌, IfOk, [], map, option_map, slice_index_or};
-ghost use Rattle.std.specs.List.{filter, filter_map};
+ghost use Rattle.std.specs.Prelude.{◌≡◌, IfOk, [], map, slice_index_or};
+ghost use Rattle.std.specs.List.{filter};
 ghost use Rattle.flame_spec.specs.Views.{is_read, view_of};
-ghost use Rattle.flame_sense.specs.Outcomes.{reading_of as reading_meant};
-ghost use Rattle.flame_sense.specs.Steps.{reading_of};
+ghost use Rattle.flame_sense.specs.Outcomes.{reading_of};
+ghost use Rattle.flame_sense.specs.StandsFor.{rows_seen};
 
-use crate::call::message_where;
 use crate::filter::{reads, sorted};
-use crate::scene::Reading;
+use crate::scene::message_where;
 use crate::words::Form;
-use flame_rows::NoMemory;
-use flame_rows::Bag;
-use flame_rows::Row;
+use flame_rows::{Bag, NoMemory, Row};
 use flame_spec::{AgentType, Input, MessageType, Model};
 use std::alloc::Global;
 
@@ -26,8 +23,7 @@ fn passing<'a>(
     board: &'a [Row],
 ) -> Result<Vec<&'a Row>, NoMemory>
     ensures { IfOk result (λ rows.
-        map (λ row. row.now) rows.items
-        ≡ filter (is_read agent.now message.now input.now.filter memory.now) board.now) }
+        rows_seen rows.items ≡ filter (is_read agent.now message.now input.now.filter memory.now) board.now) }
 {
     let mut rows: Vec<&'a Row> = Vec::new(alloc);
     for row in board {
@@ -47,8 +43,7 @@ fn view<'a>(
     memory: &[i32],
     board: &'a [Row],
 ) -> Result<Vec<&'a Row>, NoMemory>
-    ensures { IfOk result (λ rows.
-        map (λ row. row.now) rows.items
+    ensures { IfOk result (λ rows. rows_seen rows.items
         ≡ view_of agent.now message.now input.now.filter input.now.sort memory.now board.now) }
 {
     let rows = passing(alloc, input, agent, message, memory, board)?;
@@ -66,46 +61,43 @@ fn board(boards: &[Bag], number: usize) -> &[Row]
     }
 }
 
-/// What the function reads of an input; `None` where no message has its name.
+/// What the function reads by an input; nothing where no message has its name.
 fn reading<'a>(
     alloc: Global,
     input: &Input,
-    model: &'a Model,
+    model: &Model,
     agent: &AgentType,
     memory: &[i32],
     boards: &'a [Bag],
-) -> Result<Option<Reading<'a>>, NoMemory>
-    ensures { IfOk result (λ reading.
-        option_map reading_of reading ≡ reading_meant model.now agent.now memory.now boards.now input.now) }
+) -> Result<Vec<&'a Row>, NoMemory>
+    ensures { IfOk result (λ rows.
+        rows_seen rows.items ≡ reading_of model.now agent.now memory.now boards.now input.now) }
 {
     match message_where(Form::Same, input.message.as_str(), model.messages.items()) {
-        None => Ok(None),
+        None => Ok(Vec::new(alloc)),
         Some((number, message)) => {
             let rows = view(alloc, input, agent, message, memory, board(boards, number))?;
-            Ok(Some(Reading { message, rows }))
+            Ok(rows)
         }
     }
 }
 
-/// What the function reads of each input, in the order of the inputs.
+/// What the function reads by each input, in the order of the inputs.
 pub(crate) fn readings<'a>(
     alloc: Global,
     inputs: &[Input],
-    model: &'a Model,
+    model: &Model,
     agent: &AgentType,
     memory: &[i32],
     boards: &'a [Bag],
-) -> Result<Vec<Reading<'a>>, NoMemory>
-    ensures { IfOk result (λ readings.
-        map reading_of readings.items
-        ≡ filter_map (reading_meant model.now agent.now memory.now boards.now) inputs.now) }
+) -> Result<Vec<Vec<&'a Row>>, NoMemory>
+    ensures { IfOk result (λ readings. map (λ rows. rows_seen rows.items) readings.items
+        ≡ map (reading_of model.now agent.now memory.now boards.now) inputs.now) }
 {
     let mut readings = Vec::new(alloc);
     for input in inputs {
-        let Some(reading) = reading(alloc, input, model, agent, memory, boards)? else {
-            continue;
-        };
-        readings.push(reading)?;
+        let rows = reading(alloc, input, model, agent, memory, boards)?;
+        readings.push(rows)?;
     }
     Ok(readings)
 }

@@ -1,9 +1,10 @@
 //! How the names of a model are written in function files.
 
 ghost use Rattle.std.specs.Prelude.{◌≡◌, option_map};
-ghost use Rattle.flame_sense.specs.Words.{is_capitals, is_between, column_where};
-ghost use Rattle.flame_sense.specs.Steps.{is_written, within_reach};
-ghost use Rattle.flame_spec.specs.Columns.{column, width_of};
+ghost use Rattle.flame_ops.specs.Ascii.{capitals};
+ghost use Rattle.flame_sense.specs.StandsFor.{is_written, within_reach, span_of, is_joined};
+ghost use Rattle.flame_spec.specs.Columns.{column, columned_where, width_of};
+ghost use Rattle.std.specs.Str.{bytes_eq};
 
 use flame_spec::Variable;
 
@@ -26,6 +27,15 @@ pub(crate) enum Form {
     Row,
 }
 
+/// Where a variable's numbers stand in a row.
+#[derive(Clone, Copy, Debug, PartialEq, Eq)]
+pub(crate) struct Span {
+    /// The column of the first.
+    pub(crate) column: usize,
+    /// How many they are.
+    pub(crate) width: usize,
+}
+
 impl Form {
     /// Whether the word is the name, written in this way.
     pub(crate) fn is_written(self, word: &str, name: &str) -> bool
@@ -34,26 +44,26 @@ impl Form {
         match self {
             Form::Same => name == word,
             Form::Capitals => is_capitals(word, name),
-            Form::Get => is_between("get_", "", word, name),
-            Form::Set => is_between("set_", "", word, name),
-            Form::AddMessage => is_between("add_", "_message", word, name),
-            Form::AddAgent => is_between("add_", "_agent", word, name),
-            Form::Row => is_between("", "_message", word, name),
+            Form::Get => is_joined("get_", "", word, name),
+            Form::Set => is_joined("set_", "", word, name),
+            Form::AddMessage => is_joined("add_", "_message", word, name),
+            Form::AddAgent => is_joined("add_", "_agent", word, name),
+            Form::Row => is_joined("", "_message", word, name),
         }
     }
 }
 
 /// Whether the word is the name in ASCII capitals.
 fn is_capitals(word: &str, name: &str) -> bool
-    ensures { result ≡ is_capitals word.now name.now }
+    ensures { result ≡ bytes_eq (capitals name.now) word.now }
 {
     let word = word.as_bytes();
     let name = name.as_bytes();
-    if word.len() != name.len() {
+    if name.len() != word.len() {
         return false;
     }
     for (i, letter) in name.iter().enumerate() {
-        if word[i] != letter.to_ascii_uppercase() {
+        if letter.to_ascii_uppercase() != word[i] {
             return false;
         }
     }
@@ -61,8 +71,8 @@ fn is_capitals(word: &str, name: &str) -> bool
 }
 
 /// Whether the word is the name between these two.
-fn is_between(before: &str, behind: &str, word: &str, name: &str) -> bool
-    ensures { result ≡ is_between before.now behind.now word.now name.now }
+fn is_joined(before: &str, behind: &str, word: &str, name: &str) -> bool
+    ensures { result ≡ is_joined before.now behind.now word.now name.now }
 {
     match word.as_bytes().strip_prefix(before.as_bytes()) {
         None => false,
@@ -83,16 +93,18 @@ pub(crate) fn width_of(variable: &Variable) -> usize
     }
 }
 
-/// The column of the first variable that the word names in this way, as far as places can be counted.
-pub(crate) fn column_where(form: Form, word: &str, variables: &[Variable]) -> Option<usize>
-    ensures { result ≡ option_map within_reach (column_where (is_written form word.now) variables.now) }
+/// Where the first variable stands that the word names in this way, as far as places can be counted.
+pub(crate) fn span_where(form: Form, word: &str, variables: &[Variable]) -> Option<Span>
+    ensures { result
+        ≡ option_map span_of (columned_where (λ variable. is_written form word.now variable.name) variables.now) }
 {
-    let mut at = 0usize;
+    let mut column = 0usize;
     for variable in variables {
+        let width = width_of(variable);
         if form.is_written(word, variable.name.as_str()) {
-            return Some(at);
+            return Some(Span { column, width });
         }
-        at = at.saturating_add(width_of(variable));
+        column = column.saturating_add(width);
     }
     None
 }

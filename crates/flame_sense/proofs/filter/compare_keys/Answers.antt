@@ -2,7 +2,7 @@ use mir.Syntax.{w32}
 use mir.Val.{SFits}
 use Rattle.std.proofs.Common.{rules, ◌∙◌, sym}
 use Rattle.flame_spec.specs.Views.{key_of}
-use Rattle.flame_sense.proofs.Found.{key_falls, key_rises, compared}
+use Rattle.flame_sense.proofs.Keys.{key_falls, key_rises, compared}
 use Rattle.flame_sense.proofs.filter.compare_keys.Goals as goal
 
 pub returns-then-sort : goal.returns-then-sort

@@ -1,6 +1,6 @@
 use Rattle.std.proofs.Common.{◌≡◌, ◌≤◌, length, drop, None}
 use Rattle.flame_sense.specs.Scenes.{local_value}
-use Rattle.flame_sense.specs.Steps.{visible}
+use Rattle.flame_sense.specs.StandsFor.{visible}
 use Rattle.flame_sense.proofs.scene.newest.Given as goal
 
 abbrev pub invariant-loop-at : goal.invariant-loop-at

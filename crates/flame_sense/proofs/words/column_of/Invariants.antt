@@ -1,6 +1,6 @@
 use Rattle.std.proofs.Common.{◌≡◌, ◌≤◌, drop}
 use Rattle.flame_spec.specs.Columns.{column}
-use Rattle.flame_sense.specs.Steps.{within_reach}
+use Rattle.flame_sense.specs.StandsFor.{within_reach}
 use Rattle.flame_sense.proofs.Widths.{named_behind}
 use Rattle.flame_sense.proofs.words.column_of.Given as goal
 

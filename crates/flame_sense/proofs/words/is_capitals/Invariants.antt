@@ -6,5 +6,5 @@ use Rattle.flame_sense.proofs.words.is_capitals.Given as goal
 
 abbrev pub invariant-loop-i : goal.invariant-loop-i
 invariant-loop-i l =
-    pointwise nat_eq l.word (map to_ascii_uppercase l.name)
-    ≡ pointwise nat_eq (drop l.i l.word) (map to_ascii_uppercase (drop l.i l.name))
+    pointwise nat_eq (map to_ascii_uppercase l.name) l.word
+    ≡ pointwise nat_eq (map to_ascii_uppercase (drop l.i l.name)) (drop l.i l.word)

@@ -1,6 +1,0 @@
-use Rattle.std.proofs.Common.{◌≡◌}
-use Rattle.flame_sense.specs.Statements.{fitted}
-use Rattle.flame_sense.proofs.call.fitted.Given as goal
-
-abbrev pub invariant-loop-column : goal.invariant-loop-column
-invariant-loop-column l = l.row.items ≡ fitted l.column l.values
