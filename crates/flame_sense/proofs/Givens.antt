@@ -1,10 +1,14 @@
 -- What the model gives to a word.
-use Rattle.std.proofs.Common.{◌≡◌, ℕ, List, refl, Option, Some, None, option_map}
+use Rattle.std.proofs.Common.{◌≡◌, ℕ, List, refl, ap, Option, Some, None, option_map}
+use Rattle.std.specs.Prelude.{unwrap_or}
 use Rattle.flame_spec.specs.declared.models.Variable.{Variable}
-use Rattle.flame_spec.specs.LookUps.{given_by, given_beside, constant_named}
+use Rattle.flame_spec.specs.LookUps.{Given, in_memory, constant, iteration, given_by, given_beside, constant_named}
 use Rattle.flame_sense.specs.declared.words.Span.{Span}
-use Rattle.flame_sense.specs.Scenes.{Scene, Progress, value_given, value_found}
-use Rattle.flame_sense.specs.StandsFor.{span_of}
+use Rattle.flame_spec.specs.Scopes.{given_at}
+use Rattle.flame_sense.specs.declared.scene.Open.{Open}
+use Rattle.flame_sense.specs.declared.scene.Scene as code
+use Rattle.flame_sense.specs.Scenes.{Scene, Progress, local_value, value_given, value_found, named}
+use Rattle.flame_sense.specs.StandsFor.{span_of, context_seen, scene_seen}
 
 pub in_memory_value :
     (found : Option (ℕ × Variable)) (constants : List (List ℕ)) (word : List ℕ) (scene : Scene) (s : Progress) (span : Span)
@@ -19,3 +23,18 @@ pub beside_memory :
     → given_by found constants word ≡ given_beside (constant_named constants word) word
 beside_memory None constants word e = refl
 beside_memory (Some found) constants word e = cc
+
+given_anywhere :
+    (given : Option Given) (scene : code.Scene) (a b : Open) (s : Progress)
+    → value_given given (scene_seen scene a) s ≡ value_given given (scene_seen scene b) s
+given_anywhere None scene a b s = refl
+given_anywhere (Some (in_memory column variable)) scene a b s = refl
+given_anywhere (Some (constant number)) scene a b s = refl
+given_anywhere (Some iteration) scene a b s = refl
+
+-- a name stands for the same, whatever loops are open
+pub named_anywhere :
+    (word : List ℕ) (scene : code.Scene) (a b : Open) (s : Progress)
+    → named word (scene_seen scene a) s ≡ named word (scene_seen scene b) s
+named_anywhere word scene a b s =
+    ap (unwrap_or (local_value word s.locals)) (given_anywhere (given_at (context_seen scene) word) scene a b s)

@@ -4,6 +4,10 @@ pub mod Locals
 pub mod Givens
 pub mod Keeps
 pub mod Turns
+pub mod Runs
+pub mod Assignments
+pub mod Levels
+pub mod Calls
 pub mod Turning
 pub mod Entries
 pub mod Deeds

@@ -15,5 +15,5 @@ pub mod Outcomes
 -- ---- the program's own words
 pub mod StandsFor
 pub mod Kept
-pub mod Acts
 pub mod Depths
+pub mod Acts

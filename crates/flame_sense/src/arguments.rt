@@ -73,7 +73,7 @@ fn numbers_of(
 /// The numbers that an argument stands for, or its fault.
 fn argument_values(
     e: &Expr,
-    scene: &Scene<'_>,
+    scene: &Scene<'_, '_>,
     open_loops: &Open<'_>,
     s: &Progress<'_>,
 ) -> Result<Result<Row, Fault>, NoMemory>
@@ -108,7 +108,7 @@ fn argument_values(
 #[tactic(auto, using(crate::proofs::Rows::more_behind, crate::proofs::Rows::none_behind))]
 pub(crate) fn values_of(
     arguments: &[Expr],
-    scene: &Scene<'_>,
+    scene: &Scene<'_, '_>,
     open_loops: &Open<'_>,
     s: &Progress<'_>,
 ) -> Result<Result<Row, Fault>, NoMemory>

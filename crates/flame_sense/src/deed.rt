@@ -1,10 +1,10 @@
 //! What call statements do.
 
-ghost use Rattle.std.specs.Prelude.{◌≡◌, option_map};
+ghost use Rattle.std.specs.Prelude.{◌≡◌, IfSome, option_map};
 ghost use Rattle.flame_spec.specs.CallFaults.{deed_of};
 ghost use Rattle.flame_spec.specs.LookUps.{agent_born};
 ghost use Rattle.flame_sense.specs.StandsFor.{agent_of, context_seen};
-ghost use Rattle.flame_sense.specs.Acts.{act_seen, act_of};
+ghost use Rattle.flame_sense.specs.Acts.{act_seen, act_of, IsNoDeeper};
 
 use crate::found::{Definition, helper_named};
 use crate::scene::{Scene, message_where};
@@ -36,10 +36,11 @@ fn agent_born<'a>(word: &str, agents: &'a [AgentType]) -> Option<(usize, &'a Age
     None
 }
 
-impl<'a> Scene<'a> {
+impl<'a> Scene<'a, '_> {
     /// What a call statement of the word does, if anything.
     pub(crate) fn deed_of(&self, word: &str) -> Option<Deed<'a>>
-        ensures { option_map act_seen result ≡ option_map act_of (deed_of (context_seen self.now) word.now) }
+        ensures acts { option_map act_seen result ≡ option_map act_of (deed_of (context_seen self.now) word.now) }
+        ensures depth { IfSome result (IsNoDeeper self.now.units.now) }
     {
         if let Some(span) = span_where(Form::Set, word, self.memory()) {
             return Some(Deed::Sets(span));

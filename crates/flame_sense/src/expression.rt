@@ -89,7 +89,7 @@ fn element(found: Option<Span>, index: i32, row: &[i32], line: u32) -> Result<i3
 #[cycle(value)]
 pub(crate) fn value(
     e: &Expr,
-    scene: &Scene<'_>,
+    scene: &Scene<'_, '_>,
     open_loops: &Open<'_>,
     s: &Progress<'_>,
 ) -> Result<i32, Fault>
@@ -130,7 +130,7 @@ pub(crate) fn value(
 pub(crate) fn field_value(
     word: &str,
     variable: &str,
-    scene: &Scene<'_>,
+    scene: &Scene<'_, '_>,
     open_loops: &Open<'_>,
 ) -> i32
     ensures { result ≡ field_value word.now variable.now (scene_seen scene.now open_loops.now) }
@@ -144,7 +144,7 @@ pub(crate) fn field_value(
 fn chain_value(
     links: &[Link],
     first: i32,
-    scene: &Scene<'_>,
+    scene: &Scene<'_, '_>,
     open_loops: &Open<'_>,
     s: &Progress<'_>,
 ) -> Result<i32, Fault>
@@ -163,7 +163,7 @@ fn chain_value(
 #[cycle(value)]
 fn all_value(
     parts: &[Expr],
-    scene: &Scene<'_>,
+    scene: &Scene<'_, '_>,
     open_loops: &Open<'_>,
     s: &Progress<'_>,
 ) -> Result<i32, Fault>
@@ -182,7 +182,7 @@ fn all_value(
 #[cycle(value)]
 fn any_value(
     parts: &[Expr],
-    scene: &Scene<'_>,
+    scene: &Scene<'_, '_>,
     open_loops: &Open<'_>,
     s: &Progress<'_>,
 ) -> Result<i32, Fault>

@@ -7,7 +7,11 @@ mod ending;
 mod expression;
 mod filter;
 mod found;
+mod outcome;
 mod reading;
 mod scene;
+mod statement;
 mod store;
 mod words;
+
+pub use outcome::evaluate;

@@ -12,7 +12,7 @@ ghost use Rattle.flame_spec.specs.Scopes.{memory_at, messages_at, given_at};
 ghost use Rattle.flame_sense.specs.Scenes.{local_value, value_given, value_found, named, array_named, got, row_over, row_read};
 ghost use Rattle.flame_sense.specs.Statements.{loop_currents};
 ghost use Rattle.flame_sense.specs.HelperCalls.{helper_scene, calls_within};
-ghost use Rattle.flame_sense.specs.StandsFor.{rows_seen, currents_found, is_written, span_of, message_of, context_seen, scene_seen, progress_seen, currents, visible, IsNewest};
+ghost use Rattle.flame_sense.specs.StandsFor.{rows_seen, currents_found, within_reach, is_written, span_of, message_of, context_seen, scene_seen, progress_seen, currents, visible, IsNewest};
 
 use crate::words::{Form, Span, span_where};
 use flame_rows::Row;
@@ -29,7 +29,7 @@ pub(crate) struct Place<'a> {
 
 /// What a body has before it and does not change.
 #[derive(Clone, Copy)]
-pub(crate) struct Scene<'a> {
+pub(crate) struct Scene<'a, 'b> {
     pub(crate) alloc: Global,
     pub(crate) model: &'a Model,
     pub(crate) units: &'a [Unit],
@@ -39,7 +39,7 @@ pub(crate) struct Scene<'a> {
     /// The number of the iteration.
     pub(crate) iteration: i32,
     /// The rows of each input, in order.
-    pub(crate) readings: &'a [Vec<&'a Row>],
+    pub(crate) readings: &'b [Vec<&'a Row>],
     /// How many calls may be opened inside one another.
     pub(crate) left: u32,
 }
@@ -78,6 +78,13 @@ pub(crate) fn number_at(row: &[i32], column: usize) -> i32
     ensures { result ≡ number_at row.now column }
 {
     row.get(column).copied().unwrap_or(0)
+}
+
+/// The number in this column of a row, 0 past its end; the column is one as far as places can be counted.
+pub(crate) fn number_near(row: &[i32], column: usize) -> i32
+    ensures { (exact : ℕ) → column ≡ within_reach exact → result ≡ number_at row.now exact }
+{
+    number_at(row, column)
 }
 
 /// The number of a row where a variable begins; of no variable 0.
@@ -133,9 +140,9 @@ pub(crate) fn message_where<'a>(
     None
 }
 
-impl<'a> Scene<'a> {
+impl<'a, 'b> Scene<'a, 'b> {
     /// What a helper has before it that is called here.
-    pub(crate) fn in_helper(&self) -> Scene<'a>
+    pub(crate) fn in_helper(&self) -> Scene<'a, 'b>
         requires { self.now.left ≢ 0 }
         ensures scene { scene_seen result Open.Nothing ≡ helper_scene self.now.model.now
             (helpers self.now.model.now self.now.units.now) self.now.constants.now self.now.iteration
@@ -157,7 +164,7 @@ impl<'a> Scene<'a> {
     }
 
     /// The rows that the function reads by the input of this number.
-    fn reading(&self, input: usize) -> &'a [&'a Row]
+    fn reading(&self, input: usize) -> &'b [&'a Row]
         ensures { rows_seen result.now ≡ slice_index_or (scene_seen self.now Open.Nothing).readings input [] }
     {
         match self.readings.get(input) {
@@ -167,7 +174,7 @@ impl<'a> Scene<'a> {
     }
 
     /// The rows that a loop named so goes over, with the number of their message.
-    pub(crate) fn loop_rows(&self, word: &str) -> Option<(usize, &'a [&'a Row])>
+    pub(crate) fn loop_rows(&self, word: &str) -> Option<(usize, &'b [&'a Row])>
         ensures { currents_found result ≡ loop_currents word.now (scene_seen self.now Open.Nothing) }
     {
         let place = self.runs?;
@@ -272,7 +279,7 @@ impl<'a> Scene<'a> {
     }
 
     /// The row that `m_message` reads; empty where no loop over m is open.
-    pub(crate) fn row_read<'b>(&self, word: &str, open_loops: &Open<'b>) -> &'b [i32]
+    pub(crate) fn row_read<'c>(&self, word: &str, open_loops: &Open<'c>) -> &'c [i32]
         ensures { result.now ≡ row_read word.now (scene_seen self.now open_loops.now) }
     {
         match message_where(Form::Row, word, self.messages()) {

@@ -3,12 +3,18 @@
 ghost use Rattle.std.specs.Prelude.{◌≡◌, ℕ, Option, option_map, IfOk, OnOk};
 ghost use Rattle.flame_spec.specs.declared.models.Variable.{Variable as Declared};
 ghost use Rattle.flame_sense.specs.Statements.{with_local, set_column, set_found, set_name, with_message, with_birth};
+ghost use Rattle.flame_ops.specs.Integers.{applied};
+ghost use Rattle.flame_sense.specs.Expressions.{at_line};
+ghost use Rattle.flame_sense.specs.Ends.{went_on, with_value};
 ghost use Rattle.flame_sense.specs.HelperCalls.{entered};
-ghost use Rattle.flame_sense.specs.StandsFor.{within_reach, span_of, scene_seen, progress_seen};
+ghost use Rattle.flame_sense.specs.StandsFor.{within_reach, span_of, scene_seen, progress_seen, end_of};
 
 use crate::arguments::row_of;
+use crate::ending::Ending;
+use crate::expression::at_line;
 use crate::scene::{Local, Open, Progress, Scene, newest, number_at};
 use crate::words::{Form, Span, span_where};
+use flame_ops::{Op, apply};
 use flame_rows::{NoMemory, Row};
 use flame_spec::{AgentType, Born, MessageType, Parameter, Sent};
 use std::alloc::Global;
@@ -34,7 +40,7 @@ pub(crate) fn set_found(found: Option<Span>, value: i32, s: &mut Progress<'_>)
 }
 
 /// The newest local of this name has the value, or else the memory variable that it is in capitals.
-pub(crate) fn set_name(word: &str, value: i32, scene: &Scene<'_>, s: &mut Progress<'_>)
+pub(crate) fn set_name(word: &str, value: i32, scene: &Scene<'_, '_>, s: &mut Progress<'_>)
     ensures { progress_seen s.new
         ≡ set_name word.now value (scene_seen scene.now Open.Nothing) (progress_seen s.old) }
 {
@@ -44,6 +50,51 @@ pub(crate) fn set_name(word: &str, value: i32, scene: &Scene<'_>, s: &mut Progre
             local.value = value;
         }
         None => set_found(span_where(Form::Capitals, word, scene.memory()), value, s),
+    }
+}
+
+/// The name has what the operator gives for these two, if it gives anything.
+pub(crate) fn change_name(
+    op: Op,
+    line: u32,
+    name: &str,
+    left: i32,
+    right: i32,
+    scene: &Scene<'_, '_>,
+    s: &mut Progress<'_>,
+) -> Ending
+    ensures { with_value (at_line line (applied op left right))
+        (λ v. went_on (set_name name.now v (scene_seen scene.now Open.Nothing) (progress_seen s.old)))
+        ≡ end_of result (progress_seen s.new) }
+{
+    match at_line(line, apply(op, left, right)) {
+        Ok(value) => {
+            set_name(name, value, scene, s);
+            Ending::WentOn
+        }
+        Err(fault) => Ending::Faulted(fault),
+    }
+}
+
+/// The column has what the operator gives for these two, if it gives anything.
+pub(crate) fn change_column(
+    op: Op,
+    line: u32,
+    column: usize,
+    left: i32,
+    right: i32,
+    s: &mut Progress<'_>,
+) -> Ending
+    ensures { (exact : ℕ) → column ≡ within_reach exact
+        → with_value (at_line line (applied op left right)) (λ v. went_on (set_column exact v (progress_seen s.old)))
+        ≡ end_of result (progress_seen s.new) }
+{
+    match at_line(line, apply(op, left, right)) {
+        Ok(value) => {
+            set_column(column, value, s);
+            Ending::WentOn
+        }
+        Err(fault) => Ending::Faulted(fault),
     }
 }
 

@@ -7,8 +7,8 @@ use Rattle.flame_sense.specs.StandsFor.{context_seen, place_seen, message_of}
 use Rattle.flame_sense.proofs.Deeds.{sends_there}
 use Rattle.flame_sense.proofs.scene.Scene.deed_of.Goals as goal
 
-pub returns-in-Some-runs : goal.returns-in-Some-runs
-returns-in-Some-runs c =
+pub returns-in-Some-runs-clause-acts : goal.returns-in-Some-runs-clause-acts
+returns-in-Some-runs-clause-acts c =
     let context = context_seen c.args.self.now in
     let found : ℕ × MessageType = (c.in-Some-message_where.number, c.in-Some-message_where.message.now) in
     let sent = ap (λ messages. message_sent messages c.args.word.now) (sym c.items.ensures)
