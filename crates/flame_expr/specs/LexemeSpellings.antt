@@ -3,12 +3,14 @@ use Rattle.std.specs.Prelude.{◌≡◌, ℕ, List, [], map, codes}
 use Rattle.flame_ops.specs.Words.{operator_spellings, keyword_spellings}
 use Rattle.flame_expr.specs.declared.lexemes.TheConstants.{MARKS, KEYWORDS}
 use Rattle.flame_expr.specs.declared.lexemes.Lexeme.{Lexeme}
-use Rattle.flame_expr.specs.declared.lexemes.Lexeme.TheVariants.{Plus, Minus, Star, Slash, Percent, PlusPlus, MinusMinus}
+use Rattle.flame_expr.specs.declared.lexemes.Lexeme.TheVariants.{Plus, Minus, Star, Slash, Percent, PlusPlus}
+use Rattle.flame_expr.specs.declared.lexemes.Lexeme.TheVariants.{MinusMinus}
 use Rattle.flame_expr.specs.declared.lexemes.Lexeme.TheVariants.{PlusSet, MinusSet, StarSet, SlashSet, PercentSet, Set}
 use Rattle.flame_expr.specs.declared.lexemes.Lexeme.TheVariants.{Same, Differs, Bang, Below, Above, AtMost, AtLeast}
 use Rattle.flame_expr.specs.declared.lexemes.Lexeme.TheVariants.{AndAnd, OrOr, Open, Close, OpenBrace, CloseBrace}
 use Rattle.flame_expr.specs.declared.lexemes.Lexeme.TheVariants.{OpenBracket, CloseBracket, Comma, Semicolon, Arrow}
-use Rattle.flame_expr.specs.declared.lexemes.Lexeme.TheVariants.{Int, Void, If, Else, While, For, Do, Return, Break, Continue}
+use Rattle.flame_expr.specs.declared.lexemes.Lexeme.TheVariants.{Int, Void, If, Else, While, For, Do}
+use Rattle.flame_expr.specs.declared.lexemes.Lexeme.TheVariants.{Return, Break, Continue}
 
 -- the spelling of a mark or of a keyword; other lexemes have no one spelling [C, 6.4.1, 6.4.6]; ORDER MARKS
 abbrev pub spelling : Lexeme → List ℕ

@@ -6,7 +6,8 @@ use Rattle.flame_expr.specs.declared.lexemes.Lexeme.TheVariants.{Open, Close, Op
 use Rattle.flame_expr.specs.declared.lexemes.Lexeme.TheVariants.{OpenBracket, CloseBracket, Start, Finish}
 use Rattle.flame_expr.specs.Lexemes.{lexeme_of}
 
--- whether a lexeme opens a bracket, a brace or a message loop [C, 6.5.1, 6.5.2.1, 6.8.2; FLAME User Manual]; ORDER MARKS
+-- whether a lexeme opens a bracket, a brace or a message loop [C, 6.5.1, 6.5.2.1, 6.8.2; FLAME User Manual];
+-- ORDER MARKS
 abbrev pub opens : Lexeme → Bool
 opens Open = true
 opens OpenBrace = true

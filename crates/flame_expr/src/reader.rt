@@ -1,6 +1,7 @@
 //! The reader of expressions. Each function begins with the production that it reads.
 
-ghost use Rattle.std.specs.Prelude.{◌≡◌, ◌+◌, ◌<◌, ◌≤◌, ◌^◌, suc, [], ◌∷◌, length, drop, option_map, IfOk, IfErr};
+ghost use Rattle.std.specs.Prelude.{◌≡◌, ◌+◌, ◌<◌, ◌≤◌, ◌^◌, suc, [], ◌∷◌, length, drop, option_map};
+ghost use Rattle.std.specs.Prelude.{IfOk, IfErr};
 ghost use Rattle.flame_spec.specs.Seen as seen;
 ghost use Rattle.flame_spec.specs.Seen.{expression, expressions, links, indexed};
 ghost use Rattle.flame_expr.specs.declared.lexemes.Lexeme.TheVariants.{Open, Close};

@@ -6,7 +6,8 @@ use Rattle.flame_lex.specs.declared.token.Token.{Token}
 use Rattle.flame_expr.specs.declared.lexemes.Lexeme.{Lexeme}
 use Rattle.flame_expr.specs.declared.lexemes.Lexeme.TheVariants.{Word, Start, PlusPlus, MinusMinus, PlusSet}
 use Rattle.flame_expr.specs.declared.lexemes.Lexeme.TheVariants.{MinusSet, StarSet, SlashSet, PercentSet, Set}
-use Rattle.flame_expr.specs.declared.lexemes.Lexeme.TheVariants.{Open, Close, OpenBrace, Comma, Semicolon, Int, If, Else, While}
+use Rattle.flame_expr.specs.declared.lexemes.Lexeme.TheVariants.{Open, Close, OpenBrace, Comma, Semicolon, Int}
+use Rattle.flame_expr.specs.declared.lexemes.Lexeme.TheVariants.{If, Else, While}
 use Rattle.flame_expr.specs.declared.lexemes.Lexeme.TheVariants.{For, Do, Return, Break, Continue}
 use Rattle.flame_expr.specs.Lexemes.{first, behind}
 use Rattle.flame_expr.specs.OperatorLevels.{joins}

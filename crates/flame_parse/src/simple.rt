@@ -1,8 +1,10 @@
 //! The reader of statements without parts of their own, and of what stands in them. Each function begins with the
 //! production that it reads.
 
-ghost use Rattle.std.specs.Prelude.{◌≡◌, ◌+◌, ◌<◌, ◌≤◌, ◌^◌, true, false, [], ◌∷◌, length, drop, map, option_map, IfOk, IfErr};
-ghost use Rattle.flame_spec.specs.Seen.{expression, expressions, indexed, stored, declared, assigned, statement, statements};
+ghost use Rattle.std.specs.Prelude.{◌≡◌, ◌+◌, ◌<◌, ◌≤◌, ◌^◌, true, false, [], ◌∷◌, length, drop};
+ghost use Rattle.std.specs.Prelude.{map, option_map, IfOk, IfErr};
+ghost use Rattle.flame_spec.specs.Seen.{expression, expressions, indexed, stored, declared, assigned};
+ghost use Rattle.flame_spec.specs.Seen.{statement, statements};
 ghost use Rattle.flame_spec.specs.Trees.{also, no_more};
 ghost use Rattle.flame_expr.specs.declared.lexemes.Lexeme.TheVariants.{Close, Semicolon};
 ghost use Rattle.flame_expr.specs.Lexemes.{first};
