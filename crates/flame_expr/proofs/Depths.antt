@@ -1,11 +1,11 @@
 -- The nesting of tokens, one by one.
-use Rattle.std.proofs.Common.{◌≡◌, ◌⊎◌, inl, inr, ℕ, zero, suc, ◌+◌, ◌<◌, ◌≤◌, List, [], ◌∷◌, length, drop, take, refl, sym, ap, ◌∙◌, subst, arith, Bool, true, false, add-one}
+use Rattle.std.proofs.Common.{◌≡◌, ◌⊎◌, inl, inr, ℕ, zero, suc, ◌+◌, ◌<◌, ◌≤◌, List, [], ◌∷◌, length, drop, take, refl, sym, ap, ◌∙◌, subst, arith, Bool, false, add-one}
 use Rattle.std.proofs.lemmas.Bool.{cases_lt}
 use Rattle.std.specs.Prelude.{if◌then◌else◌}
 use Rattle.flame_lex.specs.declared.token.Token.{Token}
 use Rattle.flame_expr.specs.declared.lexemes.Lexeme.{Lexeme}
 use Rattle.flame_expr.specs.declared.lexemes.Lexeme.TheVariants.{Nothing}
-use Rattle.flame_expr.specs.Lexemes.{lexeme_of, first}
+use Rattle.flame_expr.specs.Lexemes.{first}
 use Rattle.flame_expr.specs.Nesting.{opens, closes, count_of, Fits, NestsWithin, IsTooDeep}
 
 -- one token more

@@ -1,13 +1,12 @@
 -- What the grammar reads is reached by steps.
-use Rattle.std.proofs.Common.{◌≡◌, inl, inr, ℕ, zero, suc, ◌<◌, ◌≤◌, List, [], ◌∷◌, refl, sym, ap, ◌∙◌, subst, arith, Bool, true, false, Option, Some, None}
-use Rattle.flame_ops.specs.declared.integers.Op.{Op}
+use Rattle.std.proofs.Common.{◌≡◌, inl, inr, ℕ, zero, suc, List, [], ◌∷◌, refl, sym, subst, Option}
 use Rattle.flame_spec.specs.declared.trees.Sign.{Sign}
 use Rattle.flame_spec.specs.Trees.{Expression, Expressions, Links, Indexed}
 use Rattle.flame_lex.specs.declared.token.Token.{Token}
 use Rattle.flame_expr.specs.declared.lexemes.Lexeme.{Lexeme}
 use Rattle.flame_expr.specs.declared.lexemes.Lexeme.TheVariants.{Word, Number, Open, Close, OpenBracket, CloseBracket, Arrow, AndAnd, OrOr}
 use Rattle.flame_expr.specs.Lexemes.{first, behind}
-use Rattle.flame_expr.specs.OperatorLevels.{signs, op_of, sign_of}
+use Rattle.flame_expr.specs.OperatorLevels.{signs}
 use Rattle.flame_expr.specs.ViablePrefixes.{Symbol, lexeme, form, level, primary, expr, index, one_of, many, tail, End, Goes, expand, in_turn, without, enough}
 use Rattle.flame_expr.specs.ExpressionGrammar.{Reads, a_unary, a_chain, a_conjunction, a_disjunction, Tail, no_link, a_link, Conjuncts, no_conjunct, a_conjunct, Disjuncts, no_disjunct, a_disjunct, Signs, no_sign, a_sign, Primary, a_number, a_name, a_field, a_get, in_brackets, Index, no_index, an_index, Bracketed, bracketed, Closed, closed}
 use Rattle.flame_expr.proofs.Heads.{matched}

@@ -1,11 +1,11 @@
 -- How parts that are read from place to place make longer ones.
-use Rattle.std.proofs.Common.{◌≡◌, ℕ, ◌+◌, ◌<◌, ◌≤◌, List, [], ◌∷◌, length, drop, refl, sym, ap, ◌∙◌, subst, arith, Bool, true, Result, Ok, Err, IfErr, IsErrAnd}
+use Rattle.std.proofs.Common.{◌≡◌, ℕ, ◌+◌, ◌≤◌, List, [], ◌∷◌, length, drop, sym, subst, arith, true, Result, Ok, Err, IfErr, IsErrAnd}
 use Rattle.flame_lex.specs.declared.token.Token.{Token}
 use Rattle.flame_expr.specs.declared.lexemes.Lexeme.{Lexeme}
 use Rattle.flame_rows.specs.declared.fails.Fail.{Fail}
 use Rattle.flame_expr.specs.declared.faults.ParseFault.{ParseFault}
-use Rattle.flame_expr.specs.Lexemes.{first, behind, is_real}
-use Rattle.flame_expr.specs.ViablePrefixes.{Form, Symbol, lexeme, form, both, right_side, End, left, Goes, stay, expand, in_turn}
+use Rattle.flame_expr.specs.Lexemes.{first, is_real}
+use Rattle.flame_expr.specs.ViablePrefixes.{Form, Symbol, form, both, right_side, left, Goes, expand, in_turn}
 use Rattle.flame_expr.specs.ReadParts.{onto, Passes, Halts, Ended, Stopped, Fails}
 use Rattle.flame_expr.proofs.Walk.{at_form, at_both}
 use Rattle.flame_expr.proofs.Parts.{PassesAny, HaltsAny, any_pass, one_pass, any_halt, one_halt, any_heads, pasts, clean, none, ends_here, joins_on, fine, enter_pass, enter_halt, pass_here, halt_here, pass_then, halt_then, halt_before, pass_weaker, halt_weaker, nothing_pass}

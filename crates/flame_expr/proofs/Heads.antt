@@ -1,11 +1,10 @@
 -- The rests that are left once the next lexeme is matched, computed.
-use Rattle.std.proofs.Common.{◌≡◌, ◌⊎◌, inl, inr, ℕ, zero, suc, ◌<◌, ◌≤◌, List, [], ◌∷◌, length, refl, sym, ap, ◌∙◌, subst, arith, Bool, true, false}
+use Rattle.std.proofs.Common.{◌≡◌, ◌⊎◌, inl, inr, ℕ, zero, suc, List, [], ◌∷◌, refl, sym, ap, ◌∙◌, Bool, true, false}
 use Rattle.std.proofs.lemmas.Bool.{false≢true}
 use Rattle.flame_lex.specs.declared.token.Token.{Token}
 use Rattle.flame_expr.specs.declared.lexemes.Lexeme.{Lexeme}
-use Rattle.flame_expr.specs.declared.lexemes.Lexeme.TheVariants.{Nothing}
-use Rattle.flame_expr.specs.Lexemes.{lexeme_of, first, behind, is_real}
-use Rattle.flame_expr.specs.ViablePrefixes.{Form, Symbol, lexeme, form, both, either, one_of, maybe, many, right_side, End, left, whole, Goes, stay, done, match, expand, in_turn, first_part, second_part, this, later, with_it, without, more, enough}
+use Rattle.flame_expr.specs.Lexemes.{first, behind, is_real}
+use Rattle.flame_expr.specs.ViablePrefixes.{Symbol, lexeme, form, both, either, one_of, maybe, many, right_side, End, left, Goes, match, expand, in_turn, first_part, second_part, this, later, with_it, without, more, enough}
 use Rattle.flame_expr.specs.ReadParts.{onto}
 use Rattle.flame_expr.proofs.LexemeFacts.{same, same_equal, same_self}
 use Rattle.flame_expr.proofs.Walk.{at_form, at_both, at_either, at_maybe, at_many, at_one, none_of, at_lexeme}

@@ -1,13 +1,13 @@
 -- The levels of operators.
-use Rattle.std.proofs.Common.{◌≡◌, ◌⊎◌, inl, inr, ℕ, zero, suc, ◌+◌, ◌<◌, ◌≤◌, List, [], ◌∷◌, refl, sym, ap, ◌∙◌, arith, Bool, true, false, Option, Some, None}
+use Rattle.std.proofs.Common.{◌≡◌, ℕ, zero, suc, ◌<◌, [], ◌∷◌, refl, sym, arith, Bool, true, false, Some, None}
 use Rattle.std.proofs.lemmas.Bool.{false≢true}
 use Rattle.flame_ops.specs.declared.integers.Op.{Op}
 use Rattle.flame_spec.specs.declared.trees.SignKind.{SignKind}
 use Rattle.flame_expr.specs.declared.lexemes.Lexeme.{Lexeme}
-use Rattle.flame_expr.specs.declared.lexemes.Lexeme.TheVariants.{Nothing, Star, Slash, Percent, Plus, Minus, Below, Above, AtMost, AtLeast, Same, Differs, Bang, AndAnd, OrOr}
+use Rattle.flame_expr.specs.declared.lexemes.Lexeme.TheVariants.{Nothing, Star, Slash, Percent, Plus, Minus, Below, Above, AtMost, AtLeast, Same, Differs, Bang}
 use Rattle.flame_expr.specs.Lexemes.{is_real}
 use Rattle.flame_expr.specs.OperatorLevels.{operators, signs, op_of, sign_of, joins}
-use Rattle.flame_expr.specs.ViablePrefixes.{Symbol, lexeme, form, level, primary, both, one_of, many, tail}
+use Rattle.flame_expr.specs.ViablePrefixes.{form, level, one_of, many, tail}
 use Rattle.flame_expr.proofs.LexemeFacts.{or, among, everywhere}
 use Rattle.flame_expr.proofs.Parts.{any_heads, pasts, clean, ends_here, joins_on, fine}
 

@@ -1,10 +1,10 @@
 -- The longest prefix.
-use Rattle.std.proofs.Common.{◌≡◌, ◌⊎◌, inl, inr, ℕ, ◌+◌, ◌-◌, ◌<◌, ◌≤◌, List, [], ◌∷◌, length, drop, refl, sym, ap, ◌∙◌, subst, arith, length-drop, drop-drop}
+use Rattle.std.proofs.Common.{◌≡◌, inl, inr, ℕ, ◌-◌, ◌<◌, ◌≤◌, List, [], ◌∷◌, length, drop, sym, ap, ◌∙◌, subst, arith, length-drop, drop-drop}
 use Rattle.flame_lex.specs.declared.token.Token.{Token}
 use Rattle.flame_spec.specs.Trees.{Expression}
 use Rattle.flame_expr.specs.declared.lexemes.Lexeme.{Lexeme}
 use Rattle.flame_expr.specs.OperatorLevels.{joins}
-use Rattle.flame_expr.specs.ViablePrefixes.{Form, Symbol, form, level, expr, End, left, whole, Goes, stay, done, IsLongest}
+use Rattle.flame_expr.specs.ViablePrefixes.{Form, form, level, expr, End, left, whole, Goes, stay, done, IsLongest}
 use Rattle.flame_expr.specs.ExpressionGrammar.{Reads}
 use Rattle.flame_expr.specs.ReadParts.{left_of, Blocks, Passes, Halts, Ended, Stopped}
 use Rattle.flame_expr.specs.Expressed.{IsExpressionAt, IsNoExpressionAt}

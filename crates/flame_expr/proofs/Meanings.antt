@@ -1,5 +1,5 @@
 -- What symbols stand for, in one piece, and the trees of it.
-use Rattle.std.proofs.Common.{◌≡◌, ◌⊎◌, inl, inr, ℕ, zero, suc, ◌+◌, ◌<◌, ◌≤◌, List, [], ◌∷◌, refl, sym, ap, ◌∙◌, subst, arith, Bool, true, false, Option, Some, None}
+use Rattle.std.proofs.Common.{◌≡◌, ℕ, zero, suc, ◌<◌, ◌≤◌, List, [], ◌∷◌, refl, sym, subst, arith, Bool, true, false, Option, Some, None}
 use Rattle.std.proofs.lemmas.Bool.{false≢true}
 use Rattle.flame_ops.specs.declared.integers.Op.{Op}
 use Rattle.flame_ops.specs.declared.integers.Op.TheVariants.{Add, Sub, Mul, Div, Rem, Lt, Gt, Le, Ge, Eq, Ne}
@@ -11,7 +11,7 @@ use Rattle.flame_expr.specs.declared.lexemes.Lexeme.{Lexeme}
 use Rattle.flame_expr.specs.declared.lexemes.Lexeme.TheVariants.{Star, Slash, Percent, Plus, Minus, Bang, Below, Above, AtMost, AtLeast, Same, Differs, AndAnd, OrOr}
 use Rattle.flame_expr.specs.Lexemes.{lexeme_of, first, text, value, line, behind}
 use Rattle.flame_expr.specs.OperatorLevels.{operators, signs, op_of, sign_of}
-use Rattle.flame_expr.specs.ViablePrefixes.{Form, Symbol, lexeme, form, level, primary, both, either, one_of, maybe, many, expr, index, tail, right_side, End, left, whole, Goes, stay, done, match, expand, in_turn, first_part, second_part, this, later, with_it, without, more, enough, Matches}
+use Rattle.flame_expr.specs.ViablePrefixes.{Form, Symbol, lexeme, form, level, primary, both, either, one_of, maybe, many, index, tail, right_side, whole, Goes, done, match, expand, in_turn, first_part, second_part, this, later, with_it, without, more, enough, Matches}
 use Rattle.flame_expr.specs.ExpressionGrammar.{named, field_of, with_signs, chained, all_parts, any_parts, Reads, a_unary, a_chain, a_conjunction, a_disjunction, Tail, no_link, a_link, Conjuncts, no_conjunct, a_conjunct, Disjuncts, no_disjunct, a_disjunct, Signs, no_sign, a_sign, Primary, a_number, a_name, a_field, a_get, in_brackets, Index, no_index, an_index, bracketed, closed}
 use Rattle.flame_expr.proofs.LexemeFacts.{or, same, same_equal, same_self, among}
 

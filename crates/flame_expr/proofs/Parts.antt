@@ -1,15 +1,14 @@
 -- How parts that pass or halt make longer ones that do.
-use Rattle.std.proofs.Common.{◌≡◌, ◌⊎◌, inl, inr, ℕ, zero, suc, ◌+◌, ◌<◌, ◌≤◌, List, [], ◌∷◌, length, drop, refl, sym, ap, ◌∙◌, subst, arith, Bool, true, false}
+use Rattle.std.proofs.Common.{◌≡◌, ◌⊎◌, inl, inr, ℕ, ◌<◌, ◌≤◌, List, [], ◌∷◌, length, refl, sym, ap, ◌∙◌, subst, arith, Bool, true, false}
 use Rattle.std.proofs.lemmas.Bool.{false≢true}
 use Rattle.flame_lex.specs.declared.token.Token.{Token}
 use Rattle.flame_expr.specs.declared.lexemes.Lexeme.{Lexeme}
-use Rattle.flame_expr.specs.declared.lexemes.Lexeme.TheVariants.{Nothing}
 use Rattle.flame_expr.specs.Lexemes.{lexeme_of, first, behind, is_real}
-use Rattle.flame_expr.specs.ViablePrefixes.{Form, Symbol, lexeme, form, End, left, whole, Goes, stay, match}
+use Rattle.flame_expr.specs.ViablePrefixes.{Symbol, lexeme, End, left, whole, Goes, stay, match}
 use Rattle.flame_expr.specs.ReadParts.{onto, left_of, StopsAt, Blocks, Passes, Halts}
 use Rattle.flame_expr.proofs.LexemeFacts.{and, and_left, and_right, or, same, same_equal, among}
 use Rattle.flame_expr.proofs.Walk.{at_lexeme}
-use Rattle.flame_expr.proofs.Heads.{Head, past, through, unknown, joined, heads, This, One, one_left, one_right, one_apart, Heads, left_heads, right_heads, all_heads, from_heads}
+use Rattle.flame_expr.proofs.Heads.{Head, past, through, unknown, joined, heads, One, one_apart, Heads, left_heads, right_heads, all_heads, from_heads}
 
 -- one of some rests
 abbrev pub GoesAny : List (List Symbol) → List Symbol → List Token → End → Type 0

@@ -1,5 +1,5 @@
 -- Tokens at a place.
-use Rattle.std.proofs.Common.{◌≡◌, ◌⊎◌, inl, inr, ℕ, zero, suc, ◌+◌, ◌<◌, ◌≤◌, List, [], ◌∷◌, length, drop, refl, sym, ap, ◌∙◌, subst, arith, Bool, true, false, get_or, add-one, drop-cons}
+use Rattle.std.proofs.Common.{◌≡◌, ◌⊎◌, inl, inr, ℕ, ◌+◌, ◌<◌, ◌≤◌, List, [], ◌∷◌, length, drop, refl, sym, ap, ◌∙◌, subst, arith, true, get_or, add-one, drop-cons}
 use Rattle.std.proofs.Math.ListN.{drop_of_length-le}
 use Rattle.std.proofs.lemmas.Bool.{cases_lt}
 use Rattle.std.proofs.lemmas.Bool.{false≢true}
@@ -9,9 +9,9 @@ use Rattle.flame_rows.specs.declared.fails.Fail.{Fail}
 use Rattle.flame_expr.specs.declared.faults.ParseFault.{ParseFault}
 use Rattle.flame_rows.specs.declared.fails.Fail.TheVariants.{Fault, NoMemory}
 use Rattle.flame_expr.specs.declared.faults.ParseFault.TheVariants.{TooDeep, Syntax}
-use Rattle.flame_expr.specs.Lexemes.{lexeme_of, first, behind, is_real}
+use Rattle.flame_expr.specs.Lexemes.{first, behind, is_real}
 use Rattle.flame_expr.specs.ViablePrefixes.{lexeme}
-use Rattle.flame_expr.specs.ReadParts.{Passes, Halts, Ended, Stopped, Fails}
+use Rattle.flame_expr.specs.ReadParts.{Passes, Ended, Stopped, Fails}
 use Rattle.flame_expr.proofs.Parts.{lexeme_pass, lexeme_halt}
 
 pub at_front : (tokens : List Token) (i : ℕ) (d : Token) → i < length tokens → drop i tokens ≡ get_or tokens i d ∷ drop (i + 1) tokens

@@ -1,5 +1,5 @@
 -- Where primaries end, and where they stop.
-use Rattle.std.proofs.Common.{◌≡◌, ℕ, ◌+◌, ◌<◌, ◌≤◌, List, [], ◌∷◌, length, drop, refl, sym, ap, ◌∙◌, arith, Bool, true, false}
+use Rattle.std.proofs.Common.{◌≡◌, ℕ, ◌+◌, ◌≤◌, List, [], ◌∷◌, length, drop, refl, sym, arith, Bool, true, false}
 use Rattle.std.proofs.lemmas.Bool.{false≢true}
 use Rattle.flame_lex.specs.declared.token.Token.{Token}
 use Rattle.flame_expr.specs.declared.lexemes.Lexeme.{Lexeme}
@@ -10,7 +10,7 @@ use Rattle.flame_expr.specs.ViablePrefixes.{Symbol, lexeme, form, level, primary
 use Rattle.flame_expr.specs.ReadParts.{Ended, Stopped}
 use Rattle.flame_expr.proofs.LexemeFacts.{or, among, everywhere, IsNone, not_among}
 use Rattle.flame_expr.proofs.Places.{there}
-use Rattle.flame_expr.proofs.Parts.{any_heads, pasts, ends_here, none}
+use Rattle.flame_expr.proofs.Parts.{any_heads, ends_here, none}
 use Rattle.flame_expr.proofs.Likeness.{alike_ended, alike_stopped}
 use Rattle.flame_expr.proofs.Ends.{EndedAny, StoppedAny, EndedAny, any_ended, one_ended, any_stopped, one_stopped, here_ended, here_stopped, enter_ended, enter_stopped, begin_ended, begin_stopped, ended_then, stopped_then, stopped_before, ended_weaker, stopped_weaker, form_ended, form_stopped, nothing_ended}
 

@@ -1,24 +1,23 @@
 -- What readers have read, token by token.
-use Rattle.std.proofs.Common.{◌≡◌, ℕ, zero, suc, ◌+◌, ◌-◌, ◌<◌, ◌≤◌, List, [], ◌∷◌, ◌++◌, length, drop, refl, sym, ap, ◌∙◌, subst, arith, Bool, true, false, Option, Some, None, map}
+use Rattle.std.proofs.Common.{◌≡◌, ℕ, suc, ◌+◌, ◌<◌, ◌≤◌, List, [], ◌∷◌, ◌++◌, length, drop, refl, sym, ap, ◌∙◌, subst, arith, Option, Some, None}
 use Rattle.flame_ops.specs.declared.integers.Op.{Op}
 use Rattle.flame_spec.specs.declared.trees.Sign.{Sign}
 use Rattle.flame_spec.specs.declared.trees.SignKind.{SignKind}
 use Rattle.flame_spec.specs.declared.trees.Link.{Link}
 use Rattle.flame_spec.specs.declared.trees.Expr.{Expr}
-use Rattle.flame_spec.specs.Trees.{Expression, number, name, field, get, signed, chain, all_of, any_of, Expressions, no_parts, part, Links, no_links, link, Indexed}
+use Rattle.flame_spec.specs.Trees.{Expression, number, get, chain, Expressions, no_parts, part, Links, no_links, link, Indexed}
 use Rattle.flame_spec.specs.Seen.{links, expression, expressions}
 use Rattle.flame_lex.specs.declared.token.Token.{Token}
 use Rattle.flame_expr.specs.declared.lexemes.Lexeme.{Lexeme}
 use Rattle.flame_expr.specs.declared.lexemes.Lexeme.TheVariants.{Word, Number, Open, Close, OpenBracket, CloseBracket, Arrow, AndAnd, OrOr}
-use Rattle.flame_expr.specs.Lexemes.{first, text, value, line, behind, is_real}
+use Rattle.flame_expr.specs.Lexemes.{first, text, value, line, behind}
 use Rattle.flame_expr.specs.OperatorLevels.{operators, signs, op_of, sign_of, joins}
-use Rattle.flame_expr.specs.ViablePrefixes.{Symbol, lexeme, form, level, primary, both, one_of, many, tail}
-use Rattle.flame_expr.specs.ExpressionGrammar.{named, field_of, with_signs, chained, all_parts, any_parts, Reads, a_unary, a_chain, a_conjunction, a_disjunction, Tail, no_link, a_link, Conjuncts, no_conjunct, a_conjunct, Disjuncts, no_disjunct, a_disjunct, Signs, no_sign, a_sign, Primary, a_number, a_name, a_field, a_get, in_brackets, Index, no_index, an_index, Bracketed, bracketed, Closed, closed}
+use Rattle.flame_expr.specs.ViablePrefixes.{form, level, one_of, many, tail}
+use Rattle.flame_expr.specs.ExpressionGrammar.{named, field_of, chained, Reads, Tail, no_link, a_link, Conjuncts, a_conjunct, Disjuncts, a_disjunct, Signs, no_sign, a_sign, Primary, a_number, a_name, a_field, a_get, Index, an_index, Bracketed, bracketed, Closed, closed}
 use Rattle.flame_expr.specs.ReadParts.{Ended, Stopped}
 use Rattle.flame_expr.proofs.LexemeFacts.{among, not_among}
-use Rattle.flame_expr.proofs.Places.{behind-drop, there}
-use Rattle.flame_expr.proofs.Parts.{any_heads, pasts, clean, joins_on}
-use Rattle.flame_expr.proofs.Ends.{any_ended, one_ended, any_stopped, one_stopped, here_ended, here_stopped, enter_ended, enter_stopped, begin_ended, begin_stopped, ended_then, stopped_then, stopped_before, ended_weaker, stopped_weaker, form_ended, form_stopped, nothing_ended}
+use Rattle.flame_expr.proofs.Places.{behind-drop}
+use Rattle.flame_expr.proofs.Ends.{one_ended, here_ended, begin_ended, begin_stopped, ended_then, stopped_then, stopped_before, form_ended, form_stopped}
 use Rattle.flame_expr.proofs.LevelFacts.{Enters, fine_tail, enters_tail, tail_ends, none_among, enters_signs, signs_end}
 
 -- links before others

@@ -1,14 +1,14 @@
 -- The longest run of tokens that steps match, found token by token.
-use Rattle.std.proofs.Common.{◌≡◌, ◌⊎◌, inl, inr, ℕ, zero, suc, ◌+◌, ◌-◌, ◌*◌, ◌<◌, ◌≤◌, List, [], ◌∷◌, length, drop, refl, sym, ap, ◌∙◌, subst, arith, Bool, true, false, length-drop}
+use Rattle.std.proofs.Common.{◌≡◌, ◌⊎◌, inl, inr, ℕ, zero, suc, ◌+◌, ◌*◌, ◌<◌, ◌≤◌, List, [], ◌∷◌, length, drop, refl, sym, ap, ◌∙◌, subst, arith, Bool, true, false, length-drop}
 use Rattle.std.proofs.lemmas.Bool.{false≢true}
 use Rattle.flame_lex.specs.declared.token.Token.{Token}
 use Rattle.flame_expr.specs.declared.lexemes.Lexeme.{Lexeme}
 use Rattle.flame_expr.specs.declared.lexemes.Lexeme.TheVariants.{Nothing}
 use Rattle.flame_expr.specs.Lexemes.{first, behind, is_real}
-use Rattle.flame_expr.specs.ViablePrefixes.{Form, level, primary, a_unit, a_def, a_block, a_stmt, a_decl, an_item, a_simple, an_assign, a_place, a_value, some_args, a_body, an_if, a_while, a_for, a_do, a_loop, Symbol, lexeme, form, both, either, one_of, maybe, many, right_side, End, left, whole, Goes, stay, done, match, expand, in_turn, first_part, second_part, this, later, with_it, without, more, enough, Matches, IsPrefix, IsLongest}
+use Rattle.flame_expr.specs.ViablePrefixes.{Form, level, primary, a_unit, a_def, a_block, a_stmt, a_decl, an_item, a_simple, an_assign, a_place, a_value, some_args, a_body, an_if, a_while, a_for, a_do, a_loop, Symbol, lexeme, form, both, either, one_of, maybe, many, right_side, End, left, whole, Goes, done, Matches, IsLongest}
 use Rattle.flame_expr.specs.ReadParts.{onto, left_of}
 use Rattle.flame_expr.proofs.LexemeFacts.{and, and_left, and_right, or, all_pass, same, same_equal}
-use Rattle.flame_expr.proofs.Heads.{Head, past, through, unknown, if_fits, joined, heads, This, One, one_left, one_right, one_apart, Heads, left_heads, right_heads, all_heads, from_heads}
+use Rattle.flame_expr.proofs.Heads.{Head, past, through, unknown, if_fits, joined, heads, One, one_apart, Heads, left_heads, right_heads, all_heads, from_heads}
 use Rattle.flame_expr.proofs.Parts.{GoesAny, pasts, pasts_one, stay_any}
 use Rattle.flame_expr.proofs.LongestPrefixes.{nothing_left}
 

@@ -1,9 +1,9 @@
 -- What a first step can have been.
-use Rattle.std.proofs.Common.{◌≡◌, ◌⊎◌, inl, inr, ℕ, zero, suc, ◌+◌, ◌<◌, ◌≤◌, List, [], ◌∷◌, length, refl, sym, ap, ◌∙◌, subst, arith, Bool, true, false}
+use Rattle.std.proofs.Common.{◌≡◌, ◌⊎◌, inl, inr, ◌<◌, List, [], ◌∷◌, length, refl, arith}
 use Rattle.flame_lex.specs.declared.token.Token.{Token}
 use Rattle.flame_expr.specs.declared.lexemes.Lexeme.{Lexeme}
-use Rattle.flame_expr.specs.Lexemes.{lexeme_of, first, behind}
-use Rattle.flame_expr.specs.ViablePrefixes.{Form, Symbol, lexeme, form, both, either, one_of, maybe, many, right_side, End, left, whole, Goes, stay, done, match, expand, in_turn, first_part, second_part, this, later, with_it, without, more, enough}
+use Rattle.flame_expr.specs.Lexemes.{first, behind}
+use Rattle.flame_expr.specs.ViablePrefixes.{Form, Symbol, lexeme, form, both, either, one_of, maybe, many, right_side, End, left, Goes, stay, match, expand, in_turn, first_part, second_part, this, later, with_it, without, more, enough}
 
 pub at_form : {n : Form} {K : List Symbol} {ts : List Token} {e : End} → Goes (form n ∷ K) ts e → Goes (right_side n ∷ K) ts e
 at_form stay = stay

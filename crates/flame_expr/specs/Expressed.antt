@@ -1,5 +1,5 @@
 -- What the reader of expressions answers.
-use Rattle.std.specs.Prelude.{◌≡◌, ℕ, ◌≤◌, ◌-◌, List, length, drop}
+use Rattle.std.specs.Prelude.{ℕ, ◌≤◌, ◌-◌, List, length, drop}
 use Rattle.flame_lex.specs.declared.token.Token.{Token}
 use Rattle.flame_spec.specs.Trees.{Expression}
 use Rattle.flame_expr.specs.ExpressionGrammar.{Reads}

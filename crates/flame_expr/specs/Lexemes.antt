@@ -1,5 +1,5 @@
 -- What tokens are to the grammar.
-use Rattle.std.specs.Prelude.{ℕ, ℤ, pos, List, [], ◌∷◌, Bool, true, false, ◌==◌, ◌||◌, slice_index_or}
+use Rattle.std.specs.Prelude.{ℕ, ℤ, pos, List, [], ◌∷◌, Bool, true, false, slice_index_or}
 use Rattle.flame_lex.specs.declared.token.Kind.{Kind}
 use Rattle.flame_lex.specs.declared.token.Token.{Token}
 use Rattle.flame_expr.specs.declared.lexemes.TheConstants.{MARKS, KEYWORDS}

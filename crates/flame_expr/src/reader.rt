@@ -11,7 +11,8 @@ ghost use Rattle.flame_expr.specs.OperatorLevels.{joins, joins_index};
 ghost use Rattle.flame_expr.specs.ViablePrefixes as steps;
 ghost use Rattle.flame_expr.specs.ViablePrefixes.{one_of, many, form, lexeme, expr, index};
 ghost use Rattle.flame_expr.specs.ExpressionGrammar as grammar;
-ghost use Rattle.flame_expr.specs.ExpressionGrammar.{Reads, Tail, Conjuncts, Disjuncts, Signs, Primary, Index, Bracketed, Closed};
+ghost use Rattle.flame_expr.specs.ExpressionGrammar.{Reads, Tail, Conjuncts, Disjuncts, Signs, Primary, Index};
+ghost use Rattle.flame_expr.specs.ExpressionGrammar.{Bracketed, Closed};
 ghost use Rattle.flame_expr.specs.ExpressionGrammar.{all_parts, any_parts, named, field_of};
 ghost use Rattle.flame_expr.specs.ReadParts.{Ended, StopsBy};
 

@@ -1,4 +1,4 @@
-use Rattle.std.proofs.Common.{◌≡◌, sym, ◌∙◌, rules}
+use Rattle.std.proofs.Common.{sym, ◌∙◌, rules}
 use Rattle.flame_expr.proofs.Places.{lexeme_ended, lexeme_stopped}
 use denote.Enum.Bare.{same_false}
 use Rattle.flame_expr.specs.contracts.lexemes.Lexeme as kind

@@ -1,7 +1,7 @@
-use Rattle.std.proofs.Common.{◌≡◌, ◌+◌, ap, ◌∙◌, arith}
+use Rattle.std.proofs.Common.{◌+◌, ap, ◌∙◌, arith}
 use Rattle.std.specs.Prelude.{if◌then◌else◌}
 use Rattle.flame_expr.specs.Nesting.{opens, closes}
-use Rattle.flame_expr.proofs.Depths.{depth_begin, depth_step, depth_exceeds, depth_all}
+use Rattle.flame_expr.proofs.Depths.{depth_begin, depth_step, depth_exceeds}
 use Rattle.flame_expr.proofs.depth.first_too_deep.Goals as goal
 
 pub loop-at-init : goal.loop-at-init

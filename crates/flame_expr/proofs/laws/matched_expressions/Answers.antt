@@ -1,4 +1,4 @@
-use Rattle.std.proofs.Common.{ℕ, List, [], ◌∷◌, arith}
+use Rattle.std.proofs.Common.{[], arith}
 use Rattle.flame_expr.specs.ViablePrefixes.{level, whole, done}
 use Rattle.flame_expr.proofs.Derivations.{reads_go}
 use Rattle.flame_expr.proofs.Meanings.{matches_means, means_level}

@@ -1,9 +1,9 @@
-use Rattle.std.proofs.Common.{◌≡◌, ◌⊎◌, inl, inr, ℕ, ◌+◌, ◌-◌, ◌≤◌, List, [], ◌∷◌, length, drop, sym, subst, arith, length-drop}
+use Rattle.std.proofs.Common.{◌≡◌, ◌⊎◌, inl, inr, ℕ, ◌+◌, ◌-◌, ◌≤◌, List, [], length, drop, sym, subst, arith, length-drop}
 use Rattle.flame_lex.specs.declared.token.Token.{Token}
 use Rattle.flame_spec.specs.Trees.{Expression}
-use Rattle.flame_expr.specs.ViablePrefixes.{level, whole, done, Matches, IsLongest}
+use Rattle.flame_expr.specs.ViablePrefixes.{level, whole, done, IsLongest}
 use Rattle.flame_expr.specs.ExpressionGrammar.{Reads}
-use Rattle.flame_expr.specs.Expressed.{IsExpression, IsExpressionAt, IsNoExpressionAt}
+use Rattle.flame_expr.specs.Expressed.{IsExpressionAt, IsNoExpressionAt}
 use Rattle.flame_expr.proofs.Derivations.{reads_go}
 use Rattle.flame_expr.proofs.Meanings.{matches_means, means_level}
 use Rattle.flame_expr.proofs.LongestPrefixes.{rest_at}

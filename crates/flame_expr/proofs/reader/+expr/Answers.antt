@@ -1,5 +1,5 @@
 -- Each way that a reader returns, by the parts that it read.
-use Rattle.std.proofs.Common.{◌≡◌, ℕ, ◌+◌, [], ◌∷◌, drop, sym, refl, ap, ◌∙◌, arith, rules}
+use Rattle.std.proofs.Common.{drop, sym, refl, ap, ◌∙◌, arith, rules}
 use Rattle.std.proofs.lemmas.Int.{to_z-of_z}
 use mir.Syntax.{w32}
 use mir.Val.{SFits}
@@ -9,7 +9,7 @@ use Rattle.flame_expr.specs.declared.lexemes.Lexeme.TheVariants.{AndAnd, OrOr}
 use Rattle.flame_expr.specs.OperatorLevels.{op_of}
 use Rattle.flame_expr.specs.ExpressionGrammar.{a_unary, a_chain, a_conjunction, a_disjunction, Conjuncts, Disjuncts, no_conjunct, no_disjunct, no_index, in_brackets, bracketed, Closed}
 use Rattle.flame_expr.proofs.Ends.{stops_by}
-use Rattle.flame_expr.proofs.Readings.{at_next, number_read, name_read, field_read, get_read, index_read, closed_read, links_begin, links_step, links_read, links_ended, op_part_stopped, level_ended, level_stopped, level_first_stopped, parts_step, parts_read, parts_ended, and_joint, or_joint, joint_stopped, conjunct_on, disjunct_on, unlike}
+use Rattle.flame_expr.proofs.Readings.{at_next, number_read, name_read, field_read, get_read, index_read, closed_read, links_step, links_read, links_ended, op_part_stopped, level_ended, level_stopped, level_first_stopped, parts_step, parts_read, parts_ended, and_joint, or_joint, joint_stopped, conjunct_on, disjunct_on, unlike}
 use Rattle.flame_expr.proofs.Primaries.{name_ended, name_stopped, field_ended, field_word_stopped, field_index_stopped, get_ended, get_stopped, no_index_ended, index_ended, index_stopped, index_end_stopped, number_ended, none_stopped, brackets_ended, brackets_stopped, unary_ended, unary_stopped, closed_stopped, close_stopped, closed_ended}
 use Rattle.flame_expr.proofs.reader.+expr.Goals as goal
 

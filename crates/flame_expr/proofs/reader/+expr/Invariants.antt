@@ -1,4 +1,4 @@
-use Rattle.std.proofs.Common.{◌≡◌, ℕ, ◌+◌, ◌-◌, ◌*◌, ◌≤◌, length, drop}
+use Rattle.std.proofs.Common.{◌+◌, ◌-◌, ◌*◌, length}
 use Rattle.flame_expr.specs.ExpressionGrammar.{Conjuncts, Disjuncts}
 use Rattle.flame_expr.proofs.Readings.{LinksOn, PartsOn}
 use Rattle.flame_expr.proofs.reader.+expr.Given as goal

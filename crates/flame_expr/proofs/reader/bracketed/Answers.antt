@@ -1,4 +1,3 @@
-use Rattle.std.proofs.Common.{refl}
 use Rattle.flame_spec.specs.Seen.{expression}
 use Rattle.flame_expr.proofs.Ends.{stops_by}
 use Rattle.flame_expr.proofs.Readings.{bracketed_read}

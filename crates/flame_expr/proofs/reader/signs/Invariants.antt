@@ -1,9 +1,4 @@
-use Rattle.std.proofs.Common.{◌≡◌, ℕ, ◌-◌, ◌≤◌, ◌++◌, List, length, drop}
-use Rattle.flame_spec.specs.declared.trees.Sign.{Sign}
-use Rattle.flame_lex.specs.declared.token.Token.{Token}
-use Rattle.flame_expr.specs.ExpressionGrammar.{Signs}
-use Rattle.flame_expr.specs.OperatorLevels.{signs}
-use Rattle.flame_expr.specs.ReadParts.{Ended}
+use Rattle.std.proofs.Common.{◌-◌, length}
 use Rattle.flame_expr.proofs.Readings.{SignsOn}
 use Rattle.flame_expr.proofs.reader.signs.Given as goal
 
