@@ -1,7 +1,7 @@
 //! The calls that cases are of.
 
 use crate::case::Case;
-use crate::{lexing, ordering, running};
+use crate::{lexing, modeling, naming, ordering, planning, running};
 use std::alloc::{AllocError, Global};
 use std::sync::Wait;
 use std::thread::Threads;
@@ -15,6 +15,14 @@ pub(crate) enum Kind {
     Run,
     /// `flame_words::order`
     Words,
+    /// `flame_xmml::model_of`, whether it has a fault
+    Shape,
+    /// `flame_xmml::model_of`, with the model
+    Model,
+    /// `flame_names::names`
+    Names,
+    /// `flame_depend::edges` and `flame_depend::plan`
+    Plan,
 }
 
 /// The call that the file's folder names.
@@ -23,6 +31,10 @@ pub(crate) fn kind_of(file: &str) -> Option<Kind> {
         "lex" => Some(Kind::Lex),
         "run" => Some(Kind::Run),
         "words" => Some(Kind::Words),
+        "shape" => Some(Kind::Shape),
+        "model" => Some(Kind::Model),
+        "names" => Some(Kind::Names),
+        "plan" => Some(Kind::Plan),
         _ => None,
     }
 }
@@ -38,5 +50,9 @@ pub(crate) fn answer(
         Kind::Lex => lexing::answer(alloc, case),
         Kind::Run => running::answer(rt, alloc, case),
         Kind::Words => ordering::answer(alloc, case),
+        Kind::Shape => modeling::answer_shape(alloc, case),
+        Kind::Model => modeling::answer(alloc, case),
+        Kind::Names => naming::answer(alloc, case),
+        Kind::Plan => planning::answer(alloc, case),
     }
 }

@@ -7,7 +7,10 @@
 mod case;
 mod kinds;
 mod lexing;
+mod modeling;
+mod naming;
 mod ordering;
+mod planning;
 mod running;
 mod watched;
 

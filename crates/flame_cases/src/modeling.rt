@@ -1,0 +1,190 @@
+//! Cases of `model_of`, and the model of other cases. The section `model` is the JSON text of a model. The answer is
+//! the model, a part of it a line, in cases of the kind `model`; `fine` in its place in cases of the kind `shape`; and the
+//! fault of its shape, as `wanted List at /xmodel/agents`, in both.
+
+use crate::case::Case;
+use flame_rows::{Fail, Text};
+use flame_spec::{AgentType, Condition, Function, Input, Model, Operand, Variable};
+use flame_xmml::{Shape, model_of};
+use serde_json::Value;
+use std::alloc::{AllocError, Global};
+
+/// What was read.
+#[derive(Drop)]
+pub(crate) enum Found {
+    /// The model.
+    Model(Model),
+    /// Why there is none, as it is answered.
+    Told(String),
+}
+
+fn print_shape(out: &mut String, shape: &Shape) -> Result<(), AllocError> {
+    let want = shape.want.name();
+    let path = shape.path.as_str();
+    if path.is_empty() {
+        return writeln!(out, "wanted {want} at the root");
+    }
+    writeln!(out, "wanted {want} at {path}")
+}
+
+/// The model of a case.
+pub(crate) fn model_in(alloc: Global, case: &Case) -> Result<Found, AllocError> {
+    let mut out = String::new(alloc);
+    let Ok(value) = Value::from_str(alloc, case.text("model")) else {
+        writeln!(out, "not JSON")?;
+        return Ok(Found::Told(out));
+    };
+    match model_of(alloc, &value) {
+        Ok(model) => return Ok(Found::Model(model)),
+        Err(Fail::Fault(shape)) => print_shape(&mut out, &shape)?,
+        Err(Fail::NoMemory) => writeln!(out, "no memory")?,
+    }
+    Ok(Found::Told(out))
+}
+
+fn print_operand(out: &mut String, operand: &Operand) -> Result<(), AllocError> {
+    match operand {
+        Operand::Number(number) => write!(out, "{number}"),
+        Operand::Agent(name) => write!(out, "a.{name}"),
+        Operand::Message(name) => write!(out, "m.{name}"),
+    }
+}
+
+/// The operator of a condition.
+fn word_of(condition: &Condition) -> &'static str {
+    match condition {
+        Condition::Compare(_, _, _) => "Compare",
+        Condition::And(_, _) => "And",
+        Condition::Or(_, _) => "Or",
+        Condition::Not(_) => "Not",
+        Condition::Time(_, _, _) => "Time",
+    }
+}
+
+/// A condition, with its operator first: `(And (Eq a.x 1) (Not (Time day 0 1)))`.
+fn print_condition(out: &mut String, condition: &Condition) -> Result<(), AllocError> {
+    let word = word_of(condition);
+    match condition {
+        Condition::Compare(op, a, b) => {
+            write!(out, "({op:?} ")?;
+            print_operand(out, a)?;
+            write!(out, " ")?;
+            print_operand(out, b)?;
+        }
+        Condition::And(left, right) | Condition::Or(left, right) => {
+            write!(out, "({word} ")?;
+            print_condition(out, left)?;
+            write!(out, " ")?;
+            print_condition(out, right)?;
+        }
+        Condition::Not(part) => {
+            write!(out, "({word} ")?;
+            print_condition(out, part)?;
+        }
+        Condition::Time(unit, phase, duration) => {
+            write!(out, "({word} {unit} ")?;
+            print_operand(out, phase)?;
+            write!(out, " {duration}")?;
+        }
+    }
+    write!(out, ")")
+}
+
+fn print_titled(
+    out: &mut String,
+    title: &str,
+    condition: Option<&Condition>,
+) -> Result<(), AllocError> {
+    if let Some(condition) = condition {
+        write!(out, "{title} ")?;
+        print_condition(out, condition)?;
+        writeln!(out)?;
+    }
+    Ok(())
+}
+
+fn print_variables(out: &mut String, variables: &[Variable]) -> Result<(), AllocError> {
+    for variable in variables {
+        match variable.length {
+            None => writeln!(out, "variable {}", variable.name)?,
+            Some(length) => writeln!(out, "variable {} {length}", variable.name)?,
+        }
+    }
+    Ok(())
+}
+
+fn print_input(out: &mut String, input: &Input) -> Result<(), AllocError> {
+    writeln!(out, "input {}", input.message)?;
+    if input.random {
+        writeln!(out, "random")?;
+    }
+    print_titled(out, "filter", input.filter.as_ref())?;
+    if let Some(sort) = &input.sort {
+        let order = if sort.descending { "descend" } else { "ascend" };
+        writeln!(out, "sort {} {order}", sort.key)?;
+    }
+    Ok(())
+}
+
+fn print_function(out: &mut String, function: &Function) -> Result<(), AllocError> {
+    writeln!(out, "function {}", function.name)?;
+    writeln!(out, "current {}", function.current)?;
+    writeln!(out, "next {}", function.next)?;
+    print_titled(out, "condition", function.condition.as_ref())?;
+    for input in function.inputs.items() {
+        print_input(out, input)?;
+    }
+    print_names(out, "output", function.outputs.items())
+}
+
+fn print_agent(out: &mut String, agent: &AgentType) -> Result<(), AllocError> {
+    writeln!(out, "agent {}", agent.name)?;
+    print_variables(out, agent.memory.items())?;
+    for function in agent.functions.items() {
+        print_function(out, function)?;
+    }
+    Ok(())
+}
+
+fn print_names(out: &mut String, title: &str, names: &[Text]) -> Result<(), AllocError> {
+    for name in names {
+        writeln!(out, "{title} {name}")?;
+    }
+    Ok(())
+}
+
+fn print_model(out: &mut String, model: &Model) -> Result<(), AllocError> {
+    print_names(out, "constant", model.constants.items())?;
+    print_names(out, "file", model.files.items())?;
+    for unit in model.units.items() {
+        writeln!(out, "unit {} {} {}", unit.name, unit.unit, unit.period)?;
+    }
+    for message in model.messages.items() {
+        writeln!(out, "message {}", message.name)?;
+        print_variables(out, message.variables.items())?;
+    }
+    for agent in model.agents.items() {
+        print_agent(out, agent)?;
+    }
+    Ok(())
+}
+
+/// The answer to a case of the kind `model`.
+pub(crate) fn answer(alloc: Global, case: &Case) -> Result<String, AllocError> {
+    match model_in(alloc, case)? {
+        Found::Told(told) => Ok(told),
+        Found::Model(model) => {
+            let mut out = String::new(alloc);
+            print_model(&mut out, &model)?;
+            Ok(out)
+        }
+    }
+}
+
+/// The answer to a case of the kind `shape`.
+pub(crate) fn answer_shape(alloc: Global, case: &Case) -> Result<String, AllocError> {
+    match model_in(alloc, case)? {
+        Found::Told(told) => Ok(told),
+        Found::Model(_) => String::from_str(alloc, "fine\n"),
+    }
+}
