@@ -39,6 +39,15 @@ impl Case {
         &[]
     }
 
+    /// Whether it has a name, and says what is wanted.
+    pub(crate) fn is_whole(&self) -> bool {
+        let wants = self
+            .sections
+            .iter()
+            .any(|section| section.title.as_str() == "wants");
+        wants && !self.name.is_empty()
+    }
+
     /// The text of the first section of this title; empty where there is none, or where it is no UTF-8.
     pub(crate) fn text(&self, title: &str) -> &str {
         str::from_utf8(self.bytes(title)).unwrap_or("")

@@ -1,7 +1,7 @@
 //! The calls that cases are of.
 
 use crate::case::Case;
-use crate::{lexing, modeling, naming, ordering, planning, running};
+use crate::{deciding, lexing, modeling, naming, ordering, planning, running, viewing};
 use std::alloc::{AllocError, Global};
 use std::sync::Wait;
 use std::thread::Threads;
@@ -23,6 +23,10 @@ pub(crate) enum Kind {
     Names,
     /// `flame_depend::edges` and `flame_depend::plan`
     Plan,
+    /// The conditions, filters and keys of `flame_cond`
+    Condition,
+    /// `flame_view::View`
+    View,
 }
 
 /// The call that the file's folder names.
@@ -35,6 +39,8 @@ pub(crate) fn kind_of(file: &str) -> Option<Kind> {
         "model" => Some(Kind::Model),
         "names" => Some(Kind::Names),
         "plan" => Some(Kind::Plan),
+        "condition" => Some(Kind::Condition),
+        "view" => Some(Kind::View),
         _ => None,
     }
 }
@@ -54,5 +60,7 @@ pub(crate) fn answer(
         Kind::Model => modeling::answer(alloc, case),
         Kind::Names => naming::answer(alloc, case),
         Kind::Plan => planning::answer(alloc, case),
+        Kind::Condition => deciding::answer(alloc, case),
+        Kind::View => viewing::answer(alloc, case),
     }
 }

@@ -1,0 +1,122 @@
+//! Cases of views: the sections `model`, `memory`, which has the numbers of a row, and `board`, which has a row a line.
+//! For each input of each function, both from 0 in document order, the answer has its view of the board, as `view 0 1`
+//! with the rows behind it.
+
+use crate::case::Case;
+use crate::deciding::{message_of, row_in};
+use crate::modeling::{Found, model_in};
+use crate::readable::{is_narrow, is_readable_filter};
+use flame_cond::{Filter, SortBy};
+use flame_index::Frozen;
+use flame_rows::{Bag, NoMemory, Row};
+use flame_spec::{AgentType, Condition, Input, MessageType, Model};
+use flame_view::View;
+use std::alloc::{AllocError, Global};
+
+/// What is viewed, and by whom.
+#[derive(Drop)]
+struct Scene {
+    model: Model,
+    memory: Row,
+    board: Frozen,
+}
+
+fn print_row(out: &mut String, row: &Row) -> Result<(), AllocError> {
+    write!(out, "row")?;
+    for number in row.values() {
+        write!(out, " {number}")?;
+    }
+    writeln!(out)
+}
+
+fn print_view(out: &mut String, view: &View<'_>) -> Result<(), AllocError> {
+    for place in 0..view.len() {
+        print_row(out, view.row(place))?;
+    }
+    Ok(())
+}
+
+/// The filter of an input, where it can be read.
+fn filter_of(
+    alloc: Global,
+    condition: &Condition,
+    agent: &AgentType,
+    message: &MessageType,
+) -> Result<Option<Filter>, NoMemory> {
+    if !is_readable_filter(condition, agent, message) {
+        return Ok(None);
+    }
+    Ok(Some(Filter::of(alloc, condition, agent, message)?))
+}
+
+/// The view of an input of this message.
+fn print_input(
+    alloc: Global,
+    out: &mut String,
+    scene: &Scene,
+    agent: &AgentType,
+    input: &Input,
+    message: &MessageType,
+) -> Result<(), AllocError> {
+    if !is_narrow(message.variables.items()) {
+        return writeln!(out, "too large");
+    }
+    let sort = input.sort.as_ref().map(|sort| SortBy::of(sort, message));
+    let filter = match &input.filter {
+        None => None,
+        Some(condition) => match filter_of(alloc, condition, agent, message) {
+            Ok(Some(filter)) => Some(filter),
+            Ok(None) => return writeln!(out, "cannot be read"),
+            Err(_) => return Err(AllocError),
+        },
+    };
+    match View::new(alloc, &scene.board, filter.as_ref(), sort, &scene.memory) {
+        Ok(view) => print_view(out, &view),
+        Err(_) => Err(AllocError),
+    }
+}
+
+fn print_all(alloc: Global, out: &mut String, scene: &Scene) -> Result<(), AllocError> {
+    let mut number: u64 = 0;
+    for agent in scene.model.agents.items() {
+        for function in agent.functions.items() {
+            for (place, input) in function.inputs.items().iter().enumerate() {
+                if let Some(message) = message_of(&scene.model, input.message.as_str()) {
+                    writeln!(out, "view {number} {place}")?;
+                    print_input(alloc, out, scene, agent, input, message)?;
+                }
+            }
+            number = number.saturating_add(1);
+        }
+    }
+    Ok(())
+}
+
+/// The board of a section.
+fn board_in(alloc: Global, text: &str) -> Result<Frozen, AllocError> {
+    let mut rows = Vec::new(alloc);
+    for line in text.split('\n') {
+        if !line.is_empty() {
+            rows.push(row_in(alloc, line)?)?;
+        }
+    }
+    match Bag::of_rows(rows) {
+        Ok(bag) => Ok(Frozen::of(bag)),
+        Err(_) => Err(AllocError),
+    }
+}
+
+pub(crate) fn answer(alloc: Global, case: &Case) -> Result<String, AllocError> {
+    let model = match model_in(alloc, case)? {
+        Found::Told(told) => return Ok(told),
+        Found::Model(model) => model,
+    };
+    let scene = Scene {
+        model,
+        memory: row_in(alloc, case.text("memory"))?,
+        board: board_in(alloc, case.text("board"))?,
+    };
+    let mut out = String::new(alloc);
+    print_all(alloc, &mut out, &scene)?;
+    Ok(out)
+}
