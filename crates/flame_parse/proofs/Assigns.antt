@@ -1,10 +1,10 @@
 -- Assignments, calls and the like, token by token.
-use Rattle.std.proofs.Common.{◌≡◌, ℕ, pos, ◌+◌, List, [], ◌∷◌, drop, refl, sym, ap, ◌∙◌, subst, Option, Some, None}
+use Rattle.std.proofs.Common.{◌≡◌, ℕ, pos, ◌+◌, List, drop, sym, ap, ◌∙◌, subst, Option, Some}
 use Rattle.flame_ops.specs.declared.integers.Op.{Op}
-use Rattle.flame_spec.specs.Trees.{Expression, number, Expressions, Stored, plain, called, Indexed, Assigned, Statement, call, break, continue}
+use Rattle.flame_spec.specs.Trees.{number, Expressions, Stored, plain, called, Indexed, Assigned, call, break, continue}
 use Rattle.flame_lex.specs.declared.token.Token.{Token}
 use Rattle.flame_expr.specs.declared.lexemes.Lexeme.TheVariants.{Word, Open, Close, Semicolon, Break, Continue}
-use Rattle.flame_expr.specs.Lexemes.{first, text, line, behind}
+use Rattle.flame_expr.specs.Lexemes.{first, text, line}
 use Rattle.flame_expr.specs.ExpressionGrammar.{Index}
 use Rattle.flame_expr.proofs.Places.{behind-drop}
 use Rattle.flame_parse.specs.AssignmentOperators.{IsCall, set_op, step_op}

@@ -1,20 +1,20 @@
 -- What statements and assignments begin with.
-use Rattle.std.proofs.Common.{◌≡◌, ◌⊎◌, inl, inr, ℕ, ◌+◌, ◌<◌, ◌≤◌, List, [], ◌∷◌, length, drop, refl, sym, ap, ◌∙◌, subst, arith, Bool, true, false, Option, Some, None, lit<}
+use Rattle.std.proofs.Common.{◌≡◌, ◌⊎◌, inl, inr, ℕ, ◌<◌, List, [], ◌∷◌, length, drop, refl, sym, ap, ◌∙◌, subst, arith, Bool, true, false, Option, Some, None}
 use Rattle.std.proofs.lemmas.Bool.{false≢true}
 use Rattle.flame_ops.specs.declared.integers.Op.{Op}
 use Rattle.flame_lex.specs.declared.token.Token.{Token}
 use Rattle.flame_expr.specs.declared.lexemes.Lexeme.{Lexeme}
-use Rattle.flame_expr.specs.declared.lexemes.Lexeme.TheVariants.{Nothing, Word, Start, Finish, PlusPlus, MinusMinus, PlusSet, MinusSet, StarSet, SlashSet, PercentSet, Set, Open, Close, OpenBrace, CloseBrace, Comma, Semicolon, Int, Void, If, Else, While, For, Do, Return, Break, Continue}
+use Rattle.flame_expr.specs.declared.lexemes.Lexeme.TheVariants.{Word, Start, PlusPlus, MinusMinus, PlusSet, MinusSet, StarSet, SlashSet, PercentSet, Set, Open, Close, OpenBrace, Comma, Semicolon, Int, Void, If, Else, While, For, Do, Return, Break, Continue}
 use Rattle.flame_expr.specs.Lexemes.{first, behind, is_real}
 use Rattle.flame_expr.specs.OperatorLevels.{joins}
-use Rattle.flame_expr.specs.ViablePrefixes.{Symbol, lexeme, form, both, either, one_of, maybe, many, expr, index, setters, steppers, parameter, more_parameters, parameters, more_args, more_items, else_ifs, else_body, a_unit, a_def, a_block, a_stmt, a_decl, an_item, a_simple, an_assign, a_place, a_value, some_args, a_body, End, left, Goes, stay, match, expand, in_turn, first_part, second_part}
-use Rattle.flame_expr.specs.ReadParts.{onto, Ended, Stopped}
-use Rattle.flame_expr.proofs.LexemeFacts.{IsNone, or, among, everywhere, not_among}
+use Rattle.flame_expr.specs.ViablePrefixes.{Symbol, lexeme, form, either, one_of, maybe, many, expr, index, setters, steppers, parameter, more_parameters, parameters, more_args, more_items, else_ifs, else_body, a_def, a_stmt, a_decl, a_simple, an_assign, a_place, a_value, some_args, a_body, End, left, Goes, stay, expand, in_turn, first_part, second_part}
+use Rattle.flame_expr.specs.ReadParts.{Ended, Stopped}
+use Rattle.flame_expr.proofs.LexemeFacts.{or, among, everywhere, not_among}
 use Rattle.flame_expr.proofs.Walk.{at_lexeme}
 use Rattle.flame_expr.proofs.Heads.{One}
 use Rattle.flame_expr.proofs.Parts.{any_heads, any_all, pasts, clean, none, ends_here, joins_on, go_on, GoesAny}
 use Rattle.flame_parse.specs.HeadSymbols.{initial_symbol}
-use Rattle.flame_parse.specs.AssignmentOperators.{set_op, step_op, starts, starters, joins_item, joins_items, joins_args, joins_stmt, joins_stmts}
+use Rattle.flame_parse.specs.AssignmentOperators.{set_op, step_op, starts, joins_stmts}
 
 -- the rests behind the place of an assignment
 abbrev pub operations : List (List Symbol)

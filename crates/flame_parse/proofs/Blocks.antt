@@ -1,12 +1,12 @@
 -- Blocks, and the arms of an `if`.
-use Rattle.std.proofs.Common.{◌≡◌, ℕ, ◌+◌, ◌<◌, ◌≤◌, List, [], ◌∷◌, ◌++◌, length, drop, map, refl, sym, ap, ◌∙◌, subst, arith, true}
+use Rattle.std.proofs.Common.{◌≡◌, ℕ, ◌≤◌, List, [], ◌∷◌, ◌++◌, length, drop, map, refl, sym, ap, ◌∙◌, subst, arith}
 use Rattle.flame_spec.specs.declared.trees.Arm.{Arm}
 use Rattle.flame_spec.specs.Trees.{Statements, no_more}
 use Rattle.flame_spec.specs.Seen.{Tested, tested, arms, arms_of}
 use Rattle.flame_lex.specs.declared.token.Token.{Token}
 use Rattle.flame_expr.specs.declared.lexemes.Lexeme.TheVariants.{OpenBrace, CloseBrace}
-use Rattle.flame_expr.specs.Lexemes.{first, behind}
-use Rattle.flame_expr.specs.ViablePrefixes.{Symbol, form, lexeme, both, many, else_ifs, else_body, a_stmt, a_block, a_body, End, left, Goes, expand, in_turn}
+use Rattle.flame_expr.specs.Lexemes.{first}
+use Rattle.flame_expr.specs.ViablePrefixes.{Symbol, form, lexeme, many, else_ifs, else_body, a_stmt, a_block, a_body, expand, in_turn}
 use Rattle.flame_expr.specs.ReadParts.{Ended, Stopped}
 use Rattle.flame_expr.proofs.Walk.{at_form, at_both}
 use Rattle.flame_expr.proofs.Parts.{any_heads}

@@ -1,12 +1,12 @@
 -- Function definitions, token by token.
-use Rattle.std.proofs.Common.{◌≡◌, ℕ, ◌+◌, ◌<◌, ◌≤◌, List, [], ◌∷◌, length, drop, refl, sym, ap, ◌∙◌, subst, arith}
+use Rattle.std.proofs.Common.{◌≡◌, ℕ, ◌+◌, ◌<◌, List, [], ◌∷◌, length, drop, refl, sym, ap, ◌∙◌, subst, arith}
 use Rattle.flame_spec.specs.declared.trees.Parameter.{Parameter}
 use Rattle.flame_spec.specs.Trees.{Statements}
 use Rattle.flame_lex.specs.declared.token.Token.{Token}
 use Rattle.flame_expr.specs.declared.lexemes.Lexeme.{Lexeme}
 use Rattle.flame_expr.specs.declared.lexemes.Lexeme.TheVariants.{Int, Word, Open, Close}
 use Rattle.flame_expr.specs.Lexemes.{first, text, line, behind}
-use Rattle.flame_expr.specs.ViablePrefixes.{Symbol, form, lexeme, parameter, parameters, a_def, a_block, End, left, Goes, expand, in_turn}
+use Rattle.flame_expr.specs.ViablePrefixes.{Symbol, form, lexeme, parameter, parameters, a_def, a_block, expand, in_turn}
 use Rattle.flame_expr.specs.ReadParts.{Ended, Stopped}
 use Rattle.flame_expr.proofs.Walk.{at_form, at_both}
 use Rattle.flame_expr.proofs.Parts.{any_heads, pasts}

@@ -1,5 +1,5 @@
 -- What the grammar of statements reads is reached by steps.
-use Rattle.std.proofs.Common.{◌≡◌, inl, inr, ℕ, List, [], ◌∷◌, refl, sym, ap, ◌∙◌, subst, Option, Some, None}
+use Rattle.std.proofs.Common.{◌≡◌, inl, inr, ℕ, List, [], ◌∷◌, refl, sym, subst, Option}
 use Rattle.flame_spec.specs.declared.trees.Parameter.{Parameter}
 use Rattle.flame_spec.specs.Trees.{Expression, Expressions, Stored, Indexed, Declared, Assigned, Statement, Statements, Arms}
 use Rattle.flame_lex.specs.declared.token.Token.{Token}
@@ -7,7 +7,6 @@ use Rattle.flame_expr.specs.declared.lexemes.Lexeme.{Lexeme}
 use Rattle.flame_expr.specs.declared.lexemes.Lexeme.TheVariants.{Word, Start, Finish, Set, Open, Close, OpenBrace, CloseBrace, Comma, Semicolon, Int, Void, If, Else, While, For, Do, Return, Break, Continue}
 use Rattle.flame_expr.specs.Lexemes.{first, behind}
 use Rattle.flame_expr.specs.ViablePrefixes.{Symbol, lexeme, form, both, either, one_of, maybe, many, expr, index, setters, steppers, parameter, more_parameters, parameters, more_args, more_items, else_ifs, else_body, a_unit, a_def, a_block, a_stmt, a_decl, an_item, a_simple, an_assign, a_place, a_value, some_args, a_body, End, Goes, expand, in_turn, first_part, second_part, with_it, without, more, enough}
-use Rattle.flame_expr.specs.ExpressionGrammar.{Reads, Bracketed}
 use Rattle.flame_expr.proofs.Heads.{matched}
 use Rattle.flame_expr.proofs.Parts.{any_heads, any_from, pasts, pasts_one, GoesAny, go_on}
 use Rattle.flame_expr.proofs.Derivations.{reads_go, index_goes, brackets_go}

@@ -1,5 +1,5 @@
 -- The trees of what symbols of statements and function files stand for.
-use Rattle.std.proofs.Common.{◌≡◌, ◌⊎◌, inl, inr, ℕ, pos, ◌≤◌, List, [], ◌∷◌, refl, sym, ap, ◌∙◌, subst, arith, Bool, true, false, Option, Some, None}
+use Rattle.std.proofs.Common.{◌≡◌, ℕ, pos, List, [], ◌∷◌, refl, sym, subst, arith, true, Option, Some, None}
 use Rattle.std.proofs.lemmas.Bool.{false≢true}
 use Rattle.flame_ops.specs.declared.integers.Op.{Op}
 use Rattle.flame_ops.specs.declared.integers.Op.TheVariants.{Add, Sub, Mul, Div, Rem}
@@ -9,10 +9,10 @@ use Rattle.flame_lex.specs.declared.token.Token.{Token}
 use Rattle.flame_expr.specs.declared.lexemes.Lexeme.{Lexeme}
 use Rattle.flame_expr.specs.declared.lexemes.Lexeme.TheVariants.{Open, Close, Semicolon, Set, PlusSet, MinusSet, StarSet, SlashSet, PercentSet, PlusPlus, MinusMinus}
 use Rattle.flame_expr.specs.Lexemes.{first, text, line, behind}
-use Rattle.flame_expr.specs.ViablePrefixes.{Symbol, lexeme, form, both, either, one_of, maybe, many, expr, index, setters, steppers, parameter, more_parameters, parameters, more_args, more_items, else_ifs, else_body, a_unit, a_def, a_block, a_stmt, a_decl, an_item, a_simple, an_assign, a_place, a_value, some_args, a_body, an_if, a_while, a_for, a_do, a_loop}
+use Rattle.flame_expr.specs.ViablePrefixes.{form, either, maybe, many, expr, setters, steppers, more_parameters, parameters, more_args, more_items, else_ifs, else_body, a_unit, a_def, a_block, a_stmt, a_decl, an_item, a_simple, an_assign, a_place, a_value, some_args, a_body}
 use Rattle.flame_expr.specs.ExpressionGrammar.{Reads, Bracketed, bracketed, closed}
 use Rattle.flame_expr.proofs.LexemeFacts.{among}
-use Rattle.flame_expr.proofs.Meanings.{Means, one, side, pair, former, latter, head_of, tail_of, some, none, again, stop, means_one, means_level, means_index}
+use Rattle.flame_expr.proofs.Meanings.{Means, one, side, pair, former, latter, some, none, again, stop, means_one, means_level, means_index}
 use Rattle.flame_parse.specs.AssignmentOperators.{set_op, step_op}
 use Rattle.flame_parse.specs.HeadSymbols.{initial_symbol}
 use Rattle.flame_parse.specs.StatementGrammar as grammar

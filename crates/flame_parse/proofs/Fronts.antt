@@ -1,8 +1,8 @@
 -- Rests that share their first part.
-use Rattle.std.proofs.Common.{◌≡◌, ◌⊎◌, inl, inr, ℕ, ◌+◌, ◌<◌, ◌≤◌, List, [], ◌∷◌, length, drop, refl, sym, ap, ◌∙◌, subst, arith, Bool, true, false}
+use Rattle.std.proofs.Common.{◌≡◌, ◌⊎◌, inl, inr, ℕ, ◌<◌, ◌≤◌, List, [], ◌∷◌, length, drop, sym, subst, arith, Bool, true}
 use Rattle.flame_lex.specs.declared.token.Token.{Token}
 use Rattle.flame_expr.specs.declared.lexemes.Lexeme.{Lexeme}
-use Rattle.flame_expr.specs.ViablePrefixes.{Symbol, End, left, whole, Goes}
+use Rattle.flame_expr.specs.ViablePrefixes.{Symbol, End, left, Goes}
 use Rattle.flame_expr.specs.ReadParts.{onto, left_of, StopsAt, Blocks, Passes, Halts, Ended, Stopped}
 use Rattle.flame_expr.proofs.LexemeFacts.{and, and_left, and_right}
 use Rattle.flame_expr.proofs.Parts.{GoesAny, onto-onto, fine, keeps, stops_before}

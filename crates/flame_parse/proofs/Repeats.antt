@@ -1,16 +1,13 @@
 -- Rests that repeat a part.
-use Rattle.std.proofs.Common.{◌≡◌, ◌⊎◌, inl, inr, ℕ, ◌+◌, ◌<◌, ◌≤◌, List, [], ◌∷◌, length, drop, refl, sym, ap, ◌∙◌, subst, arith, Bool, true, false, length-drop}
-use Rattle.std.proofs.lemmas.Bool.{false≢true}
+use Rattle.std.proofs.Common.{◌≡◌, inl, inr, ℕ, ◌<◌, ◌≤◌, List, [], ◌∷◌, length, drop, refl, arith, true, length-drop}
 use Rattle.flame_lex.specs.declared.token.Token.{Token}
 use Rattle.flame_expr.specs.declared.lexemes.Lexeme.{Lexeme}
 use Rattle.flame_expr.specs.Lexemes.{first, behind, is_real}
-use Rattle.flame_expr.specs.ViablePrefixes.{Symbol, many, End, left, whole, Goes, stay, more, enough}
-use Rattle.flame_expr.specs.ReadParts.{onto, left_of, StopsAt, Blocks, Passes, Halts, Ended, Stopped}
+use Rattle.flame_expr.specs.ViablePrefixes.{Symbol, many, left, Goes, more}
+use Rattle.flame_expr.specs.ReadParts.{Passes, Halts, Ended, Stopped}
 use Rattle.flame_expr.proofs.LexemeFacts.{and_left}
 use Rattle.flame_expr.proofs.Walk.{at_many}
-use Rattle.flame_expr.proofs.Heads.{One}
-use Rattle.flame_expr.proofs.Parts.{GoesAny, PassesAny, HaltsAny, any_heads, any_all, any_from, stay_any, pasts, joins_on, fine, keeps, blocked, ends_before, stops_before, behind_shorter, go_on}
-use Rattle.flame_expr.proofs.Ends.{EndedAny, StoppedAny}
+use Rattle.flame_expr.proofs.Parts.{any_heads, stay_any, pasts, joins_on, fine, keeps, blocked, ends_before, stops_before, behind_shorter, go_on}
 use Rattle.flame_expr.proofs.LongestPrefixes.{blocks_none}
 
 -- one more part of those that repeat

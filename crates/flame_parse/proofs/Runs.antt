@@ -1,17 +1,14 @@
 -- What has been read up to a place.
-use Rattle.std.proofs.Common.{◌≡◌, ℕ, ◌+◌, ◌<◌, ◌≤◌, List, [], ◌∷◌, ◌++◌, length, drop, map, refl, sym, ap, ◌∙◌, subst, arith, true, Option, Some, None}
-use Rattle.flame_ops.specs.declared.integers.Op.{Op}
-use Rattle.flame_spec.specs.Trees.{Expression, Expressions, Declared, Statement, Statements}
+use Rattle.std.proofs.Common.{◌≡◌, ℕ, ◌+◌, ◌≤◌, List, [], ◌∷◌, ◌++◌, length, drop, map, refl, sym, ap, ◌∙◌, subst, arith}
+use Rattle.flame_spec.specs.Trees.{Expression, Statement, Statements}
 use Rattle.flame_spec.specs.Seen.{expressions_of, statements_of, Tested, arms_of}
 use Rattle.flame_lex.specs.declared.token.Token.{Token}
 use Rattle.flame_expr.specs.declared.lexemes.Lexeme.{Lexeme}
-use Rattle.flame_expr.specs.declared.lexemes.Lexeme.TheVariants.{Comma}
-use Rattle.flame_expr.specs.Lexemes.{first, behind}
+use Rattle.flame_expr.specs.Lexemes.{behind}
 use Rattle.flame_expr.specs.ViablePrefixes.{Symbol}
-use Rattle.flame_expr.specs.ExpressionGrammar.{Reads}
 use Rattle.flame_expr.specs.ReadParts.{Ended, Stopped}
 use Rattle.flame_expr.proofs.Places.{behind-drop}
-use Rattle.flame_parse.specs.StatementGrammar.{Item, MoreItems, item_more, MoreArgs, arg_more, Stmt, Stmts, stmt_more, Elses}
+use Rattle.flame_parse.specs.StatementGrammar.{MoreArgs, Stmts, Elses}
 
 -- what holds of the tokens at the next place holds of those behind the first
 pub next_of : (P : List Token → Type 0) (tokens : List Token) (at mid : ℕ) → mid ≡ at + 1 → P (drop mid tokens) → P (behind (drop at tokens))

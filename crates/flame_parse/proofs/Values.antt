@@ -1,17 +1,17 @@
 -- Where values, places and assignments end, and where they stop.
-use Rattle.std.proofs.Common.{◌≡◌, ◌⊎◌, inl, inr, ℕ, ◌+◌, ◌<◌, ◌≤◌, List, [], ◌∷◌, length, drop, refl, sym, ap, ◌∙◌, subst, arith, Bool, true, false}
+use Rattle.std.proofs.Common.{◌≡◌, inl, inr, ℕ, ◌+◌, List, [], ◌∷◌, drop, refl, sym, ap, ◌∙◌, subst, arith, Bool, true, false}
 use Rattle.std.proofs.lemmas.Bool.{false≢true}
 use Rattle.flame_lex.specs.declared.token.Token.{Token}
 use Rattle.flame_expr.specs.declared.lexemes.Lexeme.{Lexeme}
 use Rattle.flame_expr.specs.declared.lexemes.Lexeme.TheVariants.{Word, Open, Close}
 use Rattle.flame_expr.specs.Lexemes.{first, behind}
 use Rattle.flame_expr.specs.OperatorLevels.{joins, joins_index}
-use Rattle.flame_expr.specs.ViablePrefixes.{Symbol, lexeme, form, expr, index, setters, steppers, one_of, a_value, a_place, an_assign, some_args, End, left, Goes, stay, expand, first_part}
-use Rattle.flame_expr.specs.ReadParts.{onto, Ended, Stopped}
+use Rattle.flame_expr.specs.ViablePrefixes.{Symbol, lexeme, form, expr, index, a_value, a_place, an_assign, some_args, End, left, Goes, stay, expand, first_part}
+use Rattle.flame_expr.specs.ReadParts.{Ended, Stopped}
 use Rattle.flame_expr.proofs.LexemeFacts.{same, same_equal, same_self}
 use Rattle.flame_expr.proofs.Heads.{One, matched}
 use Rattle.flame_expr.proofs.Walk.{at_form, at_both, at_either, at_lexeme}
-use Rattle.flame_expr.proofs.Parts.{any_heads, any_all, pasts, GoesAny, go_on}
+use Rattle.flame_expr.proofs.Parts.{any_heads, any_all, pasts, go_on}
 use Rattle.flame_expr.proofs.Places.{behind-drop}
 use Rattle.flame_expr.proofs.Ends.{EndedAny, StoppedAny, any_ended, one_ended, any_stopped, one_stopped, enter_ended, enter_stopped, ended_then, stopped_then, stopped_before, ended_weaker, stopped_weaker, form_ended, form_stopped}
 use Rattle.flame_expr.proofs.Likeness.{alike_ended, alike_stopped}

@@ -1,5 +1,5 @@
 -- A whole function file, or the place where it stops.
-use Rattle.std.proofs.Common.{◌≡◌, ◌⊎◌, inl, inr, ℕ, ◌+◌, ◌<◌, ◌≤◌, List, [], ◌∷◌, length, drop, refl, sym, ap, ◌∙◌, subst, arith, length-drop, Result, Ok, Err, IfErr, IsErrAnd}
+use Rattle.std.proofs.Common.{◌≡◌, ℕ, ◌<◌, ◌≤◌, List, [], ◌∷◌, length, drop, sym, subst, arith, length-drop, Result, Ok, Err, IfErr, IsErrAnd}
 use Rattle.std.proofs.Math.ListN.{drop_of_length-le}
 use Rattle.flame_lex.specs.declared.token.Token.{Token}
 use Rattle.flame_rows.specs.declared.fails.Fail.{Fail}
@@ -7,13 +7,13 @@ use Rattle.flame_expr.specs.declared.faults.ParseFault.{ParseFault}
 use Rattle.flame_rows.specs.declared.fails.Fail.TheVariants.{Fault, NoMemory}
 use Rattle.flame_expr.specs.declared.faults.ParseFault.TheVariants.{TooDeep, Syntax}
 use Rattle.flame_expr.specs.declared.lexemes.Lexeme.{Lexeme}
-use Rattle.flame_expr.specs.ViablePrefixes.{Symbol, form, many, a_unit, a_def, End, left, whole, Goes, done, expand, IsLongest}
+use Rattle.flame_expr.specs.ViablePrefixes.{form, many, a_unit, a_def, whole, done, expand}
 use Rattle.flame_expr.specs.Nesting.{NestsWithin}
 use Rattle.flame_expr.specs.ReadParts.{Passes, Halts, Ended, Stopped, Fails}
 use Rattle.flame_expr.proofs.Walk.{at_form}
-use Rattle.flame_expr.proofs.LongestPrefixes.{passed_longest, halted_longest, halted_not_whole, passed_not_all, blocks_none}
+use Rattle.flame_expr.proofs.LongestPrefixes.{passed_longest, halted_longest, passed_not_all, blocks_none}
 use Rattle.flame_parse.specs.StatementGrammar.{Defined, Definitions}
-use Rattle.flame_parse.specs.Parsing.{joins_unit, IsNoUnit, IsFile, IsUnit, FailsBy}
+use Rattle.flame_parse.specs.Parsing.{joins_unit, IsNoUnit, IsFile, FailsBy}
 use Rattle.flame_parse.proofs.Derivations.{unit_goes}
 
 unit_passes : (J : List Lexeme) (ts mid : List Token) → Passes J (many (form a_def) ∷ []) ts mid → Passes J (form a_unit ∷ []) ts mid

@@ -1,5 +1,5 @@
 -- What the reader of function files answers.
-use Rattle.std.specs.Prelude.{◌≡◌, ℕ, ◌≤◌, List, [], ◌∷◌, map}
+use Rattle.std.specs.Prelude.{ℕ, List, [], ◌∷◌}
 use Rattle.flame_spec.specs.declared.trees.Def.{Def}
 use Rattle.flame_spec.specs.Seen.{statements}
 use Rattle.flame_lex.specs.declared.token.Token.{Token}

@@ -1,6 +1,6 @@
-use Rattle.std.proofs.Common.{◌≡◌, arith, sym, map}
-use Rattle.flame_parse.specs.Parsing.{defined, FailsBy}
-use Rattle.flame_parse.proofs.WholeFiles.{whole_unit, stopped_unit, ended_unit, fails_unit}
+use Rattle.std.proofs.Common.{arith, map}
+use Rattle.flame_parse.specs.Parsing.{defined}
+use Rattle.flame_parse.proofs.WholeFiles.{whole_unit, ended_unit, fails_unit}
 use Rattle.flame_parse.proofs.files.parse.Goals as goal
 
 pub returns-in_err-found-clause-fault : goal.returns-in_err-found-clause-fault

@@ -1,4 +1,3 @@
-use Rattle.std.proofs.Common.{ℕ, List, [], ◌∷◌}
 use Rattle.flame_expr.specs.ViablePrefixes.{a_unit, whole, done}
 use Rattle.flame_expr.proofs.Meanings.{matches_means}
 use Rattle.flame_parse.proofs.Derivations.{unit_goes}

@@ -1,4 +1,4 @@
-use Rattle.std.proofs.Common.{◌≡◌, ◌⊎◌, inl, inr, ℕ, ◌+◌, ◌<◌, ◌≤◌, List, [], ◌∷◌, length, drop, sym, ap, subst, arith, length-drop, Bool, true, false}
+use Rattle.std.proofs.Common.{◌≡◌, ◌⊎◌, inl, inr, ℕ, List, [], ◌∷◌, length, drop, sym, subst, arith}
 use Rattle.std.proofs.lemmas.Bool.{cases_lt}
 use Rattle.std.proofs.Math.ListN.{drop_of_length-le}
 use Rattle.flame_lex.specs.declared.token.Token.{Token}
@@ -7,7 +7,7 @@ use Rattle.flame_expr.specs.Nesting.{NestsWithin, IsTooDeep}
 use Rattle.flame_expr.proofs.Meanings.{matches_means}
 use Rattle.flame_expr.proofs.Searches.{Longest, longest}
 use Rattle.flame_expr.proofs.Depths.{depth_decided}
-use Rattle.flame_parse.specs.StatementGrammar.{Defined, Definitions}
+use Rattle.flame_parse.specs.StatementGrammar.{Defined}
 use Rattle.flame_parse.specs.Parsing.{IsUnit, IsFile, IsNoUnit}
 use Rattle.flame_parse.proofs.Derivations.{unit_goes}
 use Rattle.flame_parse.proofs.FileMeanings.{means_unit}

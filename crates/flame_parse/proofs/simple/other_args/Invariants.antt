@@ -1,4 +1,4 @@
-use Rattle.std.proofs.Common.{ℕ, ◌-◌, [], ◌∷◌, length, map}
+use Rattle.std.proofs.Common.{◌-◌, [], ◌∷◌, length, map}
 use Rattle.flame_spec.specs.Seen.{expression}
 use Rattle.flame_expr.specs.ViablePrefixes.{more_args}
 use Rattle.flame_parse.specs.AssignmentOperators.{joins_args}

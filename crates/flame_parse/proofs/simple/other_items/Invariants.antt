@@ -1,4 +1,4 @@
-use Rattle.std.proofs.Common.{ℕ, ◌-◌, [], ◌∷◌, length, map}
+use Rattle.std.proofs.Common.{◌-◌, [], ◌∷◌, length, map}
 use Rattle.flame_spec.specs.Seen.{declared}
 use Rattle.flame_expr.specs.ViablePrefixes.{more_items}
 use Rattle.flame_parse.specs.AssignmentOperators.{joins_items}

@@ -1,4 +1,4 @@
-use Rattle.std.proofs.Common.{ℕ, ◌-◌, [], ◌∷◌, length, map}
+use Rattle.std.proofs.Common.{◌-◌, [], ◌∷◌, length, map}
 use Rattle.flame_expr.specs.ViablePrefixes.{form, many, a_def}
 use Rattle.flame_parse.specs.StatementGrammar.{Definitions}
 use Rattle.flame_parse.specs.Parsing.{defined, joins_unit}

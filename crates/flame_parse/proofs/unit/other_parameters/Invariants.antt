@@ -1,4 +1,4 @@
-use Rattle.std.proofs.Common.{ℕ, ◌-◌, [], ◌∷◌, length}
+use Rattle.std.proofs.Common.{◌-◌, [], ◌∷◌, length}
 use Rattle.flame_expr.specs.ViablePrefixes.{more_parameters}
 use Rattle.flame_parse.specs.AssignmentOperators.{joins_parameters}
 use Rattle.flame_parse.specs.StatementGrammar.{MoreParameters}
