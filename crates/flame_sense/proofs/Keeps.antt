@@ -19,7 +19,7 @@ use Rattle.flame_spec.specs.Trees.{Statement, empty, declare, assign, call, bloc
 use Rattle.flame_spec.specs.Trees.{Statements, no_more, also, Arms, no_arms, arm}
 use Rattle.flame_sense.specs.Scenes.{Scene, Progress, Current, Gave, gave, failed, Calls, local_value, named, array_named, element_column}
 use Rattle.flame_sense.specs.Expressions.{at_line, holds, value_of, values_of}
-use Rattle.flame_sense.specs.Ends.{End, went_on, broke, continued, returned, faulted, no_fuel, with_value, with_values, after_call, on_to, leave, in_scope}
+use Rattle.flame_sense.specs.Ends.{End, went_on, broke, continued, returned, faulted, no_fuel, with_value, with_values, after_call, on_to, leave, as_scope}
 use Rattle.flame_sense.specs.Loops.{pay_from, after_turn, turn, turns, each_row}
 use Rattle.flame_sense.specs.Statements.{helped, by_value, by_initial, declarations, set_local, set_found, set_name, with_column, name_set, name_changed, element_set, element_changed, assigned_by, assignment, done, test_value, step_of, loop_currents, inside, meaning, meanings, first_arm}
 use Rattle.flame_sense.specs.Kept.{IsKept, IsKeptByPaying, IsAmong, Leaves}
@@ -72,7 +72,7 @@ module _
   left n s (returned v t) h = kept.joined s t _ h (kept.locals t _)
   left n s (faulted fault) h = tt
 
-  pub scoped : (run : Progress → End) → ((s : Progress) → Leaves R s (run s)) → (s : Progress) → Leaves R s (in_scope run s)
+  pub scoped : (run : Progress → End) → ((s : Progress) → Leaves R s (run s)) → (s : Progress) → Leaves R s (as_scope run s)
   scoped run k s = left (length s.locals) s (run s) (k s)
 
   pub turn_end :
@@ -100,9 +100,9 @@ module _
       (s : Progress) (line : ℕ) (helper : Definition) (values : List ℤ) (scene : Scene) (go : ℤ → Progress → End)
       → IsAmong model there scene
       → ((v : ℤ) (t : Progress) → R s t → Leaves R s (go v t))
-      → Leaves R s (after_call (scene.calls line helper values s.fuel) s go)
+      → Leaves R s (after_call (scene.answers line helper values s.fuel) s go)
   call_keeps s line helper values scene go among k =
-      given_keeps s line helper values (scene.calls line helper values s.fuel) go
+      given_keeps s line helper values (scene.answers line helper values s.fuel) go
       (sym (ap (λ c. c line helper values s.fuel) among.same_calls)) k
 
   helped_keeps :
@@ -301,20 +301,20 @@ module _
         all_valued s (values_of arguments scene s) _ (λ values. done_keeps word line values scene s among)
     statement_keeps (block body) scene s among = scoped (meanings body scene) (λ t. statements_keep body scene t among) s
     statement_keeps (branch tests otherwise) scene s among =
-        arms_keep tests (in_scope (meanings otherwise scene)) scene s among
+        arms_keep tests (as_scope (meanings otherwise scene)) scene s among
         (scoped (meanings otherwise scene) (λ t. statements_keep otherwise scene t among))
     statement_keeps (while line test body) scene s among =
-        turns_keep s.fuel line (test_value (Some test) scene) (in_scope (meanings body scene)) (step_of None scene)
+        turns_keep s.fuel line (test_value (Some test) scene) (as_scope (meanings body scene)) (step_of None scene)
         (scoped (meanings body scene) (λ t. statements_keep body scene t among)) (λ t. step_keeps None scene t among) s
     statement_keeps (for line first test step body) scene s among =
         scoped _ (λ t. onward t (meanings first scene t) _ (statements_keep first scene t among)
-        (λ u. turns_keep u.fuel line (test_value test scene) (in_scope (meanings body scene)) (step_of step scene)
+        (λ u. turns_keep u.fuel line (test_value test scene) (as_scope (meanings body scene)) (step_of step scene)
         (scoped (meanings body scene) (λ w. statements_keep body scene w among)) (λ w. step_keeps step scene w among) u)) s
     statement_keeps (do_while line body test) scene s among =
-        let once : (t : Progress) → Leaves R t (in_scope (meanings body scene) t) =
+        let once : (t : Progress) → Leaves R t (as_scope (meanings body scene) t) =
         scoped (meanings body scene) (λ t. statements_keep body scene t among) in
-        turn_keeps line (in_scope (meanings body scene)) _ once
-        (λ t. turns_keep t.fuel line (test_value (Some test) scene) (in_scope (meanings body scene)) (step_of None scene)
+        turn_keeps line (as_scope (meanings body scene)) _ once
+        (λ t. turns_keep t.fuel line (test_value (Some test) scene) (as_scope (meanings body scene)) (step_of None scene)
         once (λ w. step_keeps None scene w among) t) s
     statement_keeps (loop_over line word body end_line end_word) scene s among =
         rows_keep line _ (loop_currents word scene)
@@ -337,6 +337,6 @@ module _
     arms_keep no_arms otherwise scene s among k = k s
     arms_keep (arm test body more) otherwise scene s among k =
         valued s (value_of test scene s) _
-        (λ v. by_bool s (holds v) (in_scope (meanings body scene) s) (first_arm more otherwise scene s)
+        (λ v. by_bool s (holds v) (as_scope (meanings body scene) s) (first_arm more otherwise scene s)
         (scoped (meanings body scene) (λ t. statements_keep body scene t among) s)
         (arms_keep more otherwise scene s among k))

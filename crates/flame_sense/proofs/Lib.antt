@@ -16,3 +16,8 @@ pub mod Stores
 pub mod Rows
 pub mod Searches
 pub mod Signs
+pub mod Widened
+pub mod Leavings
+pub mod More
+pub mod Boards
+pub mod TurnLaws

@@ -21,7 +21,7 @@ use Rattle.flame_sense.specs.declared.scene.Open.{Open, the_lemmas}
 use Rattle.flame_sense.specs.declared.scene.Open.TheVariants.{Over}
 use Rattle.flame_sense.specs.Scenes.{Scene, Progress, Current}
 use Rattle.flame_sense.specs.Expressions.{holds, value_of}
-use Rattle.flame_sense.specs.Ends.{End, went_on, faulted, with_value, on_to, outside, leave, in_scope}
+use Rattle.flame_sense.specs.Ends.{End, went_on, faulted, with_value, on_to, outside, leave, as_scope}
 use Rattle.flame_sense.specs.Loops.{turn, each_row}
 use Rattle.flame_sense.specs.Statements.{test_value, step_of, inside, meanings, first_arm}
 use Rattle.flame_sense.specs.Kept.{Leaves}
@@ -47,7 +47,7 @@ pub scope_end :
     → n ≡ length s.locals
     → run s ≡ end_of e t
     → u ≡ outside n t
-    → in_scope run s ≡ end_of e u
+    → as_scope run s ≡ end_of e u
 scope_end run s t u e n depth h left =
     ap (leave (length s.locals)) h
     ∙ left_end e (length s.locals) t
@@ -66,8 +66,8 @@ stopped (Faulted fault) s go h = refl
 
 pub block_falls :
     (body : Statements) (scene : Scene) (s t : Progress) (e : Ending)
-    → Fall scene.calls
-    → in_scope (meanings body scene) s ≡ end_of e t
+    → Fall scene.answers
+    → as_scope (meanings body scene) s ≡ end_of e t
     → (e ≡ WentOn) ⊎ (e ≡ Continued)
     → t.fuel ≤ s.fuel
 block_falls body scene s t e fall h g =
@@ -85,7 +85,7 @@ pub arms_at :
     → i < length more
     → first_arm (arms (drop i more)) otherwise scene s
     ≡ with_value (value_of (expression (get_or more i d).test) scene s) (λ v.
-    cond (holds v) (in_scope (meanings (statements (get_or more i d).body) scene) s)
+    cond (holds v) (as_scope (meanings (statements (get_or more i d).body) scene) s)
     (first_arm (arms (drop (i + 1) more)) otherwise scene s))
 arms_at more i d otherwise scene s h = at_drop_more (λ l. first_arm (arms l) otherwise scene s) more i d h
 
@@ -93,7 +93,7 @@ arms_at more i d otherwise scene s h = at_drop_more (λ l. first_arm (arms l) ot
 
 -- the body of a message loop at a row
 abbrev pub over_row : List Stmt → Scene → Current → Progress → End
-over_row body scene current = in_scope (meanings (statements body) (inside current scene))
+over_row body scene current = as_scope (meanings (statements body) (inside current scene))
 
 pub scene_inside :
     (scene : code.Scene) (message : ℕ) (row : Bor (List ℤ)) (outer : Bor Open)
@@ -122,12 +122,12 @@ arm_at :
     → item ≡ get_or more i item
     → first_arm (arms (drop i more)) otherwise scene s
     ≡ with_value (value_of (expression item.test) scene s) (λ v.
-    cond (holds v) (in_scope (meanings (statements item.body) scene) s)
+    cond (holds v) (as_scope (meanings (statements item.body) scene) s)
     (first_arm (arms (drop (i + 1) more)) otherwise scene s))
 arm_at more i item otherwise scene s h is =
     arms_at more i item otherwise scene s h
     ∙ ap (λ a. with_value (value_of (expression a.test) scene s) (λ v.
-    cond (holds v) (in_scope (meanings (statements a.body) scene) s)
+    cond (holds v) (as_scope (meanings (statements a.body) scene) s)
     (first_arm (arms (drop (i + 1) more)) otherwise scene s))) (sym is)
 
 pub arm_holds :
@@ -136,13 +136,13 @@ pub arm_holds :
     → item ≡ get_or more i item
     → Ok v ≡ value_of (expression item.test) scene s
     → holds v ≡ true
-    → first_arm (arms (drop i more)) otherwise scene s ≡ in_scope (meanings (statements item.body) scene) s
+    → first_arm (arms (drop i more)) otherwise scene s ≡ as_scope (meanings (statements item.body) scene) s
 arm_holds more i item otherwise scene s v h is e holds_too =
     arm_at more i item otherwise scene s h is
     ∙ ap (λ r. with_value r (λ w.
-    cond (holds w) (in_scope (meanings (statements item.body) scene) s)
+    cond (holds w) (as_scope (meanings (statements item.body) scene) s)
     (first_arm (arms (drop (i + 1) more)) otherwise scene s))) (sym e)
-    ∙ ap (λ b. cond b (in_scope (meanings (statements item.body) scene) s)
+    ∙ ap (λ b. cond b (as_scope (meanings (statements item.body) scene) s)
     (first_arm (arms (drop (i + 1) more)) otherwise scene s)) holds_too
 
 pub arm_fails :
@@ -155,9 +155,9 @@ pub arm_fails :
 arm_fails more i item otherwise scene s v h is e fails =
     arm_at more i item otherwise scene s h is
     ∙ ap (λ r. with_value r (λ w.
-    cond (holds w) (in_scope (meanings (statements item.body) scene) s)
+    cond (holds w) (as_scope (meanings (statements item.body) scene) s)
     (first_arm (arms (drop (i + 1) more)) otherwise scene s))) (sym e)
-    ∙ ap (λ b. cond b (in_scope (meanings (statements item.body) scene) s)
+    ∙ ap (λ b. cond b (as_scope (meanings (statements item.body) scene) s)
     (first_arm (arms (drop (i + 1) more)) otherwise scene s)) fails
 
 pub arm_faults :
@@ -169,7 +169,7 @@ pub arm_faults :
 arm_faults more i item otherwise scene s fault h is e =
     arm_at more i item otherwise scene s h is
     ∙ ap (λ r. with_value r (λ w.
-    cond (holds w) (in_scope (meanings (statements item.body) scene) s)
+    cond (holds w) (as_scope (meanings (statements item.body) scene) s)
     (first_arm (arms (drop (i + 1) more)) otherwise scene s))) (sym e)
 
 pub no_arm :
@@ -185,14 +185,14 @@ pub row_turn :
     → i < length rows
     → row ≡ get_or rows i row
     → ((next : Progress → End)
-    → turn line (in_scope (meanings (statements body) (scene_seen scene (Over message row outer)))) next s ≡ after o next t)
+    → turn line (as_scope (meanings (statements body) (scene_seen scene (Over message row outer)))) next s ≡ after o next t)
     → each_row line (over_row body (scene_seen scene outer.now)) (map (stands_at message) (drop i rows)) s
     ≡ after o (each_row line (over_row body (scene_seen scene outer.now)) (map (stands_at message) (drop (i + 1) rows))) t
 row_turn line body scene message rows i row outer s o t h is means =
     let rest : Progress → End = each_row line (over_row body (scene_seen scene outer.now)) (map (stands_at message) (drop (i + 1) rows)) in
     at_drop_more (λ l. each_row line (over_row body (scene_seen scene outer.now)) (map (stands_at message) l) s) rows i row h
     ∙ ap (λ r. turn line (over_row body (scene_seen scene outer.now) (stands_at message r)) rest s) (sym is)
-    ∙ ap (λ inner. turn line (in_scope (meanings (statements body) inner)) rest s) (sym (scene_inside scene message row outer))
+    ∙ ap (λ inner. turn line (as_scope (meanings (statements body) inner)) rest s) (sym (scene_inside scene message row outer))
     ∙ means rest
 
 pub no_row :
@@ -220,7 +220,7 @@ if_none_more (Some x) P Q k h = h
 
 pub step_left :
     (step : Option Assigned) (scene : Scene) (s t : Progress) (e : Ending)
-    → Fall scene.calls
+    → Fall scene.answers
     → step_of step scene s ≡ end_of e t
     → e ≡ WentOn
     → t.fuel ≤ s.fuel

@@ -9,7 +9,7 @@ use Rattle.flame_sense.specs.declared.scene.Open.{Open}
 use Rattle.flame_sense.specs.declared.scene.Scene as code
 use Rattle.flame_sense.specs.Scenes.{Scene, Progress, gave, Calls}
 use Rattle.flame_sense.specs.Expressions.{holds}
-use Rattle.flame_sense.specs.Ends.{End, went_on, broke, continued, returned, faulted, no_fuel, with_value, on_to, in_scope}
+use Rattle.flame_sense.specs.Ends.{End, went_on, broke, continued, returned, faulted, no_fuel, with_value, on_to, as_scope}
 use Rattle.flame_sense.specs.Loops.{pay_from, after_turn, turn, turns, loop}
 use Rattle.flame_sense.specs.Statements.{test_value, meanings, step_of}
 use Rattle.flame_sense.specs.HelperCalls.{gives, entered, helper_scene, calls_within}
@@ -75,15 +75,15 @@ calls_fall levels model helpers constants iteration = record {
       call_falls levels model helpers constants iteration line helper values s.fuel v fuel e;
 }
 
-pub body_falls : (body : Statements) (scene : Scene) (s : Progress) → Fall scene.calls → Leaves Falls s (in_scope (meanings body scene) s)
+pub body_falls : (body : Statements) (scene : Scene) (s : Progress) → Fall scene.answers → Leaves Falls s (as_scope (meanings body scene) s)
 body_falls body scene s fall =
-    scoped scene.context.model scene.calls Falls (fuel_kept scene.context.model) fall (meanings body scene)
-    (λ t. statements_keep scene.context.model scene.calls Falls (fuel_kept scene.context.model) fall body scene t
+    scoped scene.context.model scene.answers Falls (fuel_kept scene.context.model) fall (meanings body scene)
+    (λ t. statements_keep scene.context.model scene.answers Falls (fuel_kept scene.context.model) fall body scene t
     (record { same_model = refl; same_calls = refl })) s
 
-pub step_falls : (step : Option Assigned) (scene : Scene) (s : Progress) → Fall scene.calls → Leaves Falls s (step_of step scene s)
+pub step_falls : (step : Option Assigned) (scene : Scene) (s : Progress) → Fall scene.answers → Leaves Falls s (step_of step scene s)
 step_falls step scene s fall =
-    step_keeps scene.context.model scene.calls Falls (fuel_kept scene.context.model) fall step scene s
+    step_keeps scene.context.model scene.answers Falls (fuel_kept scene.context.model) fall step scene s
     (record { same_model = refl; same_calls = refl })
 
 same_value :
@@ -175,7 +175,7 @@ module _
 
 -- the loop of a test, a body and a step, as a function has them
 abbrev pub whole : ℕ → (Progress → Result ℤ Fault) → Statements → Option Assigned → Scene → Progress → End
-whole line test body step scene = loop line test (in_scope (meanings body scene)) (step_of step scene)
+whole line test body step scene = loop line test (as_scope (meanings body scene)) (step_of step scene)
 
 -- what follows a turn
 abbrev pub stepped : ℕ → (Progress → Result ℤ Fault) → Statements → Option Assigned → Scene → Progress → End
@@ -184,21 +184,21 @@ stepped line test body step scene t = on_to (step_of step scene t) (whole line t
 -- a test, and where it holds a turn
 abbrev pub rolled : ℕ → (Progress → Result ℤ Fault) → Statements → Option Assigned → Scene → Progress → ℤ → End
 rolled line test body step scene s v =
-    cond (holds v) (turn line (in_scope (meanings body scene)) (stepped line test body step scene) s) (went_on s)
+    cond (holds v) (turn line (as_scope (meanings body scene)) (stepped line test body step scene) s) (went_on s)
 
-unrolled :
+pub unrolled :
     (line : ℕ) (test : Progress → Result ℤ Fault) (body : Statements) (step : Option Assigned) (scene : Scene) (s : Progress)
-    → Fall scene.calls
+    → Fall scene.answers
     → whole line test body step scene s ≡ with_value (test s) (rolled line test body step scene s)
 unrolled line test body step scene s fall =
-    again line test (in_scope (meanings body scene)) (step_of step scene)
+    again line test (as_scope (meanings body scene)) (step_of step scene)
     (λ t. body_falls body scene t fall) (λ t. step_falls step scene t fall) s
 
 -- a test that faults ends the loop
 pub test_faults :
     (line : ℕ) (test : Progress → Result ℤ Fault) (body : Statements) (step : Option Assigned) (scene : Scene) (s : Progress)
     (fault : Fault)
-    → Fall scene.calls
+    → Fall scene.answers
     → test s ≡ Err fault
     → whole line test body step scene s ≡ faulted fault
 test_faults line test body step scene s fault fall e =
@@ -209,31 +209,31 @@ test_faults line test body step scene s fault fall e =
 pub test_ends :
     (line : ℕ) (test : Progress → Result ℤ Fault) (body : Statements) (step : Option Assigned) (scene : Scene) (s : Progress)
     (v : ℤ)
-    → Fall scene.calls
+    → Fall scene.answers
     → test s ≡ Ok v
     → holds v ≡ false
     → whole line test body step scene s ≡ went_on s
 test_ends line test body step scene s v fall e h =
     unrolled line test body step scene s fall
     ∙ ap (λ r. with_value r (rolled line test body step scene s)) e
-    ∙ ap (λ b. cond b (turn line (in_scope (meanings body scene)) (stepped line test body step scene) s) (went_on s)) h
+    ∙ ap (λ b. cond b (turn line (as_scope (meanings body scene)) (stepped line test body step scene) s) (went_on s)) h
 
 -- and one that holds asks for a turn
 pub test_holds :
     (line : ℕ) (test : Progress → Result ℤ Fault) (body : Statements) (step : Option Assigned) (scene : Scene) (s : Progress)
     (v : ℤ)
-    → Fall scene.calls
+    → Fall scene.answers
     → test s ≡ Ok v
     → holds v ≡ true
     → whole line test body step scene s
-    ≡ turn line (in_scope (meanings body scene)) (stepped line test body step scene) s
+    ≡ turn line (as_scope (meanings body scene)) (stepped line test body step scene) s
 test_holds line test body step scene s v fall e h =
     unrolled line test body step scene s fall
     ∙ ap (λ r. with_value r (rolled line test body step scene s)) e
-    ∙ ap (λ b. cond b (turn line (in_scope (meanings body scene)) (stepped line test body step scene) s) (went_on s)) h
+    ∙ ap (λ b. cond b (turn line (as_scope (meanings body scene)) (stepped line test body step scene) s) (went_on s)) h
 
 -- the calls that the program makes
-pub scene_falls : (scene : code.Scene) (open_loops : Open) → Fall (scene_seen scene open_loops).calls
+pub scene_falls : (scene : code.Scene) (open_loops : Open) → Fall (scene_seen scene open_loops).answers
 scene_falls scene open_loops = calls_fall scene.left _ _ _ _
 
 -- without a unit no turn can be paid

@@ -12,17 +12,17 @@ pub data End : Type 0 where
   returned : ℤ → Progress → End
   faulted : Fault → End
 
--- the value goes on, a fault ends the function [own]
+-- the value goes on, a fault ends the run of the function of the model [own]
 abbrev pub with_value : Result ℤ Fault → (ℤ → End) → End
 with_value (Ok v) go = go v
 with_value (Err fault) go = faulted fault
 
--- the values go on, a fault ends the function [own]
+-- the values go on, a fault ends it [own]
 abbrev pub with_values : Result (List ℤ) Fault → (List ℤ → End) → End
 with_values (Ok values) go = go values
 with_values (Err fault) go = faulted fault
 
--- the value of a call goes on with the fuel that it left, a fault ends the function [C, 6.5.2.2; fuel: own]
+-- the value of a call goes on with the fuel that it left, a fault ends it [C, 6.5.2.2; fuel: own]
 abbrev pub after_call : Gave → Progress → (ℤ → Progress → End) → End
 after_call (gave v fuel) s go = go v (record s { fuel = fuel })
 after_call (failed fault) s go = faulted fault
@@ -41,7 +41,7 @@ no_fuel line = record { cause = Fuel; line = line }
 
 -- ---- scopes
 
--- the locals that are newer than the first n end [C, 6.2.1]
+-- all locals but the n oldest end [C, 6.2.1]
 abbrev pub outside : ℕ → Progress → Progress
 outside n s = record s { locals = drop (length s.locals - n) s.locals }
 
@@ -54,5 +54,5 @@ leave n (returned v s) = returned v (outside n s)
 leave n (faulted fault) = faulted fault
 
 -- a scope: its locals end with it [C, 6.2.1]
-abbrev pub in_scope : (Progress → End) → Progress → End
-in_scope run s = leave (length s.locals) (run s)
+abbrev pub as_scope : (Progress → End) → Progress → End
+as_scope run s = leave (length s.locals) (run s)

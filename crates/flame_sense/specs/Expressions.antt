@@ -98,8 +98,8 @@ abbrev pub one_of : Result ℤ Fault → Result (List ℤ) Fault
 one_of (Ok v) = Ok (v ∷ [])
 one_of (Err fault) = Err fault
 
--- the numbers that an argument stands for: one that names an array stands for the numbers of the array in order
--- [C, 6.5.2.2; arrays: own]
+-- the numbers that an argument stands for: one that names an array stands for the numbers of the array in order, and else
+-- for its value [C, 6.5.2.2; arrays: own]
 abbrev pub argument_values : Expression → Scene → Progress → Result (List ℤ) Fault
 argument_values (name line word) scene s = Ok (numbers_of (array_named word scene s) s.memory (named word scene s))
 argument_values (field line word variable) scene s =

@@ -18,8 +18,8 @@ gives (continued s) = gave (pos 0) s.fuel
 gives (returned v s) = gave v s.fuel
 gives (faulted fault) = failed fault
 
--- the parameters with the values of the arguments, behind these older locals; an accepted source gives one for each, a
--- missing one is 0 [C, 6.9.1; a missing one: own]
+-- the parameters with the values of the arguments, each newer than these locals and those before it; an accepted source
+-- gives one for each, and else a missing one is 0 and a further one is passed over [C, 6.9.1; missing, further: own]
 abbrev pub parameter_locals : List Parameter → List ℤ → List Local → List Local
 parameter_locals [] values locals = locals
 parameter_locals (parameter ∷ more) [] locals =
@@ -38,7 +38,7 @@ entered parameters values fuel = record {
   fuel = fuel;
 }
 
--- what a helper has before it: no function runs, nothing is read, and no loop is open [own]
+-- what a helper has before it: it is no function of the model, reads no messages, and no loop is open [own]
 abbrev pub helper_scene : Model → List Definition → List ℤ → ℤ → Calls → Scene
 helper_scene model helpers constants iteration calls = record {
   context = context_for model helpers None;
@@ -46,7 +46,7 @@ helper_scene model helpers constants iteration calls = record {
   iteration = iteration;
   readings = [];
   open_loops = [];
-  calls = calls;
+  answers = calls;
 }
 
 -- how calls end where so many may be open inside one another: a call takes one unit of fuel, or has none to take, and

@@ -35,7 +35,7 @@ pub record IsKeptByPaying (calls : Calls) (R : Progress → Progress → Type 0)
 -- the model and the calls of a scene are these [own]
 pub record IsAmong (model : Model) (calls : Calls) (scene : Scene) : Type 0 where
   pub same_model : scene.context.model ≡ model
-  pub same_calls : scene.calls ≡ calls
+  pub same_calls : scene.answers ≡ calls
 
 -- the fact holds of the progress that was left, if there is one [own]
 abbrev pub Leaves : (Progress → Progress → Type 0) → Progress → End → Type 0

@@ -12,6 +12,8 @@ pub mod Loops
 pub mod Statements
 pub mod HelperCalls
 pub mod Outcomes
+-- ---- laws
+pub mod OutcomeLaws
 -- ---- the program's own words
 pub mod StandsFor
 pub mod Kept

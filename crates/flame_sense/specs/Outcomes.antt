@@ -46,7 +46,7 @@ scene_of source place readings constants iteration = record {
   iteration = iteration;
   readings = readings;
   open_loops = [];
-  calls = helper_calls source.model (helpers source.model source.units) constants iteration;
+  answers = helper_calls source.model (helpers source.model source.units) constants iteration;
 }
 
 -- the outcome of the function of this place; without one nothing changes [FLAME User Manual; without one: own]

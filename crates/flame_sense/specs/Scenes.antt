@@ -9,7 +9,6 @@ use Rattle.flame_spec.specs.declared.models.MessageType.{MessageType}
 use Rattle.flame_spec.specs.declared.models.Variable.{Variable}
 use Rattle.flame_spec.specs.declared.outcomes.Sent.{Sent}
 use Rattle.flame_spec.specs.declared.outcomes.Born.{Born}
-use Rattle.flame_spec.specs.Columns.{width_of}
 use Rattle.flame_spec.specs.Conditions.{number_at}
 use Rattle.flame_spec.specs.Definitions.{Definition}
 use Rattle.flame_spec.specs.ExpressionFaults.{member_read}
@@ -33,19 +32,20 @@ pub data Gave : Type 0 where
 abbrev pub Calls : Type 0
 Calls = ℕ → Definition → List ℤ → ℕ → Gave
 
--- what a body has before it and does not change: the model, the helpers and the function that runs, which a helper has
--- none of; the constants; the number of the iteration; the rows that a loop over each input gives, in order; where the
--- open loops over messages stand, from the inside; and how calls of helpers end [FLAME User Manual; helpers: C, 6.9.1]
+-- what a body has before it and does not change: the model, its helpers, and the function of the model whose body it is,
+-- where it is not that of a helper; the constants; the number of the iteration; the rows that a loop over each input
+-- gives, in order; where the open loops over messages stand, from the inside; and how calls of helpers end
+-- [FLAME User Manual; helpers: C, 6.9.1]
 pub record Scene : Type 0 where
   pub context : Context
   pub constants : List ℤ
   pub iteration : ℤ
   pub readings : List (List (List ℤ))
   pub open_loops : List Current
-  pub calls : Calls
+  pub answers : Calls
 
--- what the words of a body go by, where it is that of this function of the model, or of a helper, which is none; the number
--- of a file is for check faults alone, and 0 here [own]
+-- what the words of a body go by, where it is the body of this function of the model, or that of a helper, with no function
+-- of the model; the number of a file is for check faults alone, and 0 here [own]
 abbrev pub context_for : Model → List Definition → Option Place → Context
 context_for model helpers runs = record { model = model; helpers = helpers; runs = runs; file = 0 }
 
@@ -84,7 +84,7 @@ value_given None scene s = pos 0
 abbrev pub named : List ℕ → Scene → Progress → ℤ
 named word scene s = unwrap_or (local_value word s.locals) (value_given (given_at scene.context word) scene s)
 
--- the array that a name is: the memory variable that it is in capitals, where no local has the name
+-- the memory variable, an array or not, that a name is in capitals, where no local has the name
 -- [C, 6.2.1; FLAME User Manual]
 abbrev pub array_named : List ℕ → Scene → Progress → Option (ℕ × Variable)
 array_named word scene s =
@@ -121,11 +121,16 @@ field_value word variable scene = value_found (member_read scene.context word va
 
 -- ---- arrays
 
+-- how many elements there are: as many as the array is long, and none where it is no array [C, 6.7.6.2; no array: own]
+abbrev pub elements : Option ℕ → ℕ
+elements None = 0
+elements (Some length) = length
+
 -- the column of the element of this index, counted from 0, where the variable has one: an index is from 0 to the length
--- less 1. A single variable counts as an array of length 1, and no variable has no element [C, 6.5.2.1; bounds: own]
+-- less 1 [C, 6.5.2.1; bounds: own]
 abbrev pub element_column : Option (ℕ × Variable) → ℤ → Option ℕ
 element_column None index = None
-element_column (Some found) (pos n) = if nat_lt n (width_of found.1) then Some (found.0 + n) else None
+element_column (Some found) (pos n) = if nat_lt n (elements found.1.length) then Some (found.0 + n) else None
 element_column (Some found) (negsuc n) = None
 
 -- so many numbers of a row in order, from this column on [own]
@@ -133,8 +138,13 @@ abbrev pub numbers_from : ℕ → ℕ → List ℤ → List ℤ
 numbers_from zero column row = []
 numbers_from (suc n) column row = number_at row column ∷ numbers_from n (column + 1) row
 
--- what an argument stands for that names this variable of a row: its numbers in order; where it names none, its value
--- [FLAME User Manual; own]
+-- the numbers of an array of this length that begins in this column; of what is no array its value [own]
+abbrev pub numbers_by : Option ℕ → ℕ → List ℤ → ℤ → List ℤ
+numbers_by None column row value = value ∷ []
+numbers_by (Some length) column row value = numbers_from length column row
+
+-- what an argument stands for that names this variable of a row: the numbers of an array in order, and else its value;
+-- one that names no variable stands for its value too [FLAME User Manual; own]
 abbrev pub numbers_of : Option (ℕ × Variable) → List ℤ → ℤ → List ℤ
 numbers_of None row value = value ∷ []
-numbers_of (Some found) row value = numbers_from (width_of found.1) found.0 row
+numbers_of (Some found) row value = numbers_by found.1.length found.0 row value

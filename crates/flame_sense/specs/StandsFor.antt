@@ -23,7 +23,6 @@ use Rattle.flame_sense.specs.declared.scene.Open.TheOpen.{Open-F}
 use Rattle.flame_spec.specs.declared.models.AgentType.{AgentType}
 use Rattle.flame_spec.specs.declared.models.MessageType.{MessageType}
 use Rattle.flame_spec.specs.declared.models.Variable.{Variable}
-use Rattle.flame_spec.specs.Columns.{width_of}
 use Rattle.flame_spec.specs.Definitions.{Definition, definition, is_helper, helpers}
 use Rattle.flame_spec.specs.Functions.{Place}
 use Rattle.flame_spec.specs.Scopes.{Context}
@@ -53,7 +52,7 @@ within_reach column = min column (2 ^ 64 - 1)
 
 -- where a variable that was found stands [own]
 abbrev pub span_of : ℕ × Variable → Span
-span_of found = record { column = within_reach found.0; width = width_of found.1 }
+span_of found = record { column = within_reach found.0; length = found.1.length }
 
 -- a message type with its number [own]
 abbrev pub message_of : ℕ × Bor MessageType → ℕ × MessageType
@@ -104,7 +103,7 @@ scene_seen scene open_loops = record {
   iteration = scene.iteration;
   readings = map (λ rows. rows_seen rows.items) scene.readings.now;
   open_loops = currents open_loops;
-  calls =
+  answers =
       calls_within scene.left scene.model.now (helpers scene.model.now scene.units.now) scene.constants.now
       scene.iteration;
 }

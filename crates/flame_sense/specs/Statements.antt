@@ -22,7 +22,7 @@ use Rattle.flame_spec.specs.Trees.{Statements, no_more, also, Arms, no_arms, arm
 use Rattle.flame_sense.specs.Scenes.{Scene, Progress, Local, Current, local_value, named, array_named, element_column}
 use Rattle.flame_sense.specs.Expressions.{at_line, holds, bad_index, value_of, values_of}
 use Rattle.flame_sense.specs.Ends.{End, went_on, broke, continued, returned, faulted}
-use Rattle.flame_sense.specs.Ends.{with_value, with_values, after_call, on_to, in_scope}
+use Rattle.flame_sense.specs.Ends.{with_value, with_values, after_call, on_to, as_scope}
 use Rattle.flame_sense.specs.Loops.{turn, loop, each_row}
 
 -- ---- values, which may be those of helpers
@@ -31,7 +31,7 @@ use Rattle.flame_sense.specs.Loops.{turn, loop, each_row}
 abbrev pub helped :
     Option (ℕ × Definition) → ℕ → List ℤ → Scene → Progress → (ℤ → Progress → End) → End
 helped None line values scene s go = go (pos 0) s
-helped (Some found) line values scene s go = after_call (scene.calls line found.1 values s.fuel) s go
+helped (Some found) line values scene s go = after_call (scene.answers line found.1 values s.fuel) s go
 
 -- what is stored: the value of an expression, or what a helper returns for the values of its arguments
 -- [C, 6.5.16; C, 6.5.2.2]
@@ -52,7 +52,8 @@ by_initial (Some value) scene s go = by_value value scene s go
 abbrev pub with_local : List ℕ → ℤ → Progress → Progress
 with_local name v s = record s { locals = record { name = name; value = v } ∷ s.locals }
 
--- the items in order; an item's own name is not visible in its value [C, 6.7; an item in its own value: own]
+-- the items in order; an item's value does not see the item, which begins behind it; an accepted source never reads the
+-- item's own name there [C, 6.7; an item in its own value: own]
 abbrev pub declarations : List Declared → Scene → Progress → End
 declarations [] scene s = went_on s
 declarations (item ∷ items) scene s =
@@ -153,6 +154,7 @@ with_birth number type values s =
 
 -- what a call statement on this line does with the values of its arguments: it sets a memory variable to the first, sends
 -- a message, bears an agent, or calls a helper, whose value counts for nothing; a word that is none of these does nothing
+-- more
 -- [FLAME User Manual; C, 6.8.3; nothing: own]
 abbrev pub done : Option Deed → ℕ → List ℤ → Scene → Progress → End
 done None line values scene s = went_on s
@@ -160,16 +162,16 @@ done (Some (sets column variable)) line values scene s = went_on (set_column col
 done (Some (sends number message)) line values scene s = went_on (with_message number message values s)
 done (Some (bears number type)) line values scene s = went_on (with_birth number type values s)
 done (Some (calls number helper)) line values scene s =
-    after_call (scene.calls line helper values s.fuel) s (λ v t. went_on t)
+    after_call (scene.answers line helper values s.fuel) s (λ v t. went_on t)
 
 -- ---- loops
 
--- the test of a `for`; without one it always holds [C, 6.8.5.3]
+-- the test of a loop; a `for` without one always goes on [C, 6.8.5.3]
 abbrev pub test_value : Option Expression → Scene → Progress → Result ℤ Fault
 test_value None scene s = Ok (pos 1)
 test_value (Some e) scene s = value_of e scene s
 
--- the step of a `for`, if it has one [C, 6.8.5.3]
+-- the step of a loop, which only a `for` may have [C, 6.8.5.3]
 abbrev pub step_of : Option Assigned → Scene → Progress → End
 step_of None scene s = went_on s
 step_of (Some a) scene s = assignment a scene s
@@ -212,19 +214,19 @@ abbrev mutual
   meaning (assign a) scene s = assignment a scene s
   meaning (call line word arguments) scene s =
       with_values (values_of arguments scene s) (λ values. done (deed_of scene.context word) line values scene s)
-  meaning (block body) scene s = in_scope (meanings body scene) s
-  meaning (branch tests otherwise) scene s = first_arm tests (in_scope (meanings otherwise scene)) scene s
+  meaning (block body) scene s = as_scope (meanings body scene) s
+  meaning (branch tests otherwise) scene s = first_arm tests (as_scope (meanings otherwise scene)) scene s
   meaning (while line test body) scene s =
-      loop line (test_value (Some test) scene) (in_scope (meanings body scene)) (step_of None scene) s
+      loop line (test_value (Some test) scene) (as_scope (meanings body scene)) (step_of None scene) s
   meaning (for line first test step body) scene s =
-      in_scope (λ t.
+      as_scope (λ t.
       on_to (meanings first scene t)
-      (loop line (test_value test scene) (in_scope (meanings body scene)) (step_of step scene))) s
+      (loop line (test_value test scene) (as_scope (meanings body scene)) (step_of step scene))) s
   meaning (do_while line body test) scene s =
-      turn line (in_scope (meanings body scene))
-      (loop line (test_value (Some test) scene) (in_scope (meanings body scene)) (step_of None scene)) s
+      turn line (as_scope (meanings body scene))
+      (loop line (test_value (Some test) scene) (as_scope (meanings body scene)) (step_of None scene)) s
   meaning (loop_over line word body end_line end_word) scene s =
-      each_row line (λ current. in_scope (meanings body (inside current scene))) (loop_currents word scene) s
+      each_row line (λ current. as_scope (meanings body (inside current scene))) (loop_currents word scene) s
   meaning (return e) scene s = with_value (value_of e scene s) (λ v. returned v s)
   meaning (break line) scene s = broke s
   meaning (continue line) scene s = continued s
@@ -239,4 +241,4 @@ abbrev mutual
   first_arm no_arms otherwise scene s = otherwise s
   first_arm (arm test body more) otherwise scene s =
       with_value (value_of test scene s) (λ v.
-      if holds v then in_scope (meanings body scene) s else first_arm more otherwise scene s)
+      if holds v then as_scope (meanings body scene) s else first_arm more otherwise scene s)

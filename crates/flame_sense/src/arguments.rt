@@ -18,21 +18,26 @@ use flame_spec::{Expr, Fault, Variable};
 use std::alloc::Global;
 
 /// The number of a row at this place of a variable.
-fn number_in(row: &[i32], span: Span, place: usize) -> i32
-    ensures { (column : ℕ) → span.column ≡ within_reach column → result ≡ number_at row.now (column + place) }
+fn number_in(row: &[i32], start: usize, place: usize) -> i32
+    ensures { (column : ℕ) → start ≡ within_reach column → result ≡ number_at row.now (column + place) }
 {
-    number_at(row, span.column.saturating_add(place))
+    number_at(row, start.saturating_add(place))
 }
 
-/// The numbers of a variable of the row, in order.
+/// So many numbers of the row, from this column on.
 #[tactic(auto, using(crate::proofs::Rows::numbers_next))]
-fn numbers_from(alloc: Global, span: Span, row: &[i32]) -> Result<Row, NoMemory>
+fn numbers_from(
+    alloc: Global,
+    start: usize,
+    length: usize,
+    row: &[i32],
+) -> Result<Row, NoMemory>
     ensures { IfOk result (λ numbers.
-        (column : ℕ) → span.column ≡ within_reach column → numbers ≡ numbers_from span.width column row.now) }
+        (column : ℕ) → start ≡ within_reach column → numbers ≡ numbers_from length column row.now) }
 {
     let mut numbers = Vec::new(alloc);
-    for place in 0..span.width {
-        numbers.push(number_in(row, span, place))?;
+    for place in 0..length {
+        numbers.push(number_in(row, start, place))?;
     }
     Ok(Row::of(numbers))
 }
@@ -51,7 +56,7 @@ fn one_of(alloc: Global, value: Result<i32, Fault>) -> Result<Result<Row, Fault>
     }
 }
 
-/// The numbers of a variable of the row, or the value where there is none.
+/// The numbers of an array of the row, or the value where there is none.
 fn numbers_of(
     alloc: Global,
     found: Option<Span>,
@@ -63,10 +68,13 @@ fn numbers_of(
 {
     match found {
         None => one_of(alloc, Ok(value)),
-        Some(span) => {
-            let numbers = numbers_from(alloc, span, row)?;
-            Ok(Ok(numbers))
-        }
+        Some(span) => match span.length {
+            None => one_of(alloc, Ok(value)),
+            Some(length) => {
+                let numbers = numbers_from(alloc, span.column, length as usize, row)?;
+                Ok(Ok(numbers))
+            }
+        },
     }
 }
 

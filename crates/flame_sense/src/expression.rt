@@ -61,15 +61,18 @@ pub(crate) fn element_column(found: Option<Span>, index: i32) -> Option<usize>
 {
     match found {
         None => None,
-        Some(span) => match usize::try_from(index) {
-            Ok(place) => {
-                if place < span.width {
-                    Some(span.column.saturating_add(place))
-                } else {
-                    None
+        Some(span) => match span.length {
+            None => None,
+            Some(length) => match u32::try_from(index) {
+                Ok(place) => {
+                    if place < length {
+                        Some(span.column.saturating_add(place as usize))
+                    } else {
+                        None
+                    }
                 }
-            }
-            Err(_) => None,
+                Err(_) => None,
+            },
         },
     }
 }

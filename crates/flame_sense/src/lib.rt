@@ -7,6 +7,7 @@ mod ending;
 mod expression;
 mod filter;
 mod found;
+pub mod laws;
 mod outcome;
 mod reading;
 mod scene;

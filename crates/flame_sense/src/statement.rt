@@ -6,7 +6,7 @@ ghost use Rattle.flame_spec.specs.Definitions.{helper_named};
 ghost use Rattle.flame_spec.specs.Trees.{call as called_there, do_while};
 ghost use Rattle.flame_spec.specs.Seen.{expression, expressions, declared, assigned, indexed, stored as value_seen, statement as seen, statements as all_seen, arms as arms_seen};
 ghost use Rattle.flame_sense.specs.Scenes.{Progress as Left};
-ghost use Rattle.flame_sense.specs.Ends.{End, no_fuel, with_value, outside, in_scope};
+ghost use Rattle.flame_sense.specs.Ends.{End, no_fuel, with_value, outside, as_scope};
 ghost use Rattle.flame_sense.specs.Loops.{after_turn, turn, loop, each_row};
 ghost use Rattle.flame_sense.specs.Statements.{helped, by_value, by_initial, declarations, name_set, name_changed, element_set, element_changed, assignment, done, test_value, step_of, loop_currents, inside, meaning, meanings, first_arm};
 ghost use Rattle.flame_sense.specs.HelperCalls.{gives};
@@ -58,7 +58,7 @@ fn call(
 ) -> Result<Gave, NoMemory>
     requires { depth helper.def.now.body ≤ deepest scene.now.units.now }
     ensures { IfOk result (λ gave.
-        (scene_seen scene.now Open.Nothing).calls line (definition_seen helper.entry) values.now fuel ≡ gave_seen gave) }
+        (scene_seen scene.now Open.Nothing).answers line (definition_seen helper.entry) values.now fuel ≡ gave_seen gave) }
 {
     if fuel == 0 {
         return Ok(Gave::Failed(no_fuel(line)));
@@ -467,7 +467,7 @@ fn block<'a>(
     s: &mut Progress<'a>,
 ) -> Result<Ending, NoMemory>
     ensures { IfOk result (λ ending.
-        in_scope (meanings (all_seen body.now) (scene_seen scene.now open_loops.now)) (progress_seen s.old)
+        as_scope (meanings (all_seen body.now) (scene_seen scene.now open_loops.now)) (progress_seen s.old)
         ≡ end_of ending (progress_seen s.new)) }
 {
     let depth = s.locals.as_slice().len();
@@ -521,7 +521,7 @@ fn turn<'a>(
 ) -> Result<Option<Ending>, NoMemory>
     ensures means { IfOk result (λ ending.
         (next : Left → End)
-        → turn line (in_scope (meanings (all_seen body.now) (scene_seen scene.now open_loops.now))) next (progress_seen s.old)
+        → turn line (as_scope (meanings (all_seen body.now) (scene_seen scene.now open_loops.now))) next (progress_seen s.old)
         ≡ after ending next (progress_seen s.new)) }
     ensures pays { IfOk result (λ ending. IfNone ending (s.new.fuel < s.old.fuel)) }
 {
@@ -577,7 +577,7 @@ fn turns<'a>(
     ensures { IfOk result (λ ending.
         loop line
         (test_value (option_map (λ e. expression e.now) test.entry) (scene_seen scene.now open_loops.now))
-        (in_scope (meanings (all_seen body.now) (scene_seen scene.now open_loops.now)))
+        (as_scope (meanings (all_seen body.now) (scene_seen scene.now open_loops.now)))
         (step_of (option_map assigned after.now) (scene_seen scene.now open_loops.now))
         (progress_seen s.old)
         ≡ end_of ending (progress_seen s.new)) }
@@ -633,7 +633,7 @@ fn message_loop<'a>(
     s: &mut Progress<'a>,
 ) -> Result<Ending, NoMemory>
     ensures { IfOk result (λ ending.
-        each_row line (λ current. in_scope (meanings (all_seen body.now) (inside current (scene_seen scene.now open_loops.now))))
+        each_row line (λ current. as_scope (meanings (all_seen body.now) (inside current (scene_seen scene.now open_loops.now))))
         (loop_currents word.now (scene_seen scene.now open_loops.now)) (progress_seen s.old)
         ≡ end_of ending (progress_seen s.new)) }
 {

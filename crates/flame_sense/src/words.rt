@@ -32,8 +32,8 @@ pub(crate) enum Form {
 pub(crate) struct Span {
     /// The column of the first.
     pub(crate) column: usize,
-    /// How many they are.
-    pub(crate) width: usize,
+    /// How many they are, where it is an array.
+    pub(crate) length: Option<u32>,
 }
 
 impl Form {
@@ -100,11 +100,11 @@ pub(crate) fn span_where(form: Form, word: &str, variables: &[Variable]) -> Opti
 {
     let mut column = 0usize;
     for variable in variables {
-        let width = width_of(variable);
         if form.is_written(word, variable.name.as_str()) {
-            return Some(Span { column, width });
+            let length = variable.length;
+            return Some(Span { column, length });
         }
-        column = column.saturating_add(width);
+        column = column.saturating_add(width_of(variable));
     }
     None
 }

@@ -5,4 +5,4 @@ use Rattle.flame_sense.proofs.arguments.numbers_from.Given as goal
 
 abbrev pub invariant-loop-place : goal.invariant-loop-place
 invariant-loop-place l =
-    (column : ℕ) → l.span.column ≡ within_reach column → l.numbers.items ≡ numbers_from l.place column l.row
+    (column : ℕ) → l.start ≡ within_reach column → l.numbers.items ≡ numbers_from l.place column l.row

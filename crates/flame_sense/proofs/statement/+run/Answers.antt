@@ -17,7 +17,7 @@ use Rattle.flame_sense.specs.Acts.{IsNoDeeper}
 use Rattle.flame_sense.specs.Depths.{depth, deepest}
 use Rattle.flame_sense.specs.Scenes.{Progress, Scene, named, array_named, element_column}
 use Rattle.flame_sense.specs.Expressions.{at_line, value_of}
-use Rattle.flame_sense.specs.Ends.{End, went_on, with_value, on_to, in_scope}
+use Rattle.flame_sense.specs.Ends.{End, went_on, with_value, on_to, as_scope}
 use Rattle.flame_sense.specs.Loops.{each_row, after_turn}
 use Rattle.flame_sense.specs.Statements.{set_column, set_name, test_value, loop_currents, meaning, meanings, first_arm}
 use Rattle.flame_sense.specs.HelperCalls.{gives, entered, helper_scene, calls_within}
@@ -114,7 +114,7 @@ element_changed-returns-in-Ok-2 t c =
 pub turn-returns-clause-means : goal.turn-returns-clause-means
 turn-returns-clause-means t c =
     λ next.
-    paid c.args.line (c.args.s.now.fuel - 1) (in_scope (meanings (statements c.args.body.now) (scene_seen c.args.scene.now c.args.open_loops.now))) next
+    paid c.args.line (c.args.s.now.fuel - 1) (as_scope (meanings (statements c.args.body.now) (scene_seen c.args.scene.now c.args.open_loops.now))) next
     (progress_seen c.args.s.now) c.if-s-eq0.false refl
     ∙ ap (λ e. after_turn e next) c.in_ok-ending.ensures
     ∙ c.turned.ensures.means next (progress_seen c.block.new.s)
@@ -217,7 +217,7 @@ pub statement-returns-in-Some : goal.statement-returns-in-Some
 statement-returns-in-Some t c =
     let scene : Scene = scene_seen c.args.scene.now c.args.open_loops.now in
     let s : Progress = progress_seen c.args.s.now in
-    let otherwise : Progress → End = in_scope (meanings (statements c.in-If.otherwise) scene) in
+    let otherwise : Progress → End = as_scope (meanings (statements c.in-If.otherwise) scene) in
     let seen =
     ap (λ x. meaning (statement x) scene s) c.in-If.is
     ∙ ap (λ x. meaning x scene s) (statement-If c.in-If.arms c.in-If.otherwise)
@@ -229,7 +229,7 @@ pub statement-returns-in-None : goal.statement-returns-in-None
 statement-returns-in-None t c =
     let scene : Scene = scene_seen c.args.scene.now c.args.open_loops.now in
     let s : Progress = progress_seen c.args.s.now in
-    let otherwise : Progress → End = in_scope (meanings (statements c.in-If.otherwise) scene) in
+    let otherwise : Progress → End = as_scope (meanings (statements c.in-If.otherwise) scene) in
     let seen =
     ap (λ x. meaning (statement x) scene s) c.in-If.is
     ∙ ap (λ x. meaning x scene s) (statement-If c.in-If.arms c.in-If.otherwise)
@@ -237,7 +237,7 @@ statement-returns-in-None t c =
     ∙ c.in_ok-ending-in-If.ensures otherwise in
     if_ok_more c.block-in-None.result _ _ (λ ending h.
     seen ∙ ap (λ o. after o otherwise (progress_seen c.branch-items.new.s)) c.in-None.is
-    ∙ ap (λ b. in_scope (meanings (statements b) scene) (progress_seen c.branch-items.new.s)) (sym c.items-in-None.ensures) ∙ h)
+    ∙ ap (λ b. as_scope (meanings (statements b) scene) (progress_seen c.branch-items.new.s)) (sym c.items-in-None.ensures) ∙ h)
     c.block-in-None.ensures
 
 pub statement-returns-in_ok-ending-in-WentOn : goal.statement-returns-in_ok-ending-in-WentOn
@@ -252,12 +252,12 @@ statement-returns-in_ok-ending-in-WentOn t c =
     let seen =
     ap (λ x. meaning (statement x) scene s) c.in-For.is
     ∙ ap (λ x. meaning x scene s) (statement-For c.in-For.line c.in-For.head c.in-For.body)
-    ∙ ap (λ f. in_scope (begun c.in-For.line f (option_map expression head.test) (option_map assigned head.step) c.in-For.body scene) s)
+    ∙ ap (λ f. as_scope (begun c.in-For.line f (option_map expression head.test) (option_map assigned head.step) c.in-For.body scene) s)
     (sym (c.items-in-For.ensures ∙ ap (λ h. h.first) c.deref.ensures))
-    ∙ ap (λ e. in_scope (begun c.in-For.line c.items-in-For.result.now e (option_map assigned head.step) c.in-For.body scene) s) (sym test_is)
-    ∙ ap (λ h. in_scope (begun c.in-For.line c.items-in-For.result.now test (option_map assigned h.step) c.in-For.body scene) s)
+    ∙ ap (λ e. as_scope (begun c.in-For.line c.items-in-For.result.now e (option_map assigned head.step) c.in-For.body scene) s) (sym test_is)
+    ∙ ap (λ h. as_scope (begun c.in-For.line c.items-in-For.result.now test (option_map assigned h.step) c.in-For.body scene) s)
     (sym c.deref-in-WentOn-2.ensures)
-    ∙ ap (λ b. in_scope (begun c.in-For.line c.items-in-For.result.now test step b scene) s) (sym c.items-in-WentOn.ensures) in
+    ∙ ap (λ b. as_scope (begun c.in-For.line c.items-in-For.result.now test step b scene) s) (sym c.items-in-WentOn.ensures) in
     seen
     ∙ scope_end (begun c.in-For.line c.items-in-For.result.now test step body scene) s _ _ c.in_ok-ending-in-WentOn.ending _
     (ap length c.as_slice-depth.ensures.value ∙ sym (length-visible c.args.s.now.locals.items))
@@ -277,7 +277,7 @@ statement-returns-in_default t c =
     let seen =
     ap (λ x. meaning (statement x) scene s) c.in-For.is
     ∙ ap (λ x. meaning x scene s) (statement-For c.in-For.line c.in-For.head c.in-For.body)
-    ∙ ap (λ f. in_scope (begun c.in-For.line f test step c.in-For.body scene) s)
+    ∙ ap (λ f. as_scope (begun c.in-For.line f test step c.in-For.body scene) s)
     (sym (c.items-in-For.ensures ∙ ap (λ h. h.first) c.deref.ensures)) in
     seen
     ∙ scope_end (begun c.in-For.line c.items-in-For.result.now test step c.in-For.body scene) s _ _ c.in_ok-ending-in-For.ending _
