@@ -21,3 +21,16 @@ pub mod Leavings
 pub mod More
 pub mod Boards
 pub mod TurnLaws
+pub mod Agreeing
+pub mod Alike
+pub mod Checked
+pub mod Coming
+pub mod DeepCalls
+pub mod Finding
+pub mod Fitting
+pub mod Naming
+pub mod Ranges
+pub mod RangesKept
+pub mod Running
+pub mod Sending
+pub mod WidthsKept

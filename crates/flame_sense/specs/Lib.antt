@@ -14,6 +14,13 @@ pub mod HelperCalls
 pub mod Outcomes
 -- ---- laws
 pub mod OutcomeLaws
+pub mod Agreement
+pub mod AcceptedMeaning
+pub mod OutputLaws
+pub mod DepthLaws
+pub mod RangeLaws
+pub mod RunLaws
+pub mod WidthLaws
 -- ---- the program's own words
 pub mod StandsFor
 pub mod Kept

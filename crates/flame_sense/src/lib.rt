@@ -1,6 +1,7 @@
 //! What transition functions mean: the outcome of a function's body for an agent, and a plain program that gives it.
 #![tactic(auto)]
 
+mod accepted_laws;
 mod arguments;
 mod deed;
 mod ending;
