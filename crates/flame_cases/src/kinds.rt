@@ -1,7 +1,7 @@
 //! The calls that cases are of.
 
 use crate::case::Case;
-use crate::{deciding, lexing, modeling, naming, ordering, planning, running, viewing};
+use crate::{deciding, lexing, modeling, naming, ordering, parsing, planning, running, viewing};
 use std::alloc::{AllocError, Global};
 use std::sync::Wait;
 use std::thread::Threads;
@@ -27,6 +27,10 @@ pub(crate) enum Kind {
     Condition,
     /// `flame_view::View`
     View,
+    /// `flame_expr::parse_expr`
+    Expression,
+    /// `flame_parse::parse`
+    Parse,
 }
 
 /// The call that the file's folder names.
@@ -41,6 +45,8 @@ pub(crate) fn kind_of(file: &str) -> Option<Kind> {
         "plan" => Some(Kind::Plan),
         "condition" => Some(Kind::Condition),
         "view" => Some(Kind::View),
+        "expression" => Some(Kind::Expression),
+        "parse" => Some(Kind::Parse),
         _ => None,
     }
 }
@@ -62,5 +68,7 @@ pub(crate) fn answer(
         Kind::Plan => planning::answer(alloc, case),
         Kind::Condition => deciding::answer(alloc, case),
         Kind::View => viewing::answer(alloc, case),
+        Kind::Expression => parsing::answer_expression(alloc, case),
+        Kind::Parse => parsing::answer(alloc, case),
     }
 }

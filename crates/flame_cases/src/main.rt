@@ -11,9 +11,11 @@ mod lexing;
 mod modeling;
 mod naming;
 mod ordering;
+mod parsing;
 mod planning;
 mod readable;
 mod running;
+mod trees;
 mod viewing;
 mod watched;
 

@@ -1,0 +1,115 @@
+//! Cases of `parse_expr` and of `parse`: the section `text`; the trees, as `trees` prints them, or the fault, as
+//! `Syntax at token 2`. An expression begins at the token whose number the section `from` has, at the first one without
+//! it, and behind its tree stands the token at which it ends, as `to 3`. Where the section `print` has the word `names`,
+//! only the names of the functions are printed.
+
+use crate::case::Case;
+use crate::trees::{print_definitions, print_expression, print_names};
+use flame_expr::{ParseFault, is_counted, nests, parse_expr};
+use flame_lex::{Token, lex};
+use flame_parse::parse;
+use flame_rows::{Fail, Seq};
+use std::alloc::{AllocError, Global};
+
+/// How many bytes a function file may have.
+const LONGEST: usize = 4194304;
+
+/// What was read.
+#[derive(Drop)]
+enum Found {
+    /// The tokens.
+    Tokens(Seq<Token>),
+    /// Why there are none, as it is answered.
+    Told(String),
+}
+
+/// The tokens of a case.
+fn tokens_in(alloc: Global, case: &Case) -> Result<Found, AllocError> {
+    let mut out = String::new(alloc);
+    let bytes = case.bytes("text");
+    if bytes.len() > LONGEST {
+        writeln!(out, "too large")?;
+        return Ok(Found::Told(out));
+    }
+    match lex(alloc, bytes) {
+        Ok(tokens) => return Ok(Found::Tokens(tokens)),
+        Err(Fail::Fault(fault)) => writeln!(out, "{} at byte {}", fault.name(), fault.offset())?,
+        Err(Fail::NoMemory) => writeln!(out, "no memory")?,
+    }
+    Ok(Found::Told(out))
+}
+
+fn print_fail(out: &mut String, fail: &Fail<ParseFault>) -> Result<(), AllocError> {
+    match fail {
+        Fail::Fault(fault) => writeln!(out, "{} at token {}", fault.name(), fault.token()),
+        Fail::NoMemory => writeln!(out, "no memory"),
+    }
+}
+
+/// The expression from a place of the tokens.
+fn print_place(
+    alloc: Global,
+    out: &mut String,
+    tokens: &[Token],
+    from: usize,
+) -> Result<(), AllocError> {
+    if from > tokens.len() || !is_counted(tokens) {
+        return writeln!(out, "too large");
+    }
+    if !nests(tokens) {
+        return writeln!(out, "too deep");
+    }
+    match parse_expr(alloc, tokens, from) {
+        Ok((tree, end)) => {
+            print_expression(out, 0, &tree)?;
+            writeln!(out, "to {end}")
+        }
+        Err(fail) => print_fail(out, &fail),
+    }
+}
+
+/// The answer to a case of the kind `expression`.
+pub(crate) fn answer_expression(alloc: Global, case: &Case) -> Result<String, AllocError> {
+    let tokens = match tokens_in(alloc, case)? {
+        Found::Told(told) => return Ok(told),
+        Found::Tokens(tokens) => tokens,
+    };
+    let mut out = String::new(alloc);
+    let from = case.text("from").trim().parse::<usize>().unwrap_or(0);
+    print_place(alloc, &mut out, tokens.items(), from)?;
+    Ok(out)
+}
+
+/// The function file of the tokens.
+fn print_file(
+    alloc: Global,
+    out: &mut String,
+    tokens: &[Token],
+    whole: bool,
+) -> Result<(), AllocError> {
+    if !is_counted(tokens) {
+        return writeln!(out, "too large");
+    }
+    match parse(alloc, tokens) {
+        Ok(unit) => {
+            if whole {
+                print_definitions(out, unit.functions.items())
+            } else {
+                print_names(out, unit.functions.items())
+            }
+        }
+        Err(fail) => print_fail(out, &fail),
+    }
+}
+
+/// The answer to a case of the kind `parse`.
+pub(crate) fn answer(alloc: Global, case: &Case) -> Result<String, AllocError> {
+    let tokens = match tokens_in(alloc, case)? {
+        Found::Told(told) => return Ok(told),
+        Found::Tokens(tokens) => tokens,
+    };
+    let mut out = String::new(alloc);
+    let whole = case.text("print").trim() != "names";
+    print_file(alloc, &mut out, tokens.items(), whole)?;
+    Ok(out)
+}
