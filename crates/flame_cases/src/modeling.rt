@@ -1,6 +1,6 @@
 //! Cases of `model_of`, and the model of other cases. The section `model` is the JSON text of a model. The answer is
-//! the model, a part of it a line, in cases of the kind `model`; `fine` in its place in cases of the kind `shape`; and the
-//! fault of its shape, as `wanted List at /xmodel/agents`, in both.
+//! the model, a part of it a line, in cases of the kind `model`; `fine` in its place in cases of the kind `shape`; and
+//! the fault of its shape, as `wanted List at /xmodel/agents`, in both.
 
 use crate::case::Case;
 use flame_rows::{Fail, Text};

@@ -1,7 +1,7 @@
 //! Cases of `parse_expr` and of `parse`: the section `text`; the trees, as `trees` prints them, or the fault, as
-//! `Syntax at token 2`. An expression begins at the token whose number the section `from` has, at the first one without
-//! it, and behind its tree stands the token at which it ends, as `to 3`. Where the section `print` has the word `names`,
-//! only the names of the functions are printed.
+//! `Syntax at token 2`. An expression begins at the token whose number the section `from` has, at the first one
+//! without it, and behind its tree stands the token at which it ends, as `to 3`. Where the section `print` has the word
+//! `names`, only the names of the functions are printed.
 
 use crate::case::Case;
 use crate::trees::{print_definitions, print_expression, print_names};

@@ -1,5 +1,5 @@
-//! Cases of `edges` and `plan`: the section `model`; which functions stand before which, as `edges 0>1 1>2`, and then the
-//! order, the layers and the start states, as `plan [0 1] [0 1] [start]`, or the fault, as `cycle [0 1]` or
+//! Cases of `edges` and `plan`: the section `model`; which functions stand before which, as `edges 0>1 1>2`, and then
+//! the order, the layers and the start states, as `plan [0 1] [0 1] [start]`, or the fault, as `cycle [0 1]` or
 //! `starts 0 [a b]`. Functions and agent types are numbered from 0.
 
 use crate::case::Case;
