@@ -64,7 +64,7 @@ pub deeper_calls_mean_alike :
     → HaveHeights source.model (helpers source.model source.units)
     → deepest_calls ≤ levels
     → meanings body (record (scene_of source place readings constants iteration) {
-      calls = calls_within levels source.model (helpers source.model source.units) constants iteration;
+      answers = calls_within levels source.model (helpers source.model source.units) constants iteration;
     }) s
     ≡ meanings body (scene_of source place readings constants iteration) s
 deeper_calls_mean_alike source place readings constants iteration levels body s heights enough =
