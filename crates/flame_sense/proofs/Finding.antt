@@ -256,8 +256,8 @@ module _ (place : Context) (sight : Sight) (scene : Scene) (s : Progress) (a : A
     expression_finds (field_at line word variable index_line index) none = (
       row_there line word variable (first_none _ _ (first_none _ _ none)),
       ap (λ (c : Context). is_found_array (member_read c word variable)) a.there
-      ∙ not-false _ (no_fault (not (is_found_array (member_read place word variable))) place NotArray line variable
-      (second_none (row_faults place sight line word variable) _ (first_none _ _ none))),
+          ∙ not-false _ (no_fault (not (is_found_array (member_read place word variable))) place NotArray line variable
+          (second_none (row_faults place sight line word variable) _ (first_none _ _ none))),
       expression_finds index (second_none (field_at_faults place sight line word variable) _ none),
     )
     expression_finds (signed signs e) none = expression_finds e none

@@ -78,8 +78,8 @@ pub fn no_default_is_met()
     ensures helpers { HelpersMeetNoDefault }
 {}
 
-/// A variable that is found stands within the row, and an element within its variable; statements keep the length of the
-/// memory. So where rows are as wide as their variables, no number is read or set beyond their ends.
+/// A variable that is found stands within the row, and an element within its variable; statements keep the length of
+/// the memory. So where rows are as wide as their variables, no number is read or set beyond their ends.
 pub fn columns_are_within()
     ensures variables { VariablesStandWithinRows }
     ensures elements { ElementsStandWithinVariables }
