@@ -345,7 +345,7 @@ module _ (k : ℕ) where
       (λ v t paid. ap went_on (name_same a.name v scene t))
   alike_form None (Some op) a scene s c =
       let go : ℤ → ℤ → Progress → End = λ left v t.
-          with_value (at_line a.op_line (applied op left v)) (λ w. went_on (set_name a.name w scene t)) in
+      with_value (at_line a.op_line (applied op left v)) (λ w. went_on (set_name a.name w scene t)) in
       alike_stored a.value scene s (go (named a.name scene s)) (go (named a.name scene (richer s))) c
       (λ v t. alike_value (at_line a.op_line (applied op (named a.name scene s) v)) (at_line a.op_line (applied op (named a.name scene (richer s)) v))
       (λ w. went_on (set_name a.name w scene t)) (λ w. went_on (set_name a.name w scene (richer t)))
@@ -360,7 +360,7 @@ module _ (k : ℕ) where
       (λ column. went_on (set_column column v (richer t))) (λ column paid. refl)))
   alike_form (Some place) (Some op) a scene s c =
       let go : ℕ → ℤ → Progress → End = λ column v t.
-          with_value (at_line a.op_line (applied op (number_at s.memory column) v)) (λ w. went_on (set_column column w t)) in
+      with_value (at_line a.op_line (applied op (number_at s.memory column) v)) (λ w. went_on (set_column column w t)) in
       alike_value (value_of place.index scene s) _
       (λ i. with_column place.line (element_column (array_named a.name scene s) i) (λ column. by_value a.value scene s (go column)))
       (λ i. with_column place.line (element_column (array_named a.name scene s) i) (λ column. by_value a.value scene (richer s) (go column)))

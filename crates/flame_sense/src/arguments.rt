@@ -26,12 +26,7 @@ fn number_in(row: &[i32], start: usize, place: usize) -> i32
 
 /// So many numbers of the row, from this column on.
 #[tactic(auto, using(crate::proofs::Rows::numbers_next))]
-fn numbers_from(
-    alloc: Global,
-    start: usize,
-    length: usize,
-    row: &[i32],
-) -> Result<Row, NoMemory>
+fn numbers_from(alloc: Global, start: usize, length: usize, row: &[i32]) -> Result<Row, NoMemory>
     ensures { IfOk result (λ numbers.
         (column : ℕ) → start ≡ within_reach column → numbers ≡ numbers_from length column row.now) }
 {
@@ -93,7 +88,12 @@ fn argument_values(
         Expr::Name(_, word) => {
             let word = word.as_str();
             let named = scene.named(word, s);
-            numbers_of(alloc, scene.array_named(word, s), s.memory.as_slice(), named)
+            numbers_of(
+                alloc,
+                scene.array_named(word, s),
+                s.memory.as_slice(),
+                named,
+            )
         }
         Expr::Field(_, word, variable) => {
             let (word, variable) = (word.as_str(), variable.as_str());
@@ -157,11 +157,7 @@ fn fitted(alloc: Global, wide: usize, values: &[i32]) -> Result<Row, NoMemory>
 }
 
 /// A row of these variables with the values.
-pub(crate) fn row_of(
-    alloc: Global,
-    variables: &[Variable],
-    values: &[i32],
-) -> Result<Row, NoMemory>
+pub(crate) fn row_of(alloc: Global, variables: &[Variable], values: &[i32]) -> Result<Row, NoMemory>
     ensures { IfOk result (λ row. row ≡ fitted (width variables.now) values.now) }
 {
     match width(variables) {

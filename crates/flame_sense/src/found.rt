@@ -100,11 +100,7 @@ fn definition_in<'a>(defs: &'a [Def], name: &str, wanted: Wanted<'_>) -> Option<
 }
 
 /// The first C function of this name in all files that is looked for.
-fn definition_of<'a>(
-    units: &'a [Unit],
-    name: &str,
-    wanted: Wanted<'_>,
-) -> Option<Definition<'a>>
+fn definition_of<'a>(units: &'a [Unit], name: &str, wanted: Wanted<'_>) -> Option<Definition<'a>>
     ensures found { option_map definition_seen result
         ≡ find (λ d. bytes_eq d.name name.now && is_wanted wanted.entry d) (definitions units.now) }
     ensures depth { IfSome result (λ d. depth d.def.now.body ≤ deepest units.now) }

@@ -1,7 +1,7 @@
 //! What transition functions mean: the outcome of a function's body for an agent, and a plain program that gives it.
 #![tactic(auto)]
 
-mod accepted_laws;
+pub mod accepted_laws;
 mod arguments;
 mod deed;
 mod ending;
@@ -14,6 +14,8 @@ mod reading;
 mod scene;
 mod statement;
 mod store;
+#[cfg(test)]
+mod tests;
 mod words;
 
 pub use outcome::evaluate;

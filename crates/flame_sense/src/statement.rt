@@ -58,7 +58,8 @@ fn call(
 ) -> Result<Gave, NoMemory>
     requires { depth helper.def.now.body ≤ deepest scene.now.units.now }
     ensures { IfOk result (λ gave.
-        (scene_seen scene.now Open.Nothing).answers line (definition_seen helper.entry) values.now fuel ≡ gave_seen gave) }
+        (scene_seen scene.now Open.Nothing).answers line (definition_seen helper.entry) values.now fuel
+        ≡ gave_seen gave) }
 {
     if fuel == 0 {
         return Ok(Gave::Failed(no_fuel(line)));
@@ -67,7 +68,12 @@ fn call(
         return Ok(Gave::Failed(no_fuel(line)));
     }
     let def = helper.def;
-    let mut s = begin_helper(scene.alloc, def.parameters.items(), values.values(), fuel - 1)?;
+    let mut s = begin_helper(
+        scene.alloc,
+        def.parameters.items(),
+        values.values(),
+        fuel - 1,
+    )?;
     let inner = scene.in_helper();
     let ending = statements(def.body.items(), &inner, &Open::Nothing, &mut s)?;
     Ok(given(ending, s.fuel))
@@ -106,7 +112,8 @@ fn helped(
     s: &mut Progress<'_>,
 ) -> Result<Result<i32, Fault>, NoMemory>
     ensures { IfOk result (λ r. (open_loops : Open) (go : ℤ → Left → End)
-        → helped (helper_named (scene_seen scene.now open_loops).context.helpers word.now) line values.now (scene_seen scene.now open_loops) (progress_seen s.old) go
+        → helped (helper_named (scene_seen scene.now open_loops).context.helpers word.now) line values.now
+        (scene_seen scene.now open_loops) (progress_seen s.old) go
         ≡ with_value r (λ v. go v (progress_seen s.new))) }
 {
     match helper_named(scene.model, scene.units, word) {
@@ -243,7 +250,8 @@ fn element_changed(
     s: &mut Progress<'_>,
 ) -> Result<Ending, NoMemory>
     ensures { IfOk result (λ ending.
-        element_changed (indexed place.now) op (assigned a.now) (scene_seen scene.now open_loops.now) (progress_seen s.old)
+        element_changed (indexed place.now) op (assigned a.now) (scene_seen scene.now open_loops.now)
+        (progress_seen s.old)
         ≡ end_of ending (progress_seen s.new)) }
 {
     let index = match value(place.index.get(), scene, open_loops, s) {
@@ -294,7 +302,8 @@ fn done(
     s: &mut Progress<'_>,
 ) -> Result<Ending, NoMemory>
     ensures { IfOk result (λ ending. (open_loops : Open)
-        → done (deed_of (context_seen scene.now) word.now) line values.now (scene_seen scene.now open_loops) (progress_seen s.old)
+        → done (deed_of (context_seen scene.now) word.now) line values.now (scene_seen scene.now open_loops)
+        (progress_seen s.old)
         ≡ end_of ending (progress_seen s.new)) }
 {
     match scene.deed_of(word) {
@@ -332,7 +341,8 @@ fn call_statement(
     s: &mut Progress<'_>,
 ) -> Result<Ending, NoMemory>
     ensures { IfOk result (λ ending.
-        meaning (called_there line word.now (expressions arguments.now)) (scene_seen scene.now open_loops.now) (progress_seen s.old)
+        meaning (called_there line word.now (expressions arguments.now)) (scene_seen scene.now open_loops.now)
+        (progress_seen s.old)
         ≡ end_of ending (progress_seen s.new)) }
 {
     match values_of(arguments, scene, open_loops, s)? {
@@ -389,15 +399,7 @@ fn statement<'a>(
             None => block(otherwise.items(), scene, open_loops, s),
         },
         Stmt::While(line, test, body) => {
-            turns(
-                body.items(),
-                *line,
-                Some(test),
-                &None,
-                scene,
-                open_loops,
-                s,
-            )
+            turns(body.items(), *line, Some(test), &None, scene, open_loops, s)
         }
         Stmt::For(line, head, body) => {
             let depth = s.locals.as_slice().len();
@@ -521,7 +523,8 @@ fn turn<'a>(
 ) -> Result<Option<Ending>, NoMemory>
     ensures means { IfOk result (λ ending.
         (next : Left → End)
-        → turn line (as_scope (meanings (all_seen body.now) (scene_seen scene.now open_loops.now))) next (progress_seen s.old)
+        → turn line (as_scope (meanings (all_seen body.now) (scene_seen scene.now open_loops.now))) next
+        (progress_seen s.old)
         ≡ after ending next (progress_seen s.new)) }
     ensures pays { IfOk result (λ ending. IfNone ending (s.new.fuel < s.old.fuel)) }
 {
@@ -555,7 +558,8 @@ fn test_value(
     s: &Progress<'_>,
 ) -> Result<i32, Fault>
     ensures { result
-        ≡ test_value (option_map (λ e. expression e.now) test.entry) (scene_seen scene.now open_loops.now) (progress_seen s.now) }
+        ≡ test_value (option_map (λ e. expression e.now) test.entry) (scene_seen scene.now open_loops.now)
+        (progress_seen s.now) }
 {
     match test {
         None => Ok(1),
@@ -613,7 +617,8 @@ fn do_loop<'a>(
     s: &mut Progress<'a>,
 ) -> Result<Ending, NoMemory>
     ensures { IfOk result (λ ending.
-        meaning (do_while line (all_seen body.now) (expression test.now)) (scene_seen scene.now open_loops.now) (progress_seen s.old)
+        meaning (do_while line (all_seen body.now) (expression test.now)) (scene_seen scene.now open_loops.now)
+        (progress_seen s.old)
         ≡ end_of ending (progress_seen s.new)) }
 {
     match turn(body, line, scene, open_loops, s)? {
@@ -633,7 +638,8 @@ fn message_loop<'a>(
     s: &mut Progress<'a>,
 ) -> Result<Ending, NoMemory>
     ensures { IfOk result (λ ending.
-        each_row line (λ current. as_scope (meanings (all_seen body.now) (inside current (scene_seen scene.now open_loops.now))))
+        each_row line
+        (λ current. as_scope (meanings (all_seen body.now) (inside current (scene_seen scene.now open_loops.now))))
         (loop_currents word.now (scene_seen scene.now open_loops.now)) (progress_seen s.old)
         ≡ end_of ending (progress_seen s.new)) }
 {

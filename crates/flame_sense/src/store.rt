@@ -99,11 +99,7 @@ pub(crate) fn change_column(
 }
 
 /// The local is visible from here on.
-pub(crate) fn add_local<'a>(
-    name: &'a str,
-    value: i32,
-    s: &mut Progress<'a>,
-) -> Result<(), NoMemory>
+pub(crate) fn add_local<'a>(name: &'a str, value: i32, s: &mut Progress<'a>) -> Result<(), NoMemory>
     ensures { OnOk result (progress_seen s.new ≡ with_local name.now value (progress_seen s.old)) }
 {
     s.locals.push(Local { name, value })?;

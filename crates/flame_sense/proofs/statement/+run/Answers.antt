@@ -1,7 +1,7 @@
 use mir.Syntax.{w32}
 use mir.Val.{SFits, to_z, of_z}
 use Rattle.std.proofs.lemmas.Int.{to_z-of_z}
-use Rattle.std.proofs.Common.{rules, ◌≡◌, ◌∙◌, ap, refl, sym, subst, length, map, Some, None, option_map, arith, ◌+◌, ◌-◌, ◌<◌, ◌≤◌, List, Option, drop}
+use Rattle.std.proofs.Common.{rules, ◌∙◌, ap, refl, sym, subst, length, map, Some, None, option_map, arith, ◌+◌, ◌-◌, ◌<◌, ◌≤◌, List, Option, drop}
 use Rattle.std.specs.Prelude.{ℤ, IfSome, IfNone}
 use Rattle.flame_ops.specs.Integers.{applied}
 use Rattle.flame_spec.specs.declared.trees.Stmt.{Stmt}
@@ -48,10 +48,10 @@ call-returns t c =
     let constants = c.args.scene.now.constants.now in
     let iteration = c.args.scene.now.iteration in
     let inner : Scene = helper_scene model defs constants iteration
-        (calls_within (c.args.scene.now.left - 1) model defs constants iteration) in
+    (calls_within (c.args.scene.now.left - 1) model defs constants iteration) in
     let begun = sym (c.in_ok-s.ensures
-        ∙ ap (λ ps. entered ps c.values.result.now (c.args.fuel - 1)) c.items.ensures
-        ∙ ap (λ vs. entered c.args.helper.def.now.parameters vs (c.args.fuel - 1)) c.values.ensures) in
+    ∙ ap (λ ps. entered ps c.values.result.now (c.args.fuel - 1)) c.items.ensures
+    ∙ ap (λ vs. entered c.args.helper.def.now.parameters vs (c.args.fuel - 1)) c.values.ensures) in
     opened c.args.scene.now.left model defs constants iteration
     c.args.line (definition_seen c.args.helper) c.args.values.now c.args.fuel c.if-scene-eq0.false c.if-fuel-eq0.false
     ∙ ap (λ b. gives (meanings (statements b) inner (entered c.args.helper.def.now.parameters c.args.values.now (c.args.fuel - 1)))) (sym c.items-2.ensures)
@@ -99,8 +99,8 @@ element_changed-returns-in-Ok-2 t c =
     let op = c.args.op in
     let index = sym c.in-Ok.is ∙ c.value.ensures ∙ ap (λ e. value_of (expression e) scene s) c.get.ensures in
     let there = sym c.in-Some.is ∙ c.element_column.ensures (array_named c.as_str.result.now scene s) c.array_named.ensures
-        ∙ ap (λ i. option_map within_reach (element_column (array_named c.as_str.result.now scene s) i)) (to_z-of_z w32 c.in-Ok.index at)
-        ∙ ap (λ n. option_map within_reach (element_column (array_named n scene s) c.in-Ok.index)) c.as_str.ensures in
+    ∙ ap (λ i. option_map within_reach (element_column (array_named c.as_str.result.now scene s) i)) (to_z-of_z w32 c.in-Ok.index at)
+    ∙ ap (λ n. option_map within_reach (element_column (array_named n scene s) c.in-Ok.index)) c.as_str.ensures in
     element_changes (indexed c.args.place.now) op a scene s c.in-Ok.index c.in-Some.column _ index there
     (λ column near.
     c.in_ok-right.ensures (changing op a s column)

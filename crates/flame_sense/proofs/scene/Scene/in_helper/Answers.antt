@@ -18,6 +18,6 @@ returns-clause-scene c =
     let defs = helpers model c.args.self.now.units.now in
     let constants = c.args.self.now.constants.now in
     let With : ℤ → List Current → Scene = λ i open_loops.
-        record (helper_scene model defs constants i (calls_within (c.args.self.now.left - 1) model defs constants i)) { open_loops = open_loops } in
+    record (helper_scene model defs constants i (calls_within (c.args.self.now.left - 1) model defs constants i)) { open_loops = open_loops } in
     ap (λ i. With i (currents Nothing)) (to_z-of_z w32 c.args.self.now.iteration fits)
     ∙ ap (With c.args.self.now.iteration) currents_nothing
