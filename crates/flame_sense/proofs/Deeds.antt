@@ -1,8 +1,8 @@
 -- What words of call statements do.
-use Rattle.std.proofs.Common.{◌≡◌, ℕ, List, sym, ap, ◌∙◌, Option, Some, None, option_map}
+use Rattle.std.proofs.Common.{◌≡◌, ℕ, List, ap, ◌∙◌, Option, Some, None, option_map}
 use Rattle.flame_spec.specs.declared.models.MessageType.{MessageType}
 use Rattle.flame_spec.specs.declared.models.Variable.{Variable}
-use Rattle.flame_spec.specs.CallFaults.{Deed, sends, added_in, sent_or_else, set_or_else}
+use Rattle.flame_spec.specs.CallFaults.{sends, added_in, sent_or_else, set_or_else}
 use Rattle.flame_spec.specs.Functions.{Place}
 use Rattle.flame_spec.specs.LookUps.{message_sent}
 use Rattle.flame_spec.specs.Scopes.{Context}

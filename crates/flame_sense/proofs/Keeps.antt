@@ -8,7 +8,7 @@ use Rattle.flame_spec.specs.declared.models.Model.{Model}
 use Rattle.flame_spec.specs.declared.models.MessageType.{MessageType}
 use Rattle.flame_spec.specs.declared.models.AgentType.{AgentType}
 use Rattle.flame_spec.specs.declared.models.Variable.{Variable}
-use Rattle.flame_spec.specs.CallFaults.{Deed, sets, sends, bears, calls, called_by, added_in, born_or_called, sent_or_else, set_or_else, deed_of}
+use Rattle.flame_spec.specs.CallFaults.{sends, bears, called_by, added_in, born_or_called, sent_or_else, set_or_else, deed_of}
 use Rattle.flame_spec.specs.Conditions.{number_at}
 use Rattle.flame_spec.specs.Definitions.{Definition, helper_named}
 use Rattle.flame_spec.specs.Functions.{Place}
@@ -21,7 +21,7 @@ use Rattle.flame_sense.specs.Scenes.{Scene, Progress, Current, Gave, gave, faile
 use Rattle.flame_sense.specs.Expressions.{at_line, holds, value_of, values_of}
 use Rattle.flame_sense.specs.Ends.{End, went_on, broke, continued, returned, faulted, no_fuel, with_value, with_values, after_call, on_to, leave, as_scope}
 use Rattle.flame_sense.specs.Loops.{pay_from, after_turn, turn, turns, each_row}
-use Rattle.flame_sense.specs.Statements.{helped, by_value, by_initial, declarations, set_local, set_found, set_name, with_column, name_set, name_changed, element_set, element_changed, assigned_by, assignment, done, test_value, step_of, loop_currents, inside, meaning, meanings, first_arm}
+use Rattle.flame_sense.specs.Statements.{helped, by_value, by_initial, declarations, set_local, set_found, set_name, with_column, assigned_by, assignment, done, test_value, step_of, loop_currents, inside, meaning, meanings, first_arm}
 use Rattle.flame_sense.specs.Kept.{IsKept, IsKeptByPaying, IsAmong, Leaves}
 
 module _

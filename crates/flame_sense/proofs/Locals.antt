@@ -1,6 +1,6 @@
 -- The visible locals: the newest first in definitions, the newest last in the program.
 use Rattle.std.proofs.Common.{◌≡◌, ℕ, ◌+◌, ◌-◌, ◌<◌, List, [], ◌∷◌, ◌++◌, length, take, drop, get_or, refl, sym, ap, ◌∙◌, Bool, true, false, cond, Some, None, arith, append_assoc, add-one, length-drop}
-use Rattle.std.specs.Prelude.{ℤ, reverse, map, slice_set, is_some}
+use Rattle.std.specs.Prelude.{ℤ, reverse, map, slice_set}
 use Rattle.std.specs.Str.{bytes_eq}
 use Rattle.std.proofs.lemmas.List.{reverse-append, map-append, at_drop_more, take-append-drop, set_split, length-reverse, length-map}
 use Rattle.std.proofs.Math.Seq.{drop-append_seam}

@@ -1,5 +1,5 @@
 -- What is looked up in lists that are made of lists.
-use Rattle.std.proofs.Common.{◌≡◌, ℕ, zero, suc, ◌+◌, ◌<◌, List, [], ◌∷◌, ◌++◌, length, drop, map, get_or, refl, sym, ap, ◌∙◌, Bool, true, false, ◌&&◌, ◌||◌, not, cond, Option, Some, None, option_map, arith}
+use Rattle.std.proofs.Common.{◌≡◌, ℕ, zero, suc, ◌+◌, ◌<◌, List, [], ◌∷◌, ◌++◌, length, drop, map, get_or, refl, sym, ap, ◌∙◌, Bool, true, false, ◌&&◌, ◌||◌, cond, Some, None, option_map, arith}
 use Rattle.std.specs.Prelude.{find, slice_get}
 use Rattle.std.specs.List.{filter, list_any}
 use Rattle.std.specs.Str.{bytes_eq}
@@ -10,7 +10,7 @@ use Rattle.flame_spec.specs.declared.models.Function.{Function}
 use Rattle.flame_spec.specs.declared.trees.Def.{Def}
 use Rattle.flame_spec.specs.declared.trees.Unit.{Unit}
 use Rattle.flame_spec.specs.Definitions.{Definition, definition, definitions_of, is_for, is_helper, helpers, helper_named, definitions}
-use Rattle.flame_spec.specs.Functions.{Place, functions_from, at_type}
+use Rattle.flame_spec.specs.Functions.{functions_from, at_type}
 use Rattle.flame_spec.specs.Lists.{each_from, numbered_from}
 use Rattle.flame_sense.specs.declared.found.Wanted.{Wanted}
 use Rattle.flame_sense.specs.declared.found.Wanted.TheVariants.{Any, Helpers}

@@ -1,5 +1,5 @@
 -- The turns of message loops.
-use Rattle.std.proofs.Common.{rules, ◌≡◌, ℕ, List, [], map, refl, sym, ap, ◌∙◌, Bor, Option, Some, None, option_map}
+use Rattle.std.proofs.Common.{rules, ◌≡◌, ℕ, List, [], map, sym, ap, ◌∙◌, Bor, Option, Some, None, option_map}
 use Rattle.std.proofs.lemmas.Simd.{map-map}
 use Rattle.std.specs.Prelude.{ℤ, slice_index_or}
 use Rattle.flame_spec.specs.declared.models.Input.{Input}

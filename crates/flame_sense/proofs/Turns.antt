@@ -1,17 +1,17 @@
 -- Fuel never rises, so a loop may be begun anew with what is left.
-use Rattle.std.proofs.Common.{◌≡◌, ◌≢◌, ℕ, zero, suc, ◌-◌, ◌<◌, ◌≤◌, List, [], refl, sym, ap, ◌∙◌, Bool, true, false, cond, Option, arith}
+use Rattle.std.proofs.Common.{◌≡◌, ◌≢◌, ℕ, zero, suc, ◌-◌, ◌<◌, ◌≤◌, List, refl, sym, ap, ◌∙◌, Bool, true, false, cond, Option, arith}
 use Rattle.std.specs.Prelude.{ℤ, Result, Ok, Err}
 use Rattle.flame_spec.specs.declared.faults.Fault.{Fault}
 use Rattle.flame_spec.specs.declared.models.Model.{Model}
 use Rattle.flame_spec.specs.Definitions.{Definition}
-use Rattle.flame_spec.specs.Trees.{Expression, Statements, Assigned}
+use Rattle.flame_spec.specs.Trees.{Statements, Assigned}
 use Rattle.flame_sense.specs.declared.scene.Open.{Open}
 use Rattle.flame_sense.specs.declared.scene.Scene as code
 use Rattle.flame_sense.specs.Scenes.{Scene, Progress, gave, Calls}
 use Rattle.flame_sense.specs.Expressions.{holds}
 use Rattle.flame_sense.specs.Ends.{End, went_on, broke, continued, returned, faulted, no_fuel, with_value, on_to, as_scope}
 use Rattle.flame_sense.specs.Loops.{pay_from, after_turn, turn, turns, loop}
-use Rattle.flame_sense.specs.Statements.{test_value, meanings, step_of}
+use Rattle.flame_sense.specs.Statements.{meanings, step_of}
 use Rattle.flame_sense.specs.HelperCalls.{gives, entered, helper_scene, calls_within}
 use Rattle.flame_sense.specs.Kept.{IsKept, IsKeptByPaying, Leaves}
 use Rattle.flame_sense.specs.StandsFor.{scene_seen}

@@ -56,7 +56,8 @@ element_value line (Some column) row = Ok (number_at row column)
 -- ---- expressions
 
 abbrev mutual
-  -- the value of an expression; parts are evaluated from left to right, an index before its element [C, 6.5; order: own]
+  -- the value of an expression; parts are evaluated from left to right, an index before its element [C, 6.5; order:
+  -- own]
   pub value_of : Expression → Scene → Progress → Result ℤ Fault
   value_of (number n) scene s = Ok n
   value_of (name line word) scene s = Ok (named word scene s)
@@ -98,8 +99,8 @@ abbrev pub one_of : Result ℤ Fault → Result (List ℤ) Fault
 one_of (Ok v) = Ok (v ∷ [])
 one_of (Err fault) = Err fault
 
--- the numbers that an argument stands for: one that names an array stands for the numbers of the array in order, and else
--- for its value [C, 6.5.2.2; arrays: own]
+-- the numbers that an argument stands for: one that names an array stands for the numbers of the array in order, and
+-- else for its value [C, 6.5.2.2; arrays: own]
 abbrev pub argument_values : Expression → Scene → Progress → Result (List ℤ) Fault
 argument_values (name line word) scene s = Ok (numbers_of (array_named word scene s) s.memory (named word scene s))
 argument_values (field line word variable) scene s =

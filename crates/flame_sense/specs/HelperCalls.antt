@@ -1,5 +1,5 @@
--- How calls of helpers end. A helper sees its parameters, its locals, the constants, the number of the iteration and the
--- other helpers; it has no memory and no messages.
+-- How calls of helpers end. A helper sees its parameters, its locals, the constants, the number of the iteration and
+-- the other helpers; it has no memory and no messages.
 use Rattle.std.specs.Prelude.{ℕ, zero, suc, ℤ, pos, List, [], ◌∷◌, None}
 use Rattle.flame_spec.specs.declared.models.Model.{Model}
 use Rattle.flame_spec.specs.declared.trees.Parameter.{Parameter}

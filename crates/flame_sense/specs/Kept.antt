@@ -5,7 +5,7 @@ use Rattle.flame_spec.specs.declared.models.AgentType.{AgentType}
 use Rattle.flame_spec.specs.declared.models.Model.{Model}
 use Rattle.flame_spec.specs.Definitions.{Definition}
 use Rattle.flame_spec.specs.LookUps.{message_sent, agent_born}
-use Rattle.flame_sense.specs.Scenes.{Scene, Local, Progress, Gave, gave, Calls}
+use Rattle.flame_sense.specs.Scenes.{Scene, Local, Progress, gave, Calls}
 use Rattle.flame_sense.specs.Ends.{End, went_on, broke, continued, returned, faulted}
 use Rattle.flame_sense.specs.Statements.{set_column, with_message, with_birth}
 

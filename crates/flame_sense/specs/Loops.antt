@@ -26,8 +26,8 @@ after_turn (faulted fault) go = faulted fault
 abbrev pub turn : ℕ → (Progress → End) → (Progress → End) → Progress → End
 turn line body next s = pay line s (λ t. after_turn (body t) next)
 
--- turn after turn while the test holds, each body followed by the step; it is begun with the fuel as n, of which each turn
--- takes one, so that n runs out with the fuel [C, 6.8.5]
+-- turn after turn while the test holds, each body followed by the step; it is begun with the fuel as n, of which each
+-- turn takes one, so that n runs out with the fuel [C, 6.8.5]
 abbrev pub turns :
     ℕ → ℕ → (Progress → Result ℤ Fault) → (Progress → End) → (Progress → End) → Progress → End
 turns zero line test body step s =
@@ -37,7 +37,8 @@ turns (suc n) line test body step s =
     if holds v then turn line body (λ t. on_to (step t) (turns n line test body step)) s
     else went_on s)
 
--- a loop that begins with its test: a `while`, a `for` behind its first statement, a `do` behind its first turn [C, 6.8.5]
+-- a loop that begins with its test: a `while`, a `for` behind its first statement, a `do` behind its first turn [C,
+-- 6.8.5]
 abbrev pub loop : ℕ → (Progress → Result ℤ Fault) → (Progress → End) → (Progress → End) → Progress → End
 loop line test body step s = turns s.fuel line test body step s
 

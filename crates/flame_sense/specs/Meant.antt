@@ -2,16 +2,10 @@
 use Rattle.std.specs.Prelude.{◌≡◌, ℕ, ℤ, List}
 use Rattle.flame_spec.specs.declared.outcomes.Source.{Source}
 use Rattle.flame_spec.specs.declared.outcomes.Outcome.{Outcome}
-use Rattle.flame_sense.specs.Outcomes.{outcome, outcome_over}
+use Rattle.flame_sense.specs.Outcomes.{outcome}
 
 -- the answer is the outcome of the function over these boards [FLAME User Manual]
 abbrev pub IsMeant :
     Source → ℕ → List ℤ → List (List (List ℤ)) → List ℤ → ℤ → ℕ → Outcome → Type 0
 IsMeant source function memory boards constants iteration fuel answer =
     answer ≡ outcome source function memory boards constants iteration fuel
-
--- the answer is the outcome of the function where loops over its inputs give these rows [FLAME User Manual]
-abbrev pub IsMeantOver :
-    Source → ℕ → List ℤ → List (List (List ℤ)) → List ℤ → ℤ → ℕ → Outcome → Type 0
-IsMeantOver source function memory readings constants iteration fuel answer =
-    answer ≡ outcome_over source function memory readings constants iteration fuel

@@ -34,8 +34,8 @@ IsMessage model sent =
 abbrev pub IsAgent : Model → Born → Type 0
 IsAgent model born = IsSomeAnd (slice_get model.agents born.agent) (λ agent. length born.row ≡ width agent.memory)
 
--- the memory that is kept is as wide as it was; messages and births are of types of the model, and as wide as they declare
--- [own]
+-- the memory that is kept is as wide as it was; messages and births are of types of the model, and as wide as they
+-- declare [own]
 pub record HasWidths (model : Model) (memory : List ℤ) (effect : Effect) : Type 0 where
   pub kept : (row : List ℤ) → effect.memory ≡ Some row → length row ≡ length memory
   pub sent : All (IsMessage model) effect.sent
@@ -76,8 +76,8 @@ CallTakesOne =
     (helper_scene model helpers constants iteration (calls_within levels model helpers constants iteration))
     (entered helper.parameters values fuel))
 
--- a `while` or a `for` is its test, and where that holds a turn, the step and the same loop again, where calls are those of
--- a source [C, 6.8.5]
+-- a `while` or a `for` is its test, and where that holds a turn, the step and the same loop again, where calls are
+-- those of a source [C, 6.8.5]
 abbrev pub LoopGoesOn : Type 0
 LoopGoesOn =
     (line : ℕ) (test : Option Expression) (body : Statements) (step : Option Assigned) (source : Source) (place : Place)
@@ -120,8 +120,8 @@ TruthIsZeroOrOne =
 
 -- ---- what is seen
 
--- what a call of a helper comes to is the same whoever calls it: it depends on the source, the constants and the iteration,
--- on the arguments and on the fuel [own]
+-- what a call of a helper comes to is the same whoever calls it: it depends on the source, the constants and the
+-- iteration, on the arguments and on the fuel [own]
 abbrev pub HelpersSeeNoCaller : Type 0
 HelpersSeeNoCaller =
     (source : Source) (place other : Place) (readings others : List (List (List ℤ))) (constants : List ℤ) (iteration : ℤ)

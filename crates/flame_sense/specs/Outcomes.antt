@@ -63,8 +63,8 @@ outcome_at (Some place) source memory readings constants iteration fuel =
 abbrev pub place_of : Source → ℕ → Option Place
 place_of source function = slice_get (functions source.model) function
 
--- the outcome of the function of this number for an agent with this memory, where loops over its inputs give these rows,
--- an entry for each input in order, with these constants, in this iteration, with this fuel [FLAME User Manual]
+-- the outcome of the function of this number for an agent with this memory, where loops over its inputs give these
+-- rows, an entry for each input in order, with these constants, in this iteration, with this fuel [FLAME User Manual]
 abbrev pub outcome_over : Source → ℕ → List ℤ → List (List (List ℤ)) → List ℤ → ℤ → ℕ → Outcome
 outcome_over source function = outcome_at (place_of source function) source
 

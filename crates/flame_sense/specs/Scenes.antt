@@ -1,5 +1,5 @@
--- What a function has before it while it runs, what it changes, and what the words of its body stand for. A word goes by
--- the look-up of its kind; what no accepted source has has a plain default, so that each function has an outcome.
+-- What a function has before it while it runs, what it changes, and what the words of its body stand for. A word goes
+-- by the look-up of its kind; what no accepted source has has a plain default, so that each function has an outcome.
 use Rattle.std.specs.Prelude.{ℕ, zero, suc, ◌+◌, ◌==◌, ℤ, pos, negsuc, nat_lt, List, [], ◌∷◌, Option, Some, None, is_some}
 use Rattle.std.specs.Prelude.{unwrap_or, if◌then◌else◌}
 use Rattle.std.specs.Str.{bytes_eq}
@@ -32,10 +32,10 @@ pub data Gave : Type 0 where
 abbrev pub Calls : Type 0
 Calls = ℕ → Definition → List ℤ → ℕ → Gave
 
--- what a body has before it and does not change: the model, its helpers, and the function of the model whose body it is,
--- where it is not that of a helper; the constants; the number of the iteration; the rows that a loop over each input
--- gives, in order; where the open loops over messages stand, from the inside; and how calls of helpers end
--- [FLAME User Manual; helpers: C, 6.9.1]
+-- what a body has before it and does not change: the model, its helpers, and the function of the model whose body it
+-- is, where it is not that of a helper; the constants; the number of the iteration; the rows that a loop over each
+-- input gives, in order; where the open loops over messages stand, from the inside; and how calls of helpers end [FLAME
+-- User Manual; helpers: C, 6.9.1]
 pub record Scene : Type 0 where
   pub context : Context
   pub constants : List ℤ
@@ -44,8 +44,8 @@ pub record Scene : Type 0 where
   pub open_loops : List Current
   pub answers : Calls
 
--- what the words of a body go by, where it is the body of this function of the model, or that of a helper, with no function
--- of the model; the number of a file is for check faults alone, and 0 here [own]
+-- what the words of a body go by, where it is the body of this function of the model, or that of a helper, with no
+-- function of the model; the number of a file is for check faults alone, and 0 here [own]
 abbrev pub context_for : Model → List Definition → Option Place → Context
 context_for model helpers runs = record { model = model; helpers = helpers; runs = runs; file = 0 }
 

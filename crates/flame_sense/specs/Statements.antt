@@ -152,10 +152,9 @@ abbrev pub with_birth : ℕ → AgentType → List ℤ → Progress → Progress
 with_birth number type values s =
     record s { born = s.born ++ record { agent = number; row = fitted (width type.memory) values } ∷ [] }
 
--- what a call statement on this line does with the values of its arguments: it sets a memory variable to the first, sends
--- a message, bears an agent, or calls a helper, whose value counts for nothing; a word that is none of these does nothing
--- more
--- [FLAME User Manual; C, 6.8.3; nothing: own]
+-- what a call statement on this line does with the values of its arguments: it sets a memory variable to the first,
+-- sends a message, bears an agent, or calls a helper, whose value counts for nothing; a word that is none of these does
+-- nothing more [FLAME User Manual; C, 6.8.3; nothing: own]
 abbrev pub done : Option Deed → ℕ → List ℤ → Scene → Progress → End
 done None line values scene s = went_on s
 done (Some (sets column variable)) line values scene s = went_on (set_column column (number_at values 0) s)

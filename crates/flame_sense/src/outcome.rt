@@ -77,7 +77,8 @@ fn run<'a, 'b>(
 ) -> Result<Ending, NoMemory>
     ensures { IfOk result (λ ending.
         meanings (body_of source.now.units place.entry.function.now)
-        (scene_of source.now (place_seen place.entry) (map (λ rows. rows_seen rows.items) readings.now) constants.now iteration)
+        (scene_of source.now (place_seen place.entry) (map (λ rows. rows_seen rows.items) readings.now) constants.now
+        iteration)
         (progress_seen s.old)
         ≡ end_of ending (progress_seen s.new)) }
 {
@@ -98,12 +99,13 @@ fn run<'a, 'b>(
 
 /// The outcome of a function's run for an agent: exactly what its body in the source means.
 ///
-/// `function` is the function's number in document order, `memory` the agent's memory, `boards` a board for each message
-/// type in document order, `constants` a value for each constant, and `fuel` the units that it begins with. The body is
-/// that of the first C function of its name in the files in their order; `idle` has the empty body. A message loop goes
-/// over the view of its input's board under the input's filter and sort with this memory, as it was at entry. What no
-/// accepted source has, as an unknown name or a function of no number, has a plain default, so that the answer is exact
-/// for each source. `NoMemory` is want of memory.
+/// `function` is the function's number in document order, `memory` the agent's memory, `boards` a board for each
+/// message type in document order, `constants` a value for each constant, and `fuel` the units that it begins with. The
+/// body is that of the first C function of its name in the files in their order; `idle` has the empty body. A message
+/// loop goes over the view of its input's board under the input's filter and sort with this memory, as it was at entry.
+/// A turn of a loop and a call of a helper take a unit of fuel each. What no accepted source has, as an unknown name or
+/// a function of no number, has a plain default, so that the answer is exact for each source. `NoMemory` is want of
+/// memory.
 ///
 /// Its stack grows with the nesting of the text and of helpers, of which at most 64 are open inside one another. A turn
 /// of a loop looks each name up in lists.

@@ -220,7 +220,8 @@ impl<'a, 'b> Scene<'a, 'b> {
     /// The value of what the model gives to a word; of nothing 0.
     fn value_given(&self, word: &str, s: &Progress<'_>) -> i32
         ensures { result
-            ≡ value_given (given_at (context_seen self.now) word.now) (scene_seen self.now Open.Nothing) (progress_seen s.now) }
+            ≡ value_given (given_at (context_seen self.now) word.now) (scene_seen self.now Open.Nothing)
+            (progress_seen s.now) }
     {
         match span_where(Form::Capitals, word, self.memory()) {
             Some(span) => number_of(Some(span), s.memory.as_slice()),

@@ -1,4 +1,4 @@
-use Rattle.std.proofs.Common.{◌∙◌, ap, sym, option_map, ℕ, Some}
+use Rattle.std.proofs.Common.{◌∙◌, ap, sym, option_map, ℕ}
 use Rattle.std.specs.Str.{bytes_eq}
 use Rattle.flame_spec.specs.declared.models.MessageType.{MessageType}
 use Rattle.flame_spec.specs.Lists.{numbered_where}
