@@ -56,8 +56,8 @@ element_value line (Some column) row = Ok (number_at row column)
 -- ---- expressions
 
 abbrev mutual
-  -- the value of an expression; parts are evaluated from left to right, an index before its element [C, 6.5; order:
-  -- own]
+  -- the value of an expression; parts are evaluated from left to right, an index before its element
+  -- [C, 6.5; order: own]
   pub value_of : Expression → Scene → Progress → Result ℤ Fault
   value_of (number n) scene s = Ok n
   value_of (name line word) scene s = Ok (named word scene s)

@@ -37,8 +37,8 @@ turns (suc n) line test body step s =
     if holds v then turn line body (λ t. on_to (step t) (turns n line test body step)) s
     else went_on s)
 
--- a loop that begins with its test: a `while`, a `for` behind its first statement, a `do` behind its first turn [C,
--- 6.8.5]
+-- a loop that begins with its test: a `while`, a `for` behind its first statement, a `do` behind its first turn
+-- [C, 6.8.5]
 abbrev pub loop : ℕ → (Progress → Result ℤ Fault) → (Progress → End) → (Progress → End) → Progress → End
 loop line test body step s = turns s.fuel line test body step s
 

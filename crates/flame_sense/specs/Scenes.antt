@@ -34,8 +34,8 @@ Calls = ℕ → Definition → List ℤ → ℕ → Gave
 
 -- what a body has before it and does not change: the model, its helpers, and the function of the model whose body it
 -- is, where it is not that of a helper; the constants; the number of the iteration; the rows that a loop over each
--- input gives, in order; where the open loops over messages stand, from the inside; and how calls of helpers end [FLAME
--- User Manual; helpers: C, 6.9.1]
+-- input gives, in order; where the open loops over messages stand, from the inside; and how calls of helpers end
+-- [FLAME User Manual; helpers: C, 6.9.1]
 pub record Scene : Type 0 where
   pub context : Context
   pub constants : List ℤ
