@@ -1,7 +1,9 @@
 //! The calls that cases are of.
 
 use crate::case::Case;
-use crate::{deciding, lexing, modeling, naming, ordering, parsing, planning, running, viewing};
+use crate::{
+    deciding, lexing, modeling, naming, ordering, outcomes, parsing, planning, running, viewing,
+};
 use std::alloc::{AllocError, Global};
 use std::sync::Wait;
 use std::thread::Threads;
@@ -21,6 +23,8 @@ pub(crate) enum Kind {
     Model,
     /// `flame_names::names`
     Names,
+    /// `flame_sense::evaluate`
+    Outcome,
     /// `flame_depend::edges` and `flame_depend::plan`
     Plan,
     /// The conditions, filters and keys of `flame_cond`
@@ -42,6 +46,7 @@ pub(crate) fn kind_of(file: &str) -> Option<Kind> {
         "shape" => Some(Kind::Shape),
         "model" => Some(Kind::Model),
         "names" => Some(Kind::Names),
+        "outcome" => Some(Kind::Outcome),
         "plan" => Some(Kind::Plan),
         "condition" => Some(Kind::Condition),
         "view" => Some(Kind::View),
@@ -65,6 +70,7 @@ pub(crate) fn answer(
         Kind::Shape => modeling::answer_shape(alloc, case),
         Kind::Model => modeling::answer(alloc, case),
         Kind::Names => naming::answer(alloc, case),
+        Kind::Outcome => outcomes::answer(alloc, case),
         Kind::Plan => planning::answer(alloc, case),
         Kind::Condition => deciding::answer(alloc, case),
         Kind::View => viewing::answer(alloc, case),

@@ -11,6 +11,7 @@ mod lexing;
 mod modeling;
 mod naming;
 mod ordering;
+mod outcomes;
 mod parsing;
 mod planning;
 mod readable;
