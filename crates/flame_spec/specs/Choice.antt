@@ -8,19 +8,26 @@ use Rattle.flame_spec.specs.declared.models.TimeUnit.{TimeUnit}
 use Rattle.flame_spec.specs.declared.models.AgentType.{AgentType}
 use Rattle.flame_spec.specs.Conditions.{condition_holds}
 use Rattle.flame_spec.specs.Functions.{Place, functions}
+use Rattle.flame_spec.specs.Lists.{numbers_where}
 
 -- whether a condition lets an agent with this memory through; without a condition it does [FLAME User Manual]
 abbrev pub permits : AgentType → List TimeUnit → Option Condition → List ℤ → ℤ → Bool
 permits agent units None memory iteration = true
 permits agent units (Some condition) memory iteration = condition_holds agent units condition memory iteration
 
+-- the function is one of this type, and leaves the state [FLAME User Manual]
+abbrev pub leaves : ℕ → List ℕ → Place → Bool
+leaves agent state place = (place.agent == agent) && bytes_eq place.function.current state
+
+-- the numbers of the functions of this type that leave the state, in document order [FLAME User Manual]
+abbrev pub functions_out : Model → ℕ → List ℕ → List ℕ
+functions_out model agent state = numbers_where (leaves agent state) (functions model)
+
 -- whether an agent of this type that rests in the state may take the function: it leaves that state, and its condition
 -- holds [FLAME User Manual]
 abbrev pub may_take : List TimeUnit → ℕ → List ℕ → List ℤ → ℤ → Place → Bool
 may_take units agent state memory iteration place =
-    (place.agent == agent)
-    && (bytes_eq place.function.current state
-    && permits place.type units place.function.condition memory iteration)
+    leaves agent state place && permits place.type units place.function.condition memory iteration
 
 -- the number of the function that an agent takes which rests in the state: the first in document order that it may
 -- take; none where it may take none [FLAME User Manual; the first in document order: own]

@@ -24,13 +24,13 @@ unit_names units = codes "iteration" ∷ map (λ unit. unit.name) units
 abbrev pub message_names : List MessageType → List (List ℕ)
 message_names messages = map (λ message. message.name) messages
 
--- the names of the variables of the message of this name; none where there is no such message [XMML]
-abbrev pub names_in : List MessageType → List ℕ → List (List ℕ)
-names_in [] name = []
-names_in (message ∷ messages) name =
-    if bytes_eq name message.name then variable_names message.variables else names_in messages name
+-- the variables of the message of this name; none where there is no such message [XMML]
+abbrev pub variables_in : List MessageType → List ℕ → List Variable
+variables_in [] name = []
+variables_in (message ∷ messages) name =
+    if bytes_eq name message.name then message.variables else variables_in messages name
 
--- the names that the agent types of a model find declared [own]
+-- what the agent types of a model find declared [own]
 pub record DeclaredNames : Type 0 where
   -- the constants, in capitals
   pub constants : List (List ℕ)
@@ -39,13 +39,13 @@ pub record DeclaredNames : Type 0 where
   -- the messages
   pub messages : List (List ℕ)
   -- the variables of the message of a name
-  pub variables : List ℕ → List (List ℕ)
+  pub variables : List ℕ → List Variable
 
--- the names that a model declares for its agent types [own]
+-- what a model declares for its agent types [own]
 abbrev pub declared_by : Model → DeclaredNames
 declared_by model = record {
   constants = map capitals model.constants;
   units = unit_names model.units;
   messages = message_names model.messages;
-  variables = names_in model.messages;
+  variables = variables_in model.messages;
 }

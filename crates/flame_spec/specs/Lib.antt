@@ -15,6 +15,7 @@ pub mod KnownNames
 pub mod LookUps
 pub mod WellFormed
 pub mod Counted
+pub mod WideModels
 pub mod Paths
 pub mod Refusals
 pub mod UnitFaults

@@ -23,3 +23,13 @@ numbered_from passes i (x ∷ xs) = if passes x then Some (i, x) else numbered_f
 -- the first that passes, with its number, from 0 [own]
 abbrev pub numbered_where : {X : Type 0} → (X → Bool) → List X → Option (ℕ × X)
 numbered_where passes xs = numbered_from passes 0 xs
+
+-- the numbers of all that pass, where they are numbered from i [own]
+abbrev pub numbers_from : {X : Type 0} → (X → Bool) → ℕ → List X → List ℕ
+numbers_from passes i [] = []
+numbers_from passes i (x ∷ xs) =
+    if passes x then i ∷ numbers_from passes (i + 1) xs else numbers_from passes (i + 1) xs
+
+-- the numbers of all that pass, from 0 [own]
+abbrev pub numbers_where : {X : Type 0} → (X → Bool) → List X → List ℕ
+numbers_where passes xs = numbers_from passes 0 xs

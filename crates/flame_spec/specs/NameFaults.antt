@@ -13,7 +13,7 @@ use Rattle.flame_spec.specs.Capitals.{clashes}
 use Rattle.flame_spec.specs.Paths.{root, at_key, at_number}
 use Rattle.flame_spec.specs.Refusals.{fault_where}
 use Rattle.flame_spec.specs.UnitFaults.{units_faults}
-use Rattle.flame_spec.specs.MessageFaults.{constant_faults, messages_faults}
+use Rattle.flame_spec.specs.MessageFaults.{constant_faults, width_faults, messages_faults}
 use Rattle.flame_spec.specs.FunctionFaults.{functions_faults}
 
 -- the name of a memory variable: no earlier variable of the type has it, none of them has another name that is equal in
@@ -23,17 +23,16 @@ memory_name_faults constants earlier path name =
     fault_where (is_among name earlier) Duplicate path name
     ++ fault_where (clashes name earlier || is_among (capitals name) constants) Clash path name
 
+-- the faults of a memory variable at this path behind the earlier ones: of its name, and of its width [own]
+abbrev pub memory_variable_faults : List (List ℕ) → List Variable → List ℕ → Variable → List NameFault
+memory_variable_faults constants earlier path variable =
+    memory_name_faults constants (variable_names earlier) (at_key path (codes "name")) variable.name
+    ++ width_faults earlier path variable
+
 -- the faults of the memory variables of the list at this path; `constants` are in capitals [own]
 abbrev pub memory_faults : List (List ℕ) → List ℕ → List Variable → List NameFault
 memory_faults constants path variables =
-    each
-    (λ i variable.
-    memory_name_faults
-    constants
-    (variable_names (take i variables))
-    (at_key (at_number path i) (codes "name"))
-    variable.name)
-    variables
+    each (λ i variable. memory_variable_faults constants (take i variables) (at_number path i) variable) variables
 
 -- the names of agent types [own]
 abbrev pub type_names : List AgentType → List (List ℕ)
@@ -54,7 +53,7 @@ abbrev pub agent_faults : DeclaredNames → List (List ℕ) → (List ℕ → Bo
 agent_faults declared earlier is_taken path type =
     fault_where (is_among type.name earlier) Duplicate (at_key path (codes "name")) type.name
     ++ (memory_faults declared.constants (at_key path (codes "memory")) type.memory
-    ++ functions_faults declared (variable_names type.memory) is_taken (at_key path (codes "functions")) type.functions)
+    ++ functions_faults declared type.memory is_taken (at_key path (codes "functions")) type.functions)
 
 -- the faults of the agent types of the list at this path [own]
 abbrev pub agents_faults : DeclaredNames → List ℕ → List AgentType → List NameFault

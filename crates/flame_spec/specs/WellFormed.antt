@@ -1,7 +1,7 @@
 -- Well formed models, and parts of models by themselves: each text and number is one that a model file may have there.
-use Rattle.std.specs.Prelude.{ℤ, pos, negsuc, int_le, Bool, true, false, ◌&&◌}
+use Rattle.std.specs.Prelude.{ℕ, nat_le, ℤ, pos, negsuc, int_le, Bool, true, false, ◌&&◌}
 use Rattle.std.specs.List.{list_all}
-use Rattle.std.specs.Option.{option_map_or, is_none}
+use Rattle.std.specs.Option.{option_map_or}
 use Rattle.flame_ops.specs.declared.integers.Op.{Op}
 use Rattle.flame_ops.specs.declared.integers.Op.TheVariants.{Eq, Ne, Lt, Gt, Le, Ge}
 use Rattle.flame_spec.specs.declared.conditions.Operand.{Operand}
@@ -70,9 +70,13 @@ is_well_formed_filter = fold-Condition Bool (well_formed_step false)
 abbrev pub is_well_formed_unit : TimeUnit → Bool
 is_well_formed_unit unit = is_name unit.name && (is_name unit.unit && is_positive_int unit.period)
 
--- a variable: it is no array [XMML]
+-- the length of an array: 1 to 1000 [own]
+abbrev pub is_array_length : ℕ → Bool
+is_array_length length = nat_le 1 length && nat_le length 1000
+
+-- a variable: a single one, or an array [XMML]
 abbrev pub is_well_formed_variable : Variable → Bool
-is_well_formed_variable variable = is_name variable.name && is_none variable.length
+is_well_formed_variable variable = is_name variable.name && option_map_or is_array_length variable.length true
 
 -- a message type [XMML]
 abbrev pub is_well_formed_message : MessageType → Bool

@@ -1,7 +1,7 @@
 //! Faults of transition functions, of names in models, and of the bodies in function files.
 
 ghost use Rattle.std.specs.Prelude.{◌≡◌};
-ghost use Rattle.flame_spec.specs.KindNames.{name_of_kind};
+ghost use Rattle.flame_spec.specs.KindNames.{name_of_kind, name_of_check_kind};
 
 use flame_ops::Cause;
 use flame_rows::Text;
@@ -131,4 +131,33 @@ pub enum CheckKind {
     Recursive,
     /// The helper's calls of helpers are more than 64 levels deep, its own counted.
     DeepCalls,
+}
+
+impl CheckKind {
+    /// The kind's name, as it is printed.
+    pub fn name(&self) -> &'static str
+        ensures { result.now ≡ name_of_check_kind self.now }
+    {
+        match self {
+            CheckKind::MissingFunction => "MissingFunction",
+            CheckKind::DefinedTwice => "DefinedTwice",
+            CheckKind::UnknownName => "UnknownName",
+            CheckKind::Redeclared => "Redeclared",
+            CheckKind::UnknownCall => "UnknownCall",
+            CheckKind::WrongCount => "WrongCount",
+            CheckKind::NotOutput => "NotOutput",
+            CheckKind::NotInput => "NotInput",
+            CheckKind::OutsideLoop => "OutsideLoop",
+            CheckKind::NestedSame => "NestedSame",
+            CheckKind::LoopMismatch => "LoopMismatch",
+            CheckKind::StrayBreak => "StrayBreak",
+            CheckKind::ReadOnly => "ReadOnly",
+            CheckKind::NotArray => "NotArray",
+            CheckKind::NeedsIndex => "NeedsIndex",
+            CheckKind::WrongLength => "WrongLength",
+            CheckKind::HasParameters => "HasParameters",
+            CheckKind::Recursive => "Recursive",
+            CheckKind::DeepCalls => "DeepCalls",
+        }
+    }
 }

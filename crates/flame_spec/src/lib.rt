@@ -9,6 +9,7 @@ mod outcomes;
 mod same_data;
 mod same_trees;
 mod trees;
+mod wide;
 
 pub use conditions::{Condition, Operand};
 pub use faults::{CheckFault, CheckKind, Fault, NameFault, NameKind};
@@ -18,3 +19,4 @@ pub use trees::{
     Arm, Assign, Def, Expr, Head, Item, Link, Parameter, Sign, SignKind, Stmt, Subscript, Unit,
     Value,
 };
+pub use wide::{DataType, Wide, WideAgent, WideMessage, WideVariable};

@@ -1,8 +1,9 @@
-//! Whether two models, conditions or sources are one and the same.
+//! Whether two models, model files, conditions or sources are one and the same.
 
 use crate::conditions::{Condition, Operand};
 use crate::models::{AgentType, Function, Input, MessageType, Model, Sort, TimeUnit, Variable};
 use crate::outcomes::Source;
+use crate::wide::{DataType, Wide, WideAgent, WideMessage, WideVariable};
 use flame_rows::Same;
 
 impl Same for Operand {
@@ -92,6 +93,46 @@ impl Same for Model {
             && self.units.same(&other.units)
             && self.messages.same(&other.messages)
             && self.agents.same(&other.agents)
+    }
+}
+
+impl Same for WideVariable {
+    fn same(&self, other: &WideVariable) -> bool {
+        self.name.same(&other.name)
+            && self.kind.same(&other.kind)
+            && self.length.same(&other.length)
+    }
+}
+
+impl Same for DataType {
+    fn same(&self, other: &DataType) -> bool {
+        self.name.same(&other.name) && self.variables.same(&other.variables)
+    }
+}
+
+impl Same for WideMessage {
+    fn same(&self, other: &WideMessage) -> bool {
+        self.name.same(&other.name) && self.variables.same(&other.variables)
+    }
+}
+
+impl Same for WideAgent {
+    fn same(&self, other: &WideAgent) -> bool {
+        self.name.same(&other.name)
+            && self.memory.same(&other.memory)
+            && self.functions.same(&other.functions)
+    }
+}
+
+impl Same for Wide {
+    fn same(&self, other: &Wide) -> bool {
+        self.constants.same(&other.constants)
+            && self.files.same(&other.files)
+            && self.units.same(&other.units)
+            && self.types.same(&other.types)
+            && self.messages.same(&other.messages)
+            && self.agents.same(&other.agents)
+            && self.nested.same(&other.nested)
     }
 }
 

@@ -4,11 +4,11 @@ use Rattle.std.proofs.lemmas.List.{drop_more, length-map, length-append}
 use Rattle.flame_spec.specs.declared.models.AgentType.{AgentType}
 use Rattle.flame_spec.specs.declared.models.Function.{Function}
 use Rattle.flame_spec.specs.Functions.{at_type, functions_from}
-use Rattle.flame_spec.proofs.counted.has_few_functions.Goals as goal
+use Rattle.flame_spec.proofs.models.Model.has_few_functions.Goals as goal
 
 pub loop-agent-preserved : goal.loop-agent-preserved
 loop-agent-preserved c =
-    let agents = c.args.model.now.agents in
+    let agents = c.args.self.now.agents in
     let i = c.loop-agent._agent in
     let kind = c.kind-item.result in
     let all = c.items-kind-items.ensures in
