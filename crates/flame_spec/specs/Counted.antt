@@ -2,18 +2,24 @@
 use Rattle.std.specs.Prelude.{◌^◌, nat_lt, List, length, Bool, ◌&&◌}
 use Rattle.std.specs.List.{list_all}
 use Rattle.flame_spec.specs.declared.models.Model.{Model}
+use Rattle.flame_spec.specs.declared.models.Variable.{Variable}
 use Rattle.flame_spec.specs.declared.models.MessageType.{MessageType}
 use Rattle.flame_spec.specs.declared.models.AgentType.{AgentType}
 use Rattle.flame_spec.specs.declared.models.Function.{Function}
+use Rattle.flame_spec.specs.Columns.{width}
 use Rattle.flame_spec.specs.Functions.{functions}
 
 -- fewer than 2^32 members [own]
 abbrev pub is_numbered : {X : Type 0} → List X → Bool
 is_numbered members = nat_lt (length members) (2 ^ 32)
 
+-- the variables of a row: there are fewer than 2^32 of them, and of their columns [own]
+abbrev pub is_counted_row : List Variable → Bool
+is_counted_row variables = is_numbered variables && nat_lt (width variables) (2 ^ 32)
+
 -- a message type: its variables [own]
 abbrev pub is_counted_message : MessageType → Bool
-is_counted_message message = is_numbered message.variables
+is_counted_message message = is_counted_row message.variables
 
 -- a function: its inputs and its outputs [own]
 abbrev pub is_counted_function : Function → Bool
@@ -22,7 +28,7 @@ is_counted_function function = is_numbered function.inputs && is_numbered functi
 -- an agent type: its variables, its functions, and each of these [own]
 abbrev pub is_counted_agent : AgentType → Bool
 is_counted_agent agent =
-    is_numbered agent.memory
+    is_counted_row agent.memory
     && (is_numbered agent.functions
     && list_all is_counted_function agent.functions)
 

@@ -34,8 +34,8 @@ use_faults declared earlier path message =
     fault_where (not (is_among message declared.messages)) UnknownMessage (at_key path (codes "messageName")) message
     ++ fault_where (is_among message earlier) Duplicate (at_key path (codes "messageName")) message
 
--- how a message is read, by an input at this path whose filter has this scope: in no random order, and the names in the
--- filter and the key of the sort are known [own]
+-- how a message is read, by an input at this path whose filter has this scope: in no random order, and the variables in
+-- the filter and the key of the sort are known, and single [own]
 abbrev pub reading_faults : LeafScope → List ℕ → Input → List NameFault
 reading_faults scope path input =
     fault_where input.random RandomOrder (at_key path (codes "random")) input.message

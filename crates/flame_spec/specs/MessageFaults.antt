@@ -1,4 +1,4 @@
--- Faults of the names of constants, messages and their variables.
+-- Faults of the names of constants, messages and their variables, and of the widths of rows.
 use Rattle.std.specs.Prelude.{ℕ, ◌+◌, nat_lt, List, ◌++◌, take, codes, Bool, ◌&&◌}
 use Rattle.flame_spec.specs.declared.faults.NameFault.{NameFault}
 use Rattle.flame_spec.specs.declared.faults.NameKind.TheVariants.{Duplicate, Clash, TooWide}
@@ -21,7 +21,8 @@ abbrev pub constant_faults : List ℕ → List (List ℕ) → List NameFault
 constant_faults path constants =
     each (λ i name. apart_faults (take i constants) (at_key (at_number path i) (codes "name")) name) constants
 
--- an array with which a row is wider than 4,096 numbers, behind these variables [own]
+-- an array with which a row is wider than 4,096 numbers, behind these variables; single variables count into the width,
+-- but are not tested [own]
 abbrev pub is_too_wide : List Variable → Variable → Bool
 is_too_wide earlier variable = is_array variable && nat_lt 4096 (width earlier + width_of variable)
 

@@ -17,7 +17,7 @@ is_name text =
     && begins_word (slice_index text 0)
     && list_all is_word_byte text
 
--- a word that C or the message macros have for themselves [C, 6.4.1; FLAME User Manual]
+-- a keyword, or a word that begins as the message macros do [C, 6.4.1; FLAME User Manual]
 abbrev pub is_reserved : List ℕ → Bool
 is_reserved word =
     list_any (bytes_eq word) keyword_spellings

@@ -1,4 +1,4 @@
--- Paths in a model file: the keys and list numbers from the root, each after a `/`.
+-- Paths in the JSON of a model: the keys and list numbers from the root, each after a `/`.
 use Rattle.std.specs.Prelude.{ℕ, List, [], ◌++◌, codes, decimal}
 
 -- the path of the root [own]

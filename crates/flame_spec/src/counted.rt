@@ -2,13 +2,14 @@
 
 ghost use Rattle.std.specs.Prelude.{◌≡◌};
 ghost use Rattle.std.specs.List.{list_all};
-ghost use Rattle.flame_spec.specs.Counted.{is_numbered, is_counted_message, is_counted_function};
+ghost use Rattle.flame_spec.specs.Columns.{width_of, width};
+ghost use Rattle.flame_spec.specs.Counted.{is_numbered, is_counted_row, is_counted_message, is_counted_function};
 ghost use Rattle.flame_spec.specs.Counted.{is_counted_agent, is_counted};
 ghost use Rattle.flame_spec.specs.Functions.{functions};
 ghost use Rattle.flame_spec.specs.WideModels.{is_counted_type, is_counted_wide_message, is_counted_wide_agent};
 ghost use Rattle.flame_spec.specs.WideModels.{is_counted_wide};
 
-use crate::models::{AgentType, Function, MessageType, Model};
+use crate::models::{AgentType, Function, MessageType, Model, Variable};
 use crate::wide::{DataType, Wide, WideAgent, WideMessage};
 use flame_rows::Seq;
 
@@ -19,10 +20,36 @@ fn is_numbered<T>(members: &Seq<T>) -> bool
     members.len() < 4294967296
 }
 
+fn width_of(variable: &Variable) -> u32
+    ensures { result ≡ width_of variable.now }
+{
+    match variable.length {
+        None => 1,
+        Some(length) => length,
+    }
+}
+
+fn width(variables: &[Variable]) -> u128
+    ensures { result ≡ width variables.now }
+{
+    let mut total: u128 = 0;
+    for (_i, variable) in variables.iter().enumerate() {
+        total += u128::from(width_of(variable));
+    }
+    total
+}
+
+/// Whether there are fewer than 2^32 variables, and fewer than 2^32 columns.
+fn is_counted_row(variables: &Seq<Variable>) -> bool
+    ensures { result ≡ is_counted_row variables.now }
+{
+    is_numbered(variables) && width(variables.items()) < 4294967296
+}
+
 fn is_counted_message(message: &MessageType) -> bool
     ensures { result ≡ is_counted_message message.now }
 {
-    is_numbered(&message.variables)
+    is_counted_row(&message.variables)
 }
 
 fn is_counted_function(function: &Function) -> bool
@@ -42,7 +69,7 @@ fn are_counted_functions(functions: &[Function]) -> bool
 fn is_counted_agent(agent: &AgentType) -> bool
     ensures { result ≡ is_counted_agent agent.now }
 {
-    is_numbered(&agent.memory)
+    is_counted_row(&agent.memory)
         && is_numbered(&agent.functions)
         && are_counted_functions(agent.functions.items())
 }
@@ -72,8 +99,8 @@ impl Model {
     }
 
     /// Whether each list whose members are numbered with 32 bits has fewer than 2^32 members: the constants, the
-    /// function files, the time units, the messages with their variables, the agent types with their variables and
-    /// functions, the functions of all types together, and the inputs and outputs of each.
+    /// function files, the time units, the messages with their variables and columns, the agent types with their
+    /// variables, columns and functions, the functions of all types together, and the inputs and outputs of each.
     pub fn is_counted(&self) -> bool
         ensures { result ≡ is_counted self.now }
     {

@@ -20,10 +20,11 @@ pub struct Fault {
 pub struct NameFault {
     /// What is wrong.
     pub kind: NameKind,
-    /// Where the fault stands in the model file: the keys and list numbers from the root, each after a `/`.
+    /// Where the fault stands in the model file: the keys and list numbers from the root, each after a `/`. Of a model
+    /// that was joined from several files, or that had data types, the numbers are those of the model's own lists.
     pub path: Text,
     /// The name as it stands there, with `a.` or `m.` in a condition; of `RandomOrder` the message's, of `LongUnit` the
-    /// unit's.
+    /// unit's, of `TooWide` the variable's.
     pub name: Text,
 }
 

@@ -3,8 +3,9 @@
 use crate::models::{Function, TimeUnit};
 use flame_rows::{Seq, Text};
 
-/// What one model file says. It means the model that is got by joining it with the files that it names, and by putting
-/// the variables of data types in the places of their fields.
+/// What one model file says. It means the model that is got by joining it with the files that it names, where a message,
+/// a data type or a function file of a name that an earlier file gave is passed over, and by putting the fields of a data
+/// type in the place of each variable of it.
 #[derive(Debug, Drop)]
 pub struct Wide {
     /// The names of the constants.
@@ -59,6 +60,6 @@ pub struct WideAgent {
     pub name: Text,
     /// The variables of its agents' memory.
     pub memory: Seq<WideVariable>,
-    /// Its transition functions.
+    /// Its transition functions. In conditions, filters and sorts they name the variables that are got so.
     pub functions: Seq<Function>,
 }
