@@ -44,7 +44,7 @@ fn print_fault(out: &mut String, fault: &DependFault) -> Result<(), AllocError> 
 
 /// The edges and the plan of a model.
 fn print_plan(alloc: Global, out: &mut String, model: &Model) -> Result<(), AllocError> {
-    if !model.is_counted() {
+    if !model.has_few_functions() || model.agents.len() >= 4294967296 {
         return writeln!(out, "too large");
     }
     if let Ok(edges) = edges(alloc, model) {

@@ -1,7 +1,8 @@
 //! Which functions of a model stand before which.
 
 ghost use Rattle.std.specs.Prelude.{◌≡◌, ◌^◌, ◌<◌, ◌++◌, IsTrue, IfOk, OnOk, length};
-ghost use Rattle.flame_spec.specs.Counted.{is_counted};
+ghost use Rattle.flame_spec.specs.Counted.{is_numbered};
+ghost use Rattle.flame_spec.specs.Functions.{functions};
 ghost use Rattle.flame_depend.specs.Edges.{edges_to, edges_below, edges_of};
 ghost use Rattle.flame_depend.specs.Graph.{AreAscending, follows};
 
@@ -50,14 +51,14 @@ fn flatten(alloc: Global, lists: &[Targets]) -> Result<Vec<Edge>, NoMemory>
 
 /// Every pair of functions of which the first stands before the second, once, in document order of the first and then
 /// of the second. A function stands before another where both are of one type and the other leaves the state that it
-/// enters, or where the other reads a message that it adds; it may stand before itself. The model
-/// is one that `Model::is_counted` passes. It takes time and memory for as many edges as there are.
+/// enters, or where the other reads a message that it adds; it may stand before itself. The model is one that
+/// `Model::has_few_functions` passes. It takes time and memory for as many edges as there are.
 ///
 /// # Errors
 ///
 /// `NoMemory` where memory was not found.
 pub fn edges(alloc: Global, model: &Model) -> Result<Seq<Edge>, NoMemory>
-    requires { IsTrue (is_counted model.now) }
+    requires { IsTrue (is_numbered (functions model.now)) }
     ensures { IfOk result (λ edges. edges ≡ edges_of model.now) }
 {
     let places = place_all(alloc, model)?;

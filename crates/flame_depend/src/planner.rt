@@ -2,7 +2,8 @@
 
 ghost use Rattle.std.specs.Prelude.{◌≡◌, ◌^◌, ◌<◌, None, IsTrue, IfOk, IfErr, length};
 ghost use Rattle.flame_spec.specs.Before.{before, function_count};
-ghost use Rattle.flame_spec.specs.Counted.{is_counted};
+ghost use Rattle.flame_spec.specs.Counted.{is_numbered};
+ghost use Rattle.flame_spec.specs.Functions.{functions};
 ghost use Rattle.flame_spec.specs.ModelOrder.{model_order, left_over};
 ghost use Rattle.flame_depend.specs.Links.{AreSuccessors};
 ghost use Rattle.flame_depend.specs.Plans.{IsPlan, FailsBy};
@@ -49,8 +50,8 @@ fn plan_ordered(
 /// The order of the model's functions, their layers, and the start state of each agent type.
 ///
 /// Again and again the first function in document order runs that has not run and before which all that stand before
-/// it have run. The model is one that `Model::is_counted` passes. With f functions and e edges it takes time for
-/// about f log f + e steps.
+/// it have run. The model is one that `Model::has_few_functions` passes, and it has fewer than 2^32 agent types. With f
+/// functions and e edges it takes time for about f log f + e steps.
 ///
 /// # Errors
 ///
@@ -59,7 +60,8 @@ fn plan_ordered(
 /// none is left over and a type has two start states or more: states that no function of the type enters. It has the
 /// first such type. `NoMemory` is want of memory.
 pub fn plan(alloc: Global, model: &Model) -> Result<Plan, Fail<DependFault>>
-    requires { IsTrue (is_counted model.now) }
+    requires functions { IsTrue (is_numbered (functions model.now)) }
+    requires agents { length model.now.agents < 2 ^ 32 }
     ensures plan { IfOk result (IsPlan model.now) }
     ensures fault { IfErr result (FailsBy model.now) }
 {

@@ -57,7 +57,7 @@ fn model(alloc: Global) -> Result<Model, NoMemory> {
 
 /// How many edges the model has, and its plan.
 fn planned(alloc: Global, model: &Model) -> Result<Option<(usize, Plan)>, NoMemory> {
-    if !model.is_counted() {
+    if !model.has_few_functions() || model.agents.len() >= 4294967296 {
         return Ok(None);
     }
     let edges = edges(alloc, model)?;

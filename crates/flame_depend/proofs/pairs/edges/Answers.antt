@@ -4,7 +4,7 @@ use Rattle.std.proofs.lemmas.List.{length-map}
 use Rattle.flame_spec.specs.declared.models.AgentType.{AgentType}
 use Rattle.flame_spec.specs.Functions.{Place, functions}
 use Rattle.flame_spec.specs.Before.{function_count}
-use Rattle.flame_spec.proofs.Counts.{few_functions}
+use Rattle.flame_spec.proofs.Counts.{few}
 use Rattle.flame_depend.specs.PlacedFunctions.{shown}
 use Rattle.flame_depend.specs.Graph.{follows, AreAscending}
 use Rattle.flame_depend.specs.Edges.{edges_below}
@@ -16,7 +16,7 @@ successors-requires c =
     let ps = map shown c.deref.result.now in
     let same : ps ≡ functions c.args.model.now = ap (map shown) c.deref.ensures.value ∙ c.in_ok-places.ensures in
     record {
-      few = omega (arith, length-map c.deref.result.now shown, ap (length {A = Place}) same, few_functions c.args.model.now c.requires);
+      few = omega (arith, length-map c.deref.result.now shown, ap (length {A = Place}) same, few (functions c.args.model.now) c.requires);
       within = of_types c.args.model.now ps (length c.items.result.now) same (ap (length {A = AgentType}) c.items.ensures);
     }
 
@@ -27,7 +27,7 @@ flatten-requires c =
     let lists = model_successors c.args.model.now ps (length c.deref.result.now) c.in_ok-lists.lists.items same (sym (length-map c.deref.result.now shown)) c.in_ok-lists.ensures in
     let P : List (List ℕ) → Type 0 = AreAscending in
     record {
-      few = omega (arith, c.deref-2.ensures.len, lists.len, few_functions c.args.model.now c.requires);
+      few = omega (arith, c.deref-2.ensures.len, lists.len, few (functions c.args.model.now) c.requires);
       ascending = subst P (sym c.deref-2.ensures.value) (ascending_model c.args.model.now c.in_ok-lists.lists.items lists);
     }
 
