@@ -2,6 +2,7 @@
 use Rattle.std.proofs.Common.{◌≡◌, ℕ, List, [], ◌++◌, map, ap, ◌∙◌, Bool}
 use Rattle.flame_spec.specs.declared.faults.NameFault.{NameFault}
 use Rattle.flame_spec.specs.declared.models.Function.{Function}
+use Rattle.flame_spec.specs.declared.models.Variable.{Variable}
 use Rattle.flame_spec.specs.KnownNames.{DeclaredNames}
 use Rattle.flame_spec.specs.FunctionFaults.{function_faults}
 use Rattle.flame_names.specs.NameLooks.{transition_of, is_same_transition}
@@ -9,7 +10,7 @@ use Rattle.flame_names.specs.FunctionTitles.{function_at}
 use Rattle.flame_names.proofs.Among.{list_any-map}
 
 -- behind a table of the earlier functions, a function has the faults that it has behind those
-pub function-is : (declared : DeclaredNames) (memory : List (List ℕ)) (is_taken : List ℕ → Bool) (earlier : List Function)
+pub function-is : (declared : DeclaredNames) (memory : List Variable) (is_taken : List ℕ → Bool) (earlier : List Function)
     (path : List ℕ) (function : Function)
     → function_at declared memory is_taken (map transition_of earlier) path function
     ≡ function_faults declared memory is_taken earlier path function

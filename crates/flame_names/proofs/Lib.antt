@@ -1,6 +1,8 @@
 pub mod Among
 pub mod Firsts
 pub mod Looks
+pub mod Widths
+pub mod Arrays
 pub mod Rests
 pub mod Floors
 pub mod Units

@@ -19,6 +19,11 @@ pub look-map : {X : Type 0} (name : List ℕ) (entries : List (Bor (List ℕ) ×
 look-map name [] = refl
 look-map name (entry ∷ entries) = ap (cond (bytes_eq name entry.0.now) (Some entry.1)) (look-map name entries)
 
+-- what is not there
+pub none-is : {X : Type 0} (o : Option X) → is_some o ≡ false → o ≡ None
+none-is None e = refl
+none-is (Some x) e = absurd (true≢false e)
+
 some_step : {X : Type 0} (b c : Bool) (x : X) (o : Option X)
     → is_some o ≡ c → is_some (cond b (Some x) o) ≡ (b || c)
 some_step true c x o h = refl
@@ -39,11 +44,7 @@ is_some-look name (entry ∷ table) =
 -- a name that is not among those of the entries is not found
 pub look-none : {X : Type 0} (name : List ℕ) (table : List (List ℕ × X))
     → is_among name (names_of table) ≡ false → look name table ≡ None
-look-none name table h = by (look name table) (is_some-look name table ∙ h)
-  where
-    by : {X : Type 0} (o : Option X) → is_some o ≡ false → o ≡ None
-    by None e = refl
-    by (Some x) e = absurd (true≢false e)
+look-none name table h = none-is (look name table) (is_some-look name table ∙ h)
 
 pub names_of-messages : (messages : List MessageType) → names_of (map message_entry messages) ≡ message_names messages
 names_of-messages [] = refl

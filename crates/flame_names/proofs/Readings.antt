@@ -2,19 +2,21 @@
 use Rattle.std.proofs.Common.{◌≡◌, ℕ, List, [], ◌++◌, codes, sym, ap, ◌∙◌, true, false, not, Some}
 use Rattle.flame_spec.specs.declared.faults.NameKind.TheVariants.{Duplicate, UnknownMessage}
 use Rattle.flame_spec.specs.declared.models.Input.{Input}
+use Rattle.flame_spec.specs.declared.models.Variable.{Variable}
 use Rattle.flame_spec.specs.Lists.{first}
 use Rattle.flame_spec.specs.KnownNames.{is_among, DeclaredNames}
 use Rattle.flame_spec.specs.Paths.{at_key}
 use Rattle.flame_spec.specs.Refusals.{name_fault, fault_where}
-use Rattle.flame_spec.specs.Leaves.{LeafNames}
+use Rattle.flame_spec.specs.Leaves.{LeafScope}
 use Rattle.flame_spec.specs.FunctionFaults.{filter_scope, reading_faults, input_faults}
 
 -- what a filter reads of a message with these variables
-abbrev pub read_scope : DeclaredNames → List (List ℕ) → List (List ℕ) → LeafNames
+abbrev pub read_scope : DeclaredNames → List Variable → List Variable → LeafScope
 read_scope declared memory variables = record { memory = memory; message = variables; units = declared.units }
 
-pub input_faults-known : (declared : DeclaredNames) (memory earlier : List (List ℕ)) (path : List ℕ) (input : Input)
-    (variables : List (List ℕ))
+pub input_faults-known : (declared : DeclaredNames) (memory : List Variable) (earlier : List (List ℕ)) (path : List ℕ)
+    (input : Input)
+    (variables : List Variable)
     → is_among input.message declared.messages ≡ true
     → declared.variables input.message ≡ variables
     → input_faults declared memory earlier path input
@@ -33,7 +35,8 @@ input_faults-known declared memory earlier path input variables known own =
     ++ reading_faults (read_scope declared memory names) path input)
     own
 
-pub input_faults-unknown : (declared : DeclaredNames) (memory earlier : List (List ℕ)) (path : List ℕ) (input : Input)
+pub input_faults-unknown : (declared : DeclaredNames) (memory : List Variable) (earlier : List (List ℕ)) (path : List ℕ)
+    (input : Input)
     → is_among input.message declared.messages ≡ false
     → first (input_faults declared memory earlier path input)
     ≡ Some (name_fault UnknownMessage (at_key path (codes "messageName")) input.message)
@@ -47,8 +50,9 @@ input_faults-unknown declared memory earlier path input unknown =
     unknown
 
 -- a known message that is new
-pub rest_is : (declared : DeclaredNames) (memory earlier : List (List ℕ)) (path : List ℕ) (input : Input)
-    (variables : List (List ℕ)) (name : List ℕ)
+pub rest_is : (declared : DeclaredNames) (memory : List Variable) (earlier : List (List ℕ)) (path : List ℕ)
+    (input : Input)
+    (variables : List Variable) (name : List ℕ)
     → name ≡ input.message
     → is_among input.message declared.messages ≡ true
     → declared.variables input.message ≡ variables

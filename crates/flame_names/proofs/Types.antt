@@ -4,7 +4,7 @@ use Rattle.flame_spec.specs.declared.faults.NameKind.TheVariants.{Duplicate}
 use Rattle.flame_spec.specs.declared.models.AgentType.{AgentType}
 use Rattle.flame_spec.specs.declared.models.Function.{Function}
 use Rattle.flame_spec.specs.declared.models.Variable.{Variable}
-use Rattle.flame_spec.specs.KnownNames.{is_among, variable_names, DeclaredNames}
+use Rattle.flame_spec.specs.KnownNames.{is_among, DeclaredNames}
 use Rattle.flame_spec.specs.Paths.{at_key}
 use Rattle.flame_spec.specs.Refusals.{fault_where}
 use Rattle.flame_spec.specs.FunctionFaults.{functions_faults}
@@ -12,10 +12,10 @@ use Rattle.flame_spec.specs.NameFaults.{memory_faults, agent_faults}
 
 -- a type whose name and memory have no faults has those of its functions
 pub functions-are : (declared : DeclaredNames) (types : List (List ℕ)) (is_taken : List ℕ → Bool) (path : List ℕ)
-    (agent : AgentType) (name : List ℕ) (variables : List Variable) (memory : List (List ℕ)) (functions : List Function)
+    (agent : AgentType) (name : List ℕ) (variables memory : List Variable) (functions : List Function)
     → name ≡ agent.name
     → variables ≡ agent.memory
-    → memory ≡ variable_names variables
+    → memory ≡ variables
     → functions ≡ agent.functions
     → fault_where (is_among name types) Duplicate (at_key path (codes "name")) name ≡ []
     → memory_faults declared.constants (at_key path (codes "memory")) variables ≡ []
@@ -29,14 +29,14 @@ functions-are declared types is_taken path agent name variables memory functions
     let rest =
     functions_faults
     declared
-    (variable_names agent.memory)
+    agent.memory
     is_taken
     (at_key path (codes "functions"))
     agent.functions in
     ap
     (λ names. functions_faults declared names is_taken (at_key path (codes "functions")) functions)
-    (m ∙ ap variable_names v)
-    ∙ ap (functions_faults declared (variable_names agent.memory) is_taken (at_key path (codes "functions"))) f
+    (m ∙ v)
+    ∙ ap (functions_faults declared agent.memory is_taken (at_key path (codes "functions"))) f
     ∙ sym
     (ap
     (λ l. l ++ (memory_faults declared.constants (at_key path (codes "memory")) agent.memory ++ rest))

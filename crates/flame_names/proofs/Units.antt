@@ -2,7 +2,6 @@
 use Rattle.std.proofs.Common.{◌≡◌, ℕ, ℤ, ◌*ℤ◌, List, [], ◌∷◌, ◌++◌, refl, sym, ap, ◌∙◌, Bool, true, false, cond, Option, Some, None, option_map, true≢false, codes, append-nil, subst}
 use Rattle.std.specs.Option.{is_some, option_map_or}
 use Rattle.std.specs.Str.{bytes_eq}
-use Rattle.std.proofs.lemmas.Slice.Eq.{bytes_eq-Decides}
 use Rattle.std.proofs.lemmas.List.{reverse-append, map_push}
 use Rattle.flame_spec.specs.declared.faults.NameFault.{NameFault}
 use Rattle.flame_spec.specs.declared.faults.NameKind.{NameKind}
@@ -15,22 +14,14 @@ use Rattle.flame_spec.specs.Refusals.{fault_where}
 use Rattle.flame_spec.specs.UnitFaults.{is_long, length_after, unit_faults}
 use Rattle.flame_names.specs.NameLooks.{look, names_of}
 use Rattle.flame_names.specs.UnitTables.{floored, measure_at, unit_at, length_of, with_unit}
-use Rattle.flame_names.proofs.Looks.{is_some-look, look-push, names_of-push}
+use Rattle.flame_names.proofs.Among.{bytes_eq_comm}
+use Rattle.flame_names.proofs.Looks.{none-is, is_some-look, look-push, names_of-push}
 use Rattle.flame_names.proofs.Floors.{is_long-floored, floored-floored}
 
 -- the table has the names of the units, and their lengths
 pub record Knows (table : List (List ℕ × ℤ)) (units : List TimeUnit) : Type 0 where
   pub names : names_of table ≡ unit_names units
   pub lengths : (name : List ℕ) → look name table ≡ option_map floored (unit_length units name)
-
-bytes_eq_comm : (xs ys : List ℕ) → bytes_eq xs ys ≡ bytes_eq ys xs
-bytes_eq_comm xs ys = by (bytes_eq xs ys) (bytes_eq ys xs) refl refl
-  where
-    by : (a b : Bool) → bytes_eq xs ys ≡ a → bytes_eq ys xs ≡ b → a ≡ b
-    by true true e f = refl
-    by false false e f = refl
-    by true false e f = sym ((bytes_eq-Decides ys xs).1 (sym ((bytes_eq-Decides xs ys).0 e))) ∙ f
-    by false true e f = sym e ∙ (bytes_eq-Decides xs ys).1 (sym ((bytes_eq-Decides ys xs).0 f))
 
 measure-is : (path : List ℕ) (unit : TimeUnit) (o : Option ℤ) (b : Bool)
     → is_some (option_map floored o) ≡ b
@@ -78,10 +69,6 @@ measure-none path unit (Some z) h = (
       (append-nil _ ∙ h)).0,
 )
 
-is_none : {X : Type 0} (o : Option X) → is_some o ≡ false → o ≡ None
-is_none None e = refl
-is_none (Some x) e = absurd (true≢false e)
-
 -- the length of a unit behind those before it
 unit_length-push : (units : List TimeUnit) (unit : TimeUnit) (name : List ℕ)
     → unit_length (units ++ unit ∷ []) name
@@ -110,7 +97,7 @@ knows-push table units path unit knows none =
     unit.name
     (measure_at path unit (look unit.unit table))
     none in
-    let new = is_none (look unit.name table) parts.0 in
+    let new = none-is (look unit.name table) parts.0 in
     let own = knows.lengths unit.unit in
     let found = measure-none path unit (unit_length units unit.unit) (ap (measure_at path unit) (sym own) ∙ parts.1) in
     let z = found.0 in

@@ -4,8 +4,9 @@ use Rattle.std.specs.Str.{bytes_eq}
 use Rattle.flame_spec.specs.declared.models.Model.{Model}
 use Rattle.flame_spec.specs.declared.models.AgentType.{AgentType}
 use Rattle.flame_spec.specs.declared.models.MessageType.{MessageType}
+use Rattle.flame_spec.specs.declared.models.Variable.{Variable}
 use Rattle.flame_ops.specs.Ascii.{capitals}
-use Rattle.flame_spec.specs.KnownNames.{unit_names, variable_names, names_in, DeclaredNames, declared_by}
+use Rattle.flame_spec.specs.KnownNames.{unit_names, variables_in, DeclaredNames, declared_by}
 use Rattle.flame_spec.specs.Paths.{at_key}
 use Rattle.flame_spec.specs.MessageFaults.{messages_faults}
 use Rattle.flame_spec.specs.NameFaults.{agents_faults, environment_faults, model_faults}
@@ -18,19 +19,19 @@ unwrap_choice true x d o = refl
 unwrap_choice false x d o = refl
 
 -- the variables of a message, by the table
-names_in-look : (name : List ℕ) (messages : List MessageType)
-    → unwrap_or (look name (map message_entry messages)) [] ≡ names_in messages name
-names_in-look name [] = refl
-names_in-look name (message ∷ messages) =
+variables_in-look : (name : List ℕ) (messages : List MessageType)
+    → unwrap_or (look name (map message_entry messages)) [] ≡ variables_in messages name
+variables_in-look name [] = refl
+variables_in-look name (message ∷ messages) =
     unwrap_choice
     (bytes_eq name message.name)
-    (variable_names message.variables)
+    message.variables
     []
     (look name (map message_entry messages))
-    ∙ ap (cond (bytes_eq name message.name) (variable_names message.variables)) (names_in-look name messages)
+    ∙ ap (cond (bytes_eq name message.name) message.variables) (variables_in-look name messages)
 
 -- the tables of a model declare what it declares
-pub declared-is : (constants : List (List ℕ)) (units : List (List ℕ × ℤ)) (messages : List (List ℕ × List (List ℕ)))
+pub declared-is : (constants : List (List ℕ)) (units : List (List ℕ × ℤ)) (messages : List (List ℕ × List Variable))
     (model : Model)
     → constants ≡ map capitals model.constants
     → names_of units ≡ unit_names model.units
@@ -44,8 +45,8 @@ pub declared-is : (constants : List (List ℕ)) (units : List (List ℕ × ℤ))
     ≡ declared_by model
 declared-is constants units messages model c u m =
     let names = ap names_of m ∙ names_of-messages model.messages in
-    let each : (name : List ℕ) → unwrap_or (look name messages) [] ≡ names_in model.messages name =
-    λ name. ap (λ table. unwrap_or (look name table) []) m ∙ names_in-look name model.messages in
+    let each : (name : List ℕ) → unwrap_or (look name messages) [] ≡ variables_in model.messages name =
+    λ name. ap (λ table. unwrap_or (look name table) []) m ∙ variables_in-look name model.messages in
     λ i. record { constants = c i; units = u i; messages = names i; variables = λ name. each name i }
 
 -- a model whose environment and messages have no faults has those of its agent types

@@ -5,6 +5,7 @@ use Rattle.std.specs.Str.{bytes_eq}
 use Rattle.flame_spec.specs.declared.faults.NameFault.{NameFault}
 use Rattle.flame_spec.specs.declared.faults.NameKind.TheVariants.{Duplicate, FunctionShared}
 use Rattle.flame_spec.specs.declared.models.Function.{Function}
+use Rattle.flame_spec.specs.declared.models.Variable.{Variable}
 use Rattle.flame_spec.specs.KnownNames.{DeclaredNames}
 use Rattle.flame_spec.specs.Paths.{at_key}
 use Rattle.flame_spec.specs.Refusals.{fault_where}
@@ -28,7 +29,7 @@ title_at is_taken earlier path function =
 
 -- the faults of a function [own]
 abbrev pub function_at :
-    DeclaredNames → List (List ℕ) → (List ℕ → Bool) → Transitions → List ℕ → Function → List NameFault
+    DeclaredNames → List Variable → (List ℕ → Bool) → Transitions → List ℕ → Function → List NameFault
 function_at declared memory is_taken earlier path function =
     title_at is_taken earlier (at_key path (codes "name")) function
     ++ (condition_faults (condition_scope declared memory) (at_key path (codes "condition")) function.condition

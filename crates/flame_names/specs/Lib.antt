@@ -4,5 +4,6 @@ pub mod FirstFaults
 pub mod PlacePaths
 pub mod NameLooks
 pub mod UnitTables
+pub mod VariableTables
 pub mod TableScopes
 pub mod FunctionTitles

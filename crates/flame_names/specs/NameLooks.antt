@@ -3,7 +3,7 @@ use Rattle.std.specs.Prelude.{ℕ, ◌∷◌, [], ◌&&◌, Bool, List, Option, 
 use Rattle.std.specs.Str.{bytes_eq}
 use Rattle.flame_spec.specs.declared.models.Function.{Function}
 use Rattle.flame_spec.specs.declared.models.MessageType.{MessageType}
-use Rattle.flame_spec.specs.KnownNames.{variable_names}
+use Rattle.flame_spec.specs.declared.models.Variable.{Variable}
 
 -- what stands behind the first entry of this name [own]
 abbrev pub look : {X : Type 0} → List ℕ → List (List ℕ × X) → Option X
@@ -14,9 +14,9 @@ look name (entry ∷ entries) = if bytes_eq name entry.0 then Some entry.1 else 
 abbrev pub names_of : {X : Type 0} → List (List ℕ × X) → List (List ℕ)
 names_of entries = map (λ entry. entry.0) entries
 
--- a message's name with those of its variables [own]
-abbrev pub message_entry : MessageType → List ℕ × List (List ℕ)
-message_entry message = (message.name, variable_names message.variables)
+-- a message's name with its variables [own]
+abbrev pub message_entry : MessageType → List ℕ × List Variable
+message_entry message = (message.name, message.variables)
 
 -- a function's name and its states [own]
 abbrev pub transition_of : Function → List ℕ × List ℕ × List ℕ

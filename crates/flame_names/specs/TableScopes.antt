@@ -1,13 +1,13 @@
 -- What tables declare.
 use Rattle.std.specs.Prelude.{[], unwrap_or}
 use Rattle.flame_spec.specs.KnownNames.{DeclaredNames}
-use Rattle.flame_spec.specs.Leaves.{LeafNames}
+use Rattle.flame_spec.specs.Leaves.{LeafScope}
 use Rattle.flame_names.specs.declared.leaves.Scope.{Scope}
 use Rattle.flame_names.specs.declared.functions.Tables.{Tables}
 use Rattle.flame_names.specs.NameLooks.{look, names_of}
 
--- the names that a condition can read, by its tables [own]
-abbrev pub scope_of : Scope → LeafNames
+-- what the names in a condition may stand for, by its tables [own]
+abbrev pub scope_of : Scope → LeafScope
 scope_of scope = record {
   memory = scope.memory.now;
   message = scope.message.now;

@@ -1,9 +1,11 @@
 //! Agent types.
 
-ghost use Rattle.std.specs.Prelude.{◌≡◌, ◌++◌, ◌||◌, [], ◌∷◌, ℕ, List, map, IfOk, IfErr, OnOk};
+ghost use Rattle.std.specs.Prelude.{◌≡◌, ◌++◌, ◌||◌, [], ◌∷◌, ℕ, List, map, codes, IfOk, IfErr, OnOk};
 ghost use Rattle.flame_ops.specs.Ascii.{capitals};
 ghost use Rattle.flame_spec.specs.KnownNames.{is_among, variable_names};
-ghost use Rattle.flame_spec.specs.NameFaults.{memory_name_faults, memory_faults, function_names, agent_faults, agents_faults};
+ghost use Rattle.flame_spec.specs.NameFaults.{memory_name_faults, memory_variable_faults, memory_faults};
+ghost use Rattle.flame_spec.specs.NameFaults.{function_names, agent_faults, agents_faults};
+ghost use Rattle.flame_spec.specs.Paths.{at_key};
 ghost use Rattle.flame_names.specs.PlacePaths.{text_of};
 ghost use Rattle.flame_names.specs.FirstFaults.{FailsFirst};
 ghost use Rattle.flame_names.specs.TableScopes.{declared_of};
@@ -13,34 +15,69 @@ use crate::functions::{Tables, functions};
 use crate::messages::capitals_of;
 use crate::path::Place;
 use crate::table::{Capitals, Names};
+use crate::variables::{Variables, add_variable, refuse_wide};
 use flame_rows::{Fail, NoMemory};
 use flame_spec::{AgentType, Function, NameFault, NameKind, Variable};
 use std::alloc::Global;
 
-/// The name of a memory variable that stands at this place, behind the earlier ones of its type.
-fn add_variable<'a>(
+/// The name of the memory variable at this place, behind the earlier ones of its type.
+fn add_memory_name<'a>(
     alloc: Global,
     constants: &Capitals,
     place: &Place<'_>,
-    name: &'a str,
-    earlier: &mut Names<'a>,
+    variable: &'a Variable,
+    earlier: &mut Variables<'a>,
     own: &mut Capitals,
 ) -> Result<(), Fail<NameFault>>
-    requires { own.old ≡ map capitals earlier.old }
-    ensures none { OnOk result
-        (memory_name_faults constants.now earlier.old (text_of place.now) name.now ≡ []) }
-    ensures names { OnOk result (earlier.new ≡ earlier.old ++ name.now ∷ []) }
-    ensures capitals { OnOk result (own.new ≡ map capitals earlier.new) }
-    ensures first { IfErr result
-        (FailsFirst (memory_name_faults constants.now earlier.old (text_of place.now) name.now)) }
+    requires { own.old ≡ map capitals (variable_names earlier.old) }
+    ensures none { OnOk result (memory_name_faults
+        constants.now
+        (variable_names earlier.old)
+        (at_key (text_of place.now) (codes "name"))
+        variable.now.name ≡ []) }
+    ensures variables { OnOk result (earlier.new ≡ earlier.old ++ variable.now ∷ []) }
+    ensures capitals { OnOk result (own.new ≡ map capitals (variable_names earlier.new)) }
+    ensures first { IfErr result (FailsFirst (memory_name_faults
+        constants.now
+        (variable_names earlier.old)
+        (at_key (text_of place.now) (codes "name"))
+        variable.now.name)) }
 {
-    add_new(alloc, place, name, earlier)?;
+    add_variable(alloc, place, variable, earlier)?;
+    let name = variable.name.as_str();
     let shouted = capitals_of(alloc, name)?;
     let is_constant = constants.has(shouted.as_str());
     if !own.add(shouted)? {
-        return Err(fault(alloc, NameKind::Clash, place, name));
+        return Err(fault(alloc, NameKind::Clash, &Place::Key(place, "name"), name));
     }
-    refuse(alloc, is_constant, NameKind::Clash, place, name)
+    refuse(
+        alloc,
+        is_constant,
+        NameKind::Clash,
+        &Place::Key(place, "name"),
+        name,
+    )
+}
+
+/// The memory variable at this place, behind the earlier ones of its type: its name, and then its width.
+fn add_memory<'a>(
+    alloc: Global,
+    constants: &Capitals,
+    place: &Place<'_>,
+    variable: &'a Variable,
+    earlier: &mut Variables<'a>,
+    own: &mut Capitals,
+) -> Result<(), Fail<NameFault>>
+    requires { own.old ≡ map capitals (variable_names earlier.old) }
+    ensures none { OnOk result
+        (memory_variable_faults constants.now earlier.old (text_of place.now) variable.now ≡ []) }
+    ensures variables { OnOk result (earlier.new ≡ earlier.old ++ variable.now ∷ []) }
+    ensures capitals { OnOk result (own.new ≡ map capitals (variable_names earlier.new)) }
+    ensures first { IfErr result
+        (FailsFirst (memory_variable_faults constants.now earlier.old (text_of place.now) variable.now)) }
+{
+    add_memory_name(alloc, constants, place, variable, earlier, own)?;
+    refuse_wide(alloc, place, variable, earlier)
 }
 
 /// The memory variables of the list at this place.
@@ -49,24 +86,16 @@ fn memory<'a, 'p>(
     constants: &Capitals,
     place: &'p Place<'p>,
     variables: &'a [Variable],
-) -> Result<Names<'a>, Fail<NameFault>>
+) -> Result<Variables<'a>, Fail<NameFault>>
     ensures none { OnOk result (memory_faults constants.now (text_of place.now) variables.now ≡ []) }
-    ensures names { IfOk result (λ table. table ≡ variable_names variables.now) }
+    ensures variables { IfOk result (λ table. table ≡ variables.now) }
     ensures first { IfErr result (FailsFirst (memory_faults constants.now (text_of place.now) variables.now)) }
 {
-    let mut earlier = Names::new(alloc);
+    let mut earlier = Variables::new(alloc);
     let mut own = Capitals::new(alloc);
     for (i, variable) in variables.iter().enumerate() {
-        let member = Place::Member(place, i);
-        let name = variable.name.as_str();
-        add_variable(
-            alloc,
-            constants,
-            &Place::Key(&member, "name"),
-            name,
-            &mut earlier,
-            &mut own,
-        )?;
+        let place = Place::Member(place, i);
+        add_memory(alloc, constants, &place, variable, &mut earlier, &mut own)?;
     }
     Ok(earlier)
 }

@@ -16,6 +16,7 @@ use crate::lengths::Lengths;
 use crate::messages::MessageTable;
 use crate::path::Place;
 use crate::table::{Capitals, Names, Transitions};
+use crate::variables::{Variables, single};
 use flame_rows::{Fail, Text};
 use flame_spec::{Condition, Function, Input, NameFault, NameKind, Sort};
 use std::alloc::Global;
@@ -34,7 +35,7 @@ pub struct Tables<'s, 'a> {
 /// The key of a sort, where there is one.
 fn sort(
     alloc: Global,
-    variables: &Names<'_>,
+    variables: &Variables<'_>,
     place: &Place<'_>,
     sort: &Option<Sort>,
 ) -> Result<(), Fail<NameFault>>
@@ -43,17 +44,13 @@ fn sort(
 {
     match sort {
         None => Ok(()),
-        Some(sort) => {
-            let key = sort.key.as_str();
-            let is_known = variables.has(key);
-            refuse(
-                alloc,
-                !is_known,
-                NameKind::UnknownVariable,
-                &Place::Key(place, "key"),
-                key,
-            )
-        }
+        Some(sort) => single(
+            alloc,
+            variables,
+            &Place::Key(place, "key"),
+            "",
+            sort.key.as_str(),
+        ),
     }
 }
 
@@ -89,7 +86,7 @@ fn reading(
 fn add_input<'a>(
     alloc: Global,
     tables: &Tables<'_, '_>,
-    memory: &Names<'_>,
+    memory: &Variables<'_>,
     place: &Place<'_>,
     input: &'a Input,
     earlier: &mut Names<'a>,
@@ -122,7 +119,7 @@ fn add_input<'a>(
 fn inputs<'p>(
     alloc: Global,
     tables: &Tables<'_, '_>,
-    memory: &Names<'_>,
+    memory: &Variables<'_>,
     place: &'p Place<'p>,
     inputs: &[Input],
 ) -> Result<(), Fail<NameFault>>
@@ -222,7 +219,7 @@ fn add_title<'a>(
 fn function_condition(
     alloc: Global,
     tables: &Tables<'_, '_>,
-    memory: &Names<'_>,
+    memory: &Variables<'_>,
     place: &Place<'_>,
     value: &Option<Condition>,
 ) -> Result<(), Fail<NameFault>>
@@ -231,7 +228,7 @@ fn function_condition(
     ensures first { IfErr result (FailsFirst (condition_faults
         (condition_scope (declared_of tables.now) memory.now) (text_of place.now) value.now)) }
 {
-    let nothing = Names::new(alloc);
+    let nothing = Variables::new(alloc);
     let scope = Scope {
         memory,
         message: &nothing,
@@ -244,7 +241,7 @@ fn function_condition(
 fn add_function<'a, 'p>(
     alloc: Global,
     tables: &Tables<'_, '_>,
-    memory: &Names<'_>,
+    memory: &Variables<'_>,
     shared: &Names<'_>,
     place: &'p Place<'p>,
     function: &'a Function,
@@ -294,7 +291,7 @@ fn add_function<'a, 'p>(
 pub fn functions<'p>(
     alloc: Global,
     tables: &Tables<'_, '_>,
-    memory: &Names<'_>,
+    memory: &Variables<'_>,
     shared: &Names<'_>,
     place: &'p Place<'p>,
     functions: &[Function],

@@ -1,56 +1,29 @@
 //! The names in conditions.
 
-ghost use Rattle.std.specs.Prelude.{◌≡◌, ◌++◌, [], IfErr, OnOk, not, codes};
+ghost use Rattle.std.specs.Prelude.{◌≡◌, [], IfErr, OnOk, codes};
 ghost use Rattle.flame_spec.specs.Paths.{at_key};
-ghost use Rattle.flame_spec.specs.declared.faults.NameKind.TheVariants.{UnknownVariable};
-ghost use Rattle.flame_spec.specs.Refusals.{fault_where};
 ghost use Rattle.flame_spec.specs.Leaves.{operand_faults, time_faults, leaf_faults, condition_faults};
 ghost use Rattle.flame_names.specs.PlacePaths.{text_of};
 ghost use Rattle.flame_names.specs.FirstFaults.{FailsFirst};
 ghost use Rattle.flame_names.specs.TableScopes.{scope_of};
 
-use crate::faults::{prefixed_fault, refuse};
+use crate::faults::refuse;
 use crate::lengths::Lengths;
 use crate::path::Place;
-use crate::table::Names;
+use crate::variables::{Variables, single};
 use flame_rows::{Fail, Text};
 use flame_spec::{Condition, NameFault, NameKind, Operand};
 use std::alloc::Global;
 
-/// The names that a condition can read.
+/// What the names in a condition may stand for.
 #[derive(Clone, Copy)]
 pub struct Scope<'s, 'a> {
     /// The variables of the agent's memory.
-    pub memory: &'s Names<'a>,
+    pub memory: &'s Variables<'a>,
     /// The variables of the message; none in a function's condition.
-    pub message: &'s Names<'a>,
+    pub message: &'s Variables<'a>,
     /// The time units.
     pub units: &'s Lengths<'a>,
-}
-
-/// Refuses a variable that is not known.
-fn variable(
-    alloc: Global,
-    is_known: bool,
-    place: &Place<'_>,
-    prefix: &str,
-    name: &Text,
-) -> Result<(), Fail<NameFault>>
-    ensures none { OnOk result
-        (fault_where (not is_known) UnknownVariable (text_of place.now) (prefix.now ++ name.now) ≡ []) }
-    ensures first { IfErr result
-        (FailsFirst (fault_where (not is_known) UnknownVariable (text_of place.now) (prefix.now ++ name.now))) }
-{
-    if !is_known {
-        return Err(prefixed_fault(
-            alloc,
-            NameKind::UnknownVariable,
-            place,
-            prefix,
-            name.as_str(),
-        ));
-    }
-    Ok(())
 }
 
 /// The name in an operand.
@@ -66,14 +39,8 @@ fn operand(
 {
     match operand {
         Operand::Number(_) => Ok(()),
-        Operand::Agent(name) => variable(alloc, scope.memory.has(name.as_str()), place, "a.", name),
-        Operand::Message(name) => variable(
-            alloc,
-            scope.message.has(name.as_str()),
-            place,
-            "m.",
-            name,
-        ),
+        Operand::Agent(name) => single(alloc, scope.memory, place, "a.", name.as_str()),
+        Operand::Message(name) => single(alloc, scope.message, place, "m.", name.as_str()),
     }
 }
 

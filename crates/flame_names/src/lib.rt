@@ -12,5 +12,6 @@ mod path;
 mod table;
 #[cfg(test)]
 mod tests;
+mod variables;
 
 pub use naming::names;

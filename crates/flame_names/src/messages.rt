@@ -1,10 +1,11 @@
 //! Constants, messages and their variables.
 
-ghost use Rattle.std.specs.Prelude.{◌≡◌, ◌++◌, [], ◌∷◌, ℕ, List, map, IfOk, IfErr, OnOk, None, false, string_bytes};
+ghost use Rattle.std.specs.Prelude.{◌≡◌, ◌++◌, [], ◌∷◌, map, IfOk, IfErr, OnOk, None, false, string_bytes};
 ghost use Rattle.std.specs.Option.{option_copied};
 ghost use Rattle.flame_ops.specs.Ascii.{capitals};
-ghost use Rattle.flame_spec.specs.KnownNames.{is_among, variable_names, message_names};
-ghost use Rattle.flame_spec.specs.MessageFaults.{apart_faults, constant_faults, variables_faults, message_faults, messages_faults};
+ghost use Rattle.flame_spec.specs.KnownNames.{is_among};
+ghost use Rattle.flame_spec.specs.MessageFaults.{apart_faults, constant_faults, variable_faults, variables_faults};
+ghost use Rattle.flame_spec.specs.MessageFaults.{message_faults, messages_faults};
 ghost use Rattle.flame_names.specs.PlacePaths.{text_of};
 ghost use Rattle.flame_names.specs.FirstFaults.{FailsFirst};
 ghost use Rattle.flame_names.specs.NameLooks.{look, names_of, message_entry};
@@ -12,22 +13,24 @@ ghost use Rattle.flame_names.specs.NameLooks.{look, names_of, message_entry};
 use crate::faults::fault;
 use crate::path::Place;
 use crate::table::{Capitals, Names};
+use crate::variables::{Variables, add_variable, refuse_wide};
 use flame_rows::{Fail, NoMemory, Text};
 use flame_spec::{MessageType, NameFault, NameKind, Variable};
 use indexmap::IndexMap;
 use std::alloc::Global;
 use std::marker::Model;
 
-/// MessageTable with the names of their variables, in the order in which they came, seen as the list of both.
+/// Messages by name with their variables, in the order in which they came, seen as the list of both.
 #[derive(Drop)]
 pub struct MessageTable<'a> {
-    messages: IndexMap<&'a str, Names<'a>>,
+    messages: IndexMap<&'a str, Variables<'a>>,
 }
 
 impl<'a> Model for MessageTable<'a> {
     ghost use Rattle.std.specs.Prelude.{List, ℕ, map};
+    ghost use Rattle.flame_spec.specs.declared.models.Variable.{Variable as Declared};
 
-    ghost Value = { List (List ℕ × List (List ℕ)) };
+    ghost Value = { List (List ℕ × List Declared) };
 
     ghost view = { λ table. map (λ entry. (entry.0.now, entry.1)) table.messages.entries };
 }
@@ -43,7 +46,7 @@ impl<'a> MessageTable<'a> {
     }
 
     /// The variables of the message of this name.
-    pub fn variables(&self, name: &str) -> Option<&Names<'a>>
+    pub fn variables(&self, name: &str) -> Option<&Variables<'a>>
         ensures { option_copied result ≡ look name.now self.now }
     {
         self.messages.get(name)
@@ -57,7 +60,7 @@ impl<'a> MessageTable<'a> {
     }
 
     /// Adds a message of a new name.
-    fn add(&mut self, name: &'a str, variables: Names<'a>) -> Result<(), NoMemory>
+    fn add(&mut self, name: &'a str, variables: Variables<'a>) -> Result<(), NoMemory>
         requires { look name.now self.old ≡ None }
         ensures { OnOk result (self.new ≡ self.old ++ (name.now, variables.entry) ∷ []) }
     {
@@ -122,28 +125,34 @@ pub fn constants<'p>(
     Ok(shouted)
 }
 
+/// The variable at this place, behind the earlier ones of its message.
+fn add_field<'a>(
+    alloc: Global,
+    place: &Place<'_>,
+    variable: &'a Variable,
+    earlier: &mut Variables<'a>,
+) -> Result<(), Fail<NameFault>>
+    ensures none { OnOk result (variable_faults earlier.old (text_of place.now) variable.now ≡ []) }
+    ensures variables { OnOk result (earlier.new ≡ earlier.old ++ variable.now ∷ []) }
+    ensures first { IfErr result (FailsFirst (variable_faults earlier.old (text_of place.now) variable.now)) }
+{
+    add_variable(alloc, place, variable, earlier)?;
+    refuse_wide(alloc, place, variable, earlier)
+}
+
 /// The variables of the list at this place, in a message.
 fn variables<'a, 'p>(
     alloc: Global,
     place: &'p Place<'p>,
     variables: &'a [Variable],
-) -> Result<Names<'a>, Fail<NameFault>>
+) -> Result<Variables<'a>, Fail<NameFault>>
     ensures none { OnOk result (variables_faults (text_of place.now) variables.now ≡ []) }
-    ensures names { IfOk result (λ table. table ≡ variable_names variables.now) }
+    ensures variables { IfOk result (λ table. table ≡ variables.now) }
     ensures first { IfErr result (FailsFirst (variables_faults (text_of place.now) variables.now)) }
 {
-    let mut earlier = Names::new(alloc);
+    let mut earlier = Variables::new(alloc);
     for (i, variable) in variables.iter().enumerate() {
-        let name = variable.name.as_str();
-        if !earlier.add(name)? {
-            let member = Place::Member(place, i);
-            return Err(fault(
-                alloc,
-                NameKind::Duplicate,
-                &Place::Key(&member, "name"),
-                name,
-            ));
-        }
+        add_field(alloc, &Place::Member(place, i), variable, &mut earlier)?;
     }
     Ok(earlier)
 }
@@ -155,13 +164,13 @@ fn add_message<'a>(
     message: &'a MessageType,
     earlier: &mut Names<'a>,
     shouted: &mut Capitals,
-) -> Result<Names<'a>, Fail<NameFault>>
+) -> Result<Variables<'a>, Fail<NameFault>>
     requires { shouted.old ≡ map capitals earlier.old }
     ensures none { OnOk result (message_faults earlier.old (text_of place.now) message.now ≡ []) }
     ensures added { OnOk result (is_among message.now.name earlier.old ≡ false) }
     ensures names { OnOk result (earlier.new ≡ earlier.old ++ message.now.name ∷ []) }
     ensures capitals { OnOk result (shouted.new ≡ map capitals earlier.new) }
-    ensures variables { IfOk result (λ table. table ≡ variable_names message.now.variables) }
+    ensures variables { IfOk result (λ table. table ≡ message.now.variables) }
     ensures first { IfErr result (FailsFirst (message_faults earlier.old (text_of place.now) message.now)) }
 {
     add_apart(

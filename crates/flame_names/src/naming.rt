@@ -23,7 +23,8 @@ use std::alloc::Global;
 /// The model is walked in the order of its file: constants, time units, messages with their variables, agent types
 /// with their memory and their functions. The fault is the first on this way. Its path is that of the text that holds
 /// the name: the keys and list numbers from the root of the model file, each after a `/`. `NoMemory` is want of
-/// memory. Each name is looked up in a hashed table, and a condition is walked as deep as it is nested.
+/// memory. Each name is looked up in a hashed table, the width of a row is counted as its variables come, and a condition is
+/// walked as deep as it is nested.
 pub fn names(alloc: Global, model: &Model) -> Result<(), Fail<NameFault>>
     ensures none { OnOk result (name_faults model.now ≡ []) }
     ensures first { IfErr result (FailsFirst (name_faults model.now)) }

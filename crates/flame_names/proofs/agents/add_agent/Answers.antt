@@ -28,7 +28,7 @@ returns-in_err-functions-clause-first c =
     c.items-2.result.now
     c.as_str.ensures
     c.items.ensures
-    c.in_ok-memory.ensures.names
+    c.in_ok-memory.ensures.variables
     c.items-2.ensures
     c.in_ok-add_new.ensures.none
     c.in_ok-memory.ensures.none)
@@ -49,7 +49,7 @@ returns-clause-none c =
     c.items-2.result.now
     c.as_str.ensures
     c.items.ensures
-    c.in_ok-memory.ensures.names
+    c.in_ok-memory.ensures.variables
     c.items-2.ensures
     c.in_ok-add_new.ensures.none
     c.in_ok-memory.ensures.none)

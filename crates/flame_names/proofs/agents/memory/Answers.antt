@@ -1,14 +1,13 @@
-use Rattle.std.proofs.Common.{codes, take}
+use Rattle.std.proofs.Common.{take}
 use Rattle.std.proofs.lemmas.Result.{err_from_is_err_and}
-use Rattle.flame_spec.specs.KnownNames.{variable_names}
-use Rattle.flame_spec.specs.Paths.{at_key, at_number}
-use Rattle.flame_spec.specs.NameFaults.{memory_name_faults}
+use Rattle.flame_spec.specs.Paths.{at_number}
+use Rattle.flame_spec.specs.NameFaults.{memory_variable_faults}
 use Rattle.flame_names.specs.PlacePaths.{text_of}
 use Rattle.flame_names.proofs.Rests.{fails-member}
 use Rattle.flame_names.proofs.agents.memory.Goals as goal
 
-pub returns-in_err-add_variable-clause-first : goal.returns-in_err-add_variable-clause-first
-returns-in_err-add_variable-clause-first c =
+pub returns-in_err-add_memory-clause-first : goal.returns-in_err-add_memory-clause-first
+returns-in_err-add_memory-clause-first c =
     let p = err_from_is_err_and c.from_residual.result c.from_residual.ensures.1 in
     let constants = c.args.constants.now in
     let path = text_of c.args.place.now in
@@ -18,22 +17,13 @@ returns-in_err-add_variable-clause-first c =
     (p.1, p.2)
     (fails-member
     _
-    (λ i variable.
-    memory_name_faults
-    constants
-    (variable_names (take i variables))
-    (at_key (at_number path i) (codes "name"))
-    variable.name)
+    (λ i variable. memory_variable_faults constants (take i variables) (at_number path i) variable)
     variables
     i
     c.index-variables-i.result
     _
-    (memory_name_faults
-    constants
-    c.loop-i.earlier
-    (at_key (at_number path i) (codes "name"))
-    c.as_str-name.result.now)
+    (memory_variable_faults constants c.loop-i.earlier (at_number path i) c.index-variables-i.result)
     c.loop-i-test.true
     c.loop-i.invariant.rest
     (cc)
-    c.in_err-add_variable.ensures.first)
+    c.in_err-add_memory.ensures.first)
