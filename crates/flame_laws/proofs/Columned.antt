@@ -20,11 +20,11 @@ use Rattle.flame_spec.specs.declared.models.Input.{Input}
 use Rattle.flame_spec.specs.declared.models.TimeUnit.{TimeUnit}
 use Rattle.flame_spec.specs.declared.outcomes.Source.{Source}
 use Rattle.flame_spec.specs.Columns.{width}
-use Rattle.flame_spec.specs.KnownNames.{is_among, unit_names, variable_names, declared_by}
+use Rattle.flame_spec.specs.KnownNames.{is_among, unit_names, declared_by}
 use Rattle.flame_spec.specs.TimeUnits.{unit_length}
 use Rattle.flame_spec.specs.Conditions.{agent_scope, input_scope, is_length, has_lengths, IsReadable}
 use Rattle.flame_spec.specs.FunctionFaults.{condition_scope}
-use Rattle.flame_spec.specs.Leaves.{LeafNames}
+use Rattle.flame_spec.specs.Leaves.{LeafScope}
 use Rattle.flame_spec.specs.WellFormed.{is_well_formed, is_well_formed_unit, is_well_formed_agent}
 use Rattle.flame_spec.specs.WellFormed.{is_well_formed_function}
 use Rattle.flame_spec.specs.WellFormed.{is_well_formed_input, is_well_formed_filter, is_well_formed_condition}
@@ -106,7 +106,7 @@ known_length units unit None positive = absurd positive
 known_length units unit (Some z) positive = positive
 
 condition_lengths :
-    (scope : LeafNames) (units : List TimeUnit) (condition : Condition)
+    (scope : LeafScope) (units : List TimeUnit) (condition : Condition)
     → scope.units ≡ unit_names units
     → Known units
     → knows scope condition ≡ true
@@ -202,12 +202,12 @@ pub condition_readable :
 condition_readable source i j type function condition is at_type at_function given narrow =
     let model = source.model in
     let formed = units_formed model is.formed in
-    let used : IsFunctionKnown (declared_by model) (variable_names type.memory) function
+    let used : IsFunctionKnown (declared_by model) type.memory function
     = used_declared model i j type function is.named at_type at_function in
     record {
       lengths =
           condition_lengths
-          (condition_scope (declared_by model) (variable_names type.memory)) model.units condition refl
+          (condition_scope (declared_by model) type.memory) model.units condition refl
           (all_known units_path model.units (units_none model is.named) formed) (used.condition condition given);
       periods = λ k d inside.
           period_positive (get_or model.units k d)

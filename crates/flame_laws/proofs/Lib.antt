@@ -26,3 +26,4 @@ pub mod Unseen
 pub mod UnseenStatements
 pub mod Columned
 pub mod Narrow
+pub mod Near

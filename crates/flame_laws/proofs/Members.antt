@@ -23,7 +23,8 @@ use Rattle.flame_spec.specs.MessageFaults.{apart_faults, variable_faults, variab
 use Rattle.flame_spec.specs.FunctionFaults.{use_faults, input_faults, read_names, inputs_faults, outputs_faults}
 use Rattle.flame_spec.specs.FunctionFaults.{is_same}
 use Rattle.flame_spec.specs.FunctionFaults.{title_faults, function_faults}
-use Rattle.flame_spec.specs.NameFaults.{memory_name_faults, memory_faults, function_names}
+use Rattle.flame_spec.specs.NameFaults.{memory_name_faults, memory_variable_faults, memory_faults}
+use Rattle.flame_spec.specs.NameFaults.{function_names}
 use Rattle.flame_spec.specs.NameFaults.{names_of_functions, name_faults}
 use Rattle.flame_laws.specs.DistinctNames.{AreDistinct}
 use Rattle.flame_laws.specs.MemberLaws.{AreApart}
@@ -78,11 +79,9 @@ memory_free :
 memory_free constants path variables none k inside =
     is_free constants (variable_names (take k variables)) (at_key (at_number path k) (codes "name"))
     (get_or variables k single).name
-    (each_none
-    (λ i variable.
-    memory_name_faults constants (variable_names (take i variables)) (at_key (at_number path i) (codes "name"))
-    variable.name)
-    variables single none k inside)
+    (left-none _ _
+    (each_none (λ i variable. memory_variable_faults constants (take i variables) (at_number path i) variable)
+    variables single none k inside))
 
 memory_apart :
     (constants : List (List ℕ)) (path : List ℕ) (variables : List Variable)
@@ -187,14 +186,15 @@ variables_back path variables none =
     looks_back (λ v. v.name) single variables refl
     (λ k inside.
     test_fails _ Duplicate _ _
-    (each_none (λ i variable. variable_faults (variable_names (take i variables)) (at_number path i) variable)
-    variables single none k inside))
+    (left-none _ _
+    (each_none (λ i variable. variable_faults (take i variables) (at_number path i) variable)
+    variables single none k inside)))
 
 -- where the memory of a type stands
-abbrev memory_path : ℕ → List ℕ
+abbrev pub memory_path : ℕ → List ℕ
 memory_path i = at_key (at_number (at_key xmodel (codes "agents")) i) (codes "memory")
 
-memory_none :
+pub memory_none :
     (model : Model) (i : ℕ) (type : AgentType)
     → name_faults model ≡ []
     → slice_get model.agents i ≡ Some type
@@ -216,7 +216,7 @@ types_apart model i type none at = record {
   others = λ k variable constant at_variable among same.
       let free : IsFree (map capitals model.constants) (variable_names (take k type.memory)) variable.name
       = is_free (map capitals model.constants) (variable_names (take k type.memory)) _ variable.name
-      (each_at _ 0 type.memory k variable k memory at_variable (omega arith)) in
+      (left-none _ _ (each_at _ 0 type.memory k variable k memory at_variable (omega arith))) in
       true≢false
       (sym (among_capitals variable.name model.constants constant among same) ∙ free.free);
 }
@@ -245,7 +245,7 @@ abbrev no_input : Input
 no_input = record { message = []; random = false; filter = None; sort = None }
 
 inputs_back :
-    (declared : DeclaredNames) (memory : List (List ℕ)) (path : List ℕ) (inputs : List Input)
+    (declared : DeclaredNames) (memory : List Variable) (path : List ℕ) (inputs : List Input)
     → inputs_faults declared memory path inputs ≡ []
     → LooksBack (read_names inputs)
 inputs_back declared memory path inputs none =
@@ -277,7 +277,7 @@ module _ (model : Model) (none : name_faults model ≡ []) where
       (i j : ℕ) (type : AgentType) (function : Function)
       → slice_get model.agents i ≡ Some type
       → slice_get type.functions j ≡ Some function
-      → function_faults (declared_by model) (variable_names type.memory)
+      → function_faults (declared_by model) type.memory
       (taken_before model i) (take j type.functions) (place i j) function ≡ []
   of_function i j type function at_type at_function =
       each_at _ 0 type.functions j function j (right-none _ _ (right-none _ _ (agent_none model i type none at_type)))
@@ -290,9 +290,9 @@ module _ (model : Model) (none : name_faults model ≡ []) where
       → AreDistinct (read_names function.inputs)
   inputs_distinct i j type function at_type at_function =
       distinct (read_names function.inputs)
-      (inputs_back (declared_by model) (variable_names type.memory)
+      (inputs_back (declared_by model) type.memory
       (at_key (place i j) (codes "inputs")) function.inputs
-      (function_none (declared_by model) (variable_names type.memory) (taken_before model i) (take j type.functions)
+      (function_none (declared_by model) type.memory (taken_before model i) (take j type.functions)
       (place i j) function
       (of_function i j type function at_type at_function)).inputs)
 
@@ -304,7 +304,7 @@ module _ (model : Model) (none : name_faults model ≡ []) where
   outputs_distinct i j type function at_type at_function =
       distinct function.outputs
       (outputs_back (declared_by model) (at_key (place i j) (codes "outputs")) function.outputs
-      (function_none (declared_by model) (variable_names type.memory) (taken_before model i) (take j type.functions)
+      (function_none (declared_by model) type.memory (taken_before model i) (take j type.functions)
       (place i j) function
       (of_function i j type function at_type at_function)).outputs)
 

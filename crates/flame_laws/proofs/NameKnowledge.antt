@@ -1,5 +1,5 @@
 -- Where nothing is found wrong with the names of a condition, they are declared.
-use Rattle.std.proofs.Common.{◌≡◌, ℕ, zero, suc, ◌+◌, Bool, true, false, List, [], ◌∷◌, ◌++◌, Some, refl, ap, sym, ◌∙◌}
+use Rattle.std.proofs.Common.{◌≡◌, ℕ, zero, suc, ◌+◌, Bool, true, false, List, [], ◌∷◌, ◌++◌, Option, Some, None, refl, ap, sym, ◌∙◌}
 use Rattle.std.proofs.Common.{arith, rules, not}
 use Rattle.std.specs.Prelude.{ℤ, slice_get, codes, ◌&&◌}
 use Rattle.flame_ops.specs.declared.integers.Op.{Op}
@@ -11,12 +11,14 @@ use denote.Hole.Carrier.{hidden}
 use Rattle.flame_spec.specs.declared.conditions.Operand.{Operand}
 use Rattle.flame_spec.specs.declared.conditions.Operand.TheVariants.{Number, Agent, Message}
 use Rattle.flame_spec.specs.declared.faults.NameKind.{NameKind}
+use Rattle.flame_spec.specs.declared.models.Variable.{Variable}
+use Rattle.flame_spec.specs.Columns.{is_array, variable_named}
 use Rattle.flame_spec.specs.Lists.{each_from}
 use Rattle.flame_spec.specs.KnownNames.{is_among}
 use Rattle.flame_spec.specs.Paths.{at_key}
 use Rattle.flame_spec.specs.Refusals.{fault_where}
-use Rattle.flame_spec.specs.Leaves.{LeafNames, operand_faults, period_faults, leaf_faults}
-use Rattle.flame_laws.specs.UsedNames.{knows_operand, knows}
+use Rattle.flame_spec.specs.Leaves.{LeafScope, found_faults, operand_faults, period_faults, leaf_faults}
+use Rattle.flame_laws.specs.UsedNames.{is_single, knows_operand, knows}
 use Rattle.flame_laws.proofs.Found.{left-none, right-none}
 
 -- where nothing comes from a list, nothing comes from any of its elements
@@ -46,66 +48,70 @@ not_false false e = cc
 both : (a b : Bool) → a ≡ true → b ≡ true → a && b ≡ true
 both a b e f = cc
 
+pub found_single : (o : Option (ℕ × Variable)) (path text : List ℕ) → found_faults o path text ≡ [] → is_single o ≡ true
+found_single None path text none = cc
+found_single (Some found) path text none = ap not (test_fails (is_array found.1) _ path text none)
+
 operand_known :
-    (scope : LeafNames) (path : List ℕ) (operand : Operand)
+    (scope : LeafScope) (path : List ℕ) (operand : Operand)
     → operand_faults scope path operand ≡ []
     → knows_operand scope operand ≡ true
 operand_known scope path (Number number) none = refl
-operand_known scope path (Agent name) none = not_false _ (test_fails _ _ _ _ none)
-operand_known scope path (Message name) none = not_false _ (test_fails _ _ _ _ none)
+operand_known scope path (Agent name) none = found_single (variable_named scope.memory name) _ _ none
+operand_known scope path (Message name) none = found_single (variable_named scope.message name) _ _ none
 
 leaf-Compare :
-    (scope : LeafNames) (op : Op) (a b : Operand) (path : List ℕ)
+    (scope : LeafScope) (op : Op) (a b : Operand) (path : List ℕ)
     → leaf_faults scope (Compare op a b) path
     ≡ operand_faults scope (at_key (at_key path (codes "lhs")) (codes "value")) a
     ++ operand_faults scope (at_key (at_key path (codes "rhs")) (codes "value")) b
 leaf-Compare scope op a b path = search (rules, the_lemmas)
 
 leaf-And :
-    (scope : LeafNames) (a b : Condition) (path : List ℕ)
+    (scope : LeafScope) (a b : Condition) (path : List ℕ)
     → leaf_faults scope (And a b) path
     ≡ leaf_faults scope a (at_key path (codes "lhs")) ++ leaf_faults scope b (at_key path (codes "rhs"))
 leaf-And scope a b path = search (rules, the_lemmas)
 
 leaf-Or :
-    (scope : LeafNames) (a b : Condition) (path : List ℕ)
+    (scope : LeafScope) (a b : Condition) (path : List ℕ)
     → leaf_faults scope (Or a b) path
     ≡ leaf_faults scope a (at_key path (codes "lhs")) ++ leaf_faults scope b (at_key path (codes "rhs"))
 leaf-Or scope a b path = search (rules, the_lemmas)
 
 leaf-Not :
-    (scope : LeafNames) (a : Condition) (path : List ℕ)
+    (scope : LeafScope) (a : Condition) (path : List ℕ)
     → leaf_faults scope (Not a) path ≡ leaf_faults scope a (at_key path (codes "not"))
 leaf-Not scope a path = search (rules, the_lemmas)
 
 leaf-Time :
-    (scope : LeafNames) (unit : List ℕ) (phase : Operand) (duration : ℤ) (path : List ℕ)
+    (scope : LeafScope) (unit : List ℕ) (phase : Operand) (duration : ℤ) (path : List ℕ)
     → leaf_faults scope (Time unit phase duration) path
     ≡ period_faults scope (at_key (at_key path (codes "time")) (codes "period")) unit
     ++ operand_faults scope (at_key (at_key path (codes "time")) (codes "phase")) phase
 leaf-Time scope unit phase duration path = search (rules, the_lemmas)
 
 knows-Compare :
-    (scope : LeafNames) (op : Op) (a b : Operand)
+    (scope : LeafScope) (op : Op) (a b : Operand)
     → knows scope (Compare op a b) ≡ knows_operand scope a && knows_operand scope b
 knows-Compare scope op a b = search (rules, the_lemmas)
 
-pub knows-And : (scope : LeafNames) (a b : Condition) → knows scope (And a b) ≡ knows scope a && knows scope b
+pub knows-And : (scope : LeafScope) (a b : Condition) → knows scope (And a b) ≡ knows scope a && knows scope b
 knows-And scope a b = search (rules, the_lemmas)
 
-pub knows-Or : (scope : LeafNames) (a b : Condition) → knows scope (Or a b) ≡ knows scope a && knows scope b
+pub knows-Or : (scope : LeafScope) (a b : Condition) → knows scope (Or a b) ≡ knows scope a && knows scope b
 knows-Or scope a b = search (rules, the_lemmas)
 
-pub knows-Not : (scope : LeafNames) (a : Condition) → knows scope (Not a) ≡ knows scope a
+pub knows-Not : (scope : LeafScope) (a : Condition) → knows scope (Not a) ≡ knows scope a
 knows-Not scope a = search (rules, the_lemmas)
 
 pub knows-Time :
-    (scope : LeafNames) (unit : List ℕ) (phase : Operand) (duration : ℤ)
+    (scope : LeafScope) (unit : List ℕ) (phase : Operand) (duration : ℤ)
     → knows scope (Time unit phase duration) ≡ is_among unit scope.units && knows_operand scope phase
 knows-Time scope unit phase duration = search (rules, the_lemmas)
 
 pub condition_known :
-    (scope : LeafNames) (condition : Condition) (path : List ℕ)
+    (scope : LeafScope) (condition : Condition) (path : List ℕ)
     → leaf_faults scope condition path ≡ []
     → knows scope condition ≡ true
 unfolding shape-the_row-Condition-0 hidden-the_row-Condition-0 hidden

@@ -7,18 +7,20 @@ use Rattle.flame_spec.specs.declared.models.AgentType.{AgentType}
 use Rattle.flame_spec.specs.declared.models.Function.{Function}
 use Rattle.flame_spec.specs.declared.models.Input.{Input}
 use Rattle.flame_spec.specs.declared.models.Sort.{Sort}
-use Rattle.flame_spec.specs.KnownNames.{is_among, variable_names, DeclaredNames, declared_by}
+use Rattle.flame_spec.specs.declared.models.Variable.{Variable}
+use Rattle.flame_spec.specs.Columns.{variable_named}
+use Rattle.flame_spec.specs.KnownNames.{is_among, DeclaredNames, declared_by}
 use Rattle.flame_spec.specs.Paths.{root, at_key, at_number}
-use Rattle.flame_spec.specs.Leaves.{LeafNames, condition_faults}
+use Rattle.flame_spec.specs.Leaves.{LeafScope, condition_faults}
 use Rattle.flame_spec.specs.UnitFaults.{units_faults}
 use Rattle.flame_spec.specs.MessageFaults.{constant_faults, messages_faults}
 use Rattle.flame_spec.specs.FunctionFaults.{condition_scope, sort_faults, input_faults, inputs_faults, outputs_faults}
 use Rattle.flame_spec.specs.FunctionFaults.{title_faults, function_faults}
 use Rattle.flame_spec.specs.NameFaults.{agent_faults, agents_faults, type_names, names_of_functions, environment_faults}
 use Rattle.flame_spec.specs.NameFaults.{name_faults}
-use Rattle.flame_laws.specs.UsedNames.{knows, IsInputKnown, IsFunctionKnown, UsedNamesAreDeclared}
+use Rattle.flame_laws.specs.UsedNames.{has_single, knows, IsInputKnown, IsFunctionKnown, UsedNamesAreDeclared}
 use Rattle.flame_laws.proofs.Found.{left-none, right-none}
-use Rattle.flame_laws.proofs.NameKnowledge.{each_none, test_fails, not_false, condition_known}
+use Rattle.flame_laws.proofs.NameKnowledge.{each_none, test_fails, not_false, found_single, condition_known}
 
 abbrev pub xmodel : List ℕ
 xmodel = at_key root (codes "xmodel")
@@ -56,7 +58,7 @@ pub agent_none :
 agent_none model i type none at = each_none _ 0 model.agents i type i (parts_none model none).agents at (omega arith)
 
 condition_there :
-    (scope : LeafNames) (path : List ℕ) (o : Option Condition)
+    (scope : LeafScope) (path : List ℕ) (o : Option Condition)
     → condition_faults scope path o ≡ []
     → (condition : Condition)
     → o ≡ Some condition
@@ -67,18 +69,18 @@ condition_there scope path (Some other) none condition at =
     sym (ap (knows scope) same) ∙ condition_known scope other path none
 
 sort_there :
-    (variables : List (List ℕ)) (path : List ℕ) (o : Option Sort)
+    (variables : List Variable) (path : List ℕ) (o : Option Sort)
     → sort_faults variables path o ≡ []
     → (sort : Sort)
     → o ≡ Some sort
-    → is_among sort.key variables ≡ true
+    → has_single variables sort.key ≡ true
 sort_there variables path None none sort at = cc
 sort_there variables path (Some other) none sort at =
     let same : other ≡ sort = cc in
-    sym (ap (λ s. is_among s.key variables) same) ∙ not_false _ (test_fails _ _ _ _ none)
+    sym (ap (λ s. has_single variables s.key) same) ∙ found_single (variable_named variables other.key) _ _ none
 
 input_known :
-    (declared : DeclaredNames) (memory earlier : List (List ℕ)) (path : List ℕ) (input : Input)
+    (declared : DeclaredNames) (memory : List Variable) (earlier : List (List ℕ)) (path : List ℕ) (input : Input)
     → input_faults declared memory earlier path input ≡ []
     → IsInputKnown declared memory input
 input_known declared memory earlier path input none =
@@ -92,7 +94,7 @@ input_known declared memory earlier path input none =
     }
 
 -- no part of the function has faults
-pub record HasNoneIn (declared : DeclaredNames) (memory : List (List ℕ)) (path : List ℕ)
+pub record HasNoneIn (declared : DeclaredNames) (memory : List Variable) (path : List ℕ)
     (function : Function) : Type 0 where
   pub condition : condition_faults (condition_scope declared memory)
       (at_key path (codes "condition")) function.condition ≡ []
@@ -100,7 +102,7 @@ pub record HasNoneIn (declared : DeclaredNames) (memory : List (List ℕ)) (path
   pub outputs : outputs_faults declared (at_key path (codes "outputs")) function.outputs ≡ []
 
 pub function_none :
-    (declared : DeclaredNames) (memory : List (List ℕ)) (is_taken : List ℕ
+    (declared : DeclaredNames) (memory : List Variable) (is_taken : List ℕ
     → Bool) (earlier : List Function) (path : List ℕ)
     (function : Function)
     → function_faults declared memory is_taken earlier path function ≡ []
@@ -136,7 +138,7 @@ function_none declared memory is_taken earlier path function none =
         (at_key path (codes "condition")) function.condition) _ more)
 
 function_known :
-    (declared : DeclaredNames) (memory : List (List ℕ)) (path : List ℕ) (function : Function)
+    (declared : DeclaredNames) (memory : List Variable) (path : List ℕ) (function : Function)
     → HasNoneIn declared memory path function
     → IsFunctionKnown declared memory function
 function_known declared memory path function parts = record {
@@ -153,8 +155,8 @@ function_known declared memory path function parts = record {
 pub used_declared : UsedNamesAreDeclared
 used_declared model i j type function none at_type at_function =
     let path : List ℕ = at_number (at_key (at_number (at_key xmodel (codes "agents")) i) (codes "functions")) j in
-    function_known (declared_by model) (variable_names type.memory) path function
-    (function_none (declared_by model) (variable_names type.memory)
+    function_known (declared_by model) type.memory path function
+    (function_none (declared_by model) type.memory
     (λ name. is_among name (names_of_functions (take i model.agents)))
     (take j type.functions) path function
     (each_none _ 0 type.functions j function j

@@ -1,7 +1,6 @@
 -- What acceptance gives to conditions and filters: they can be read by columns. [own]
-use Rattle.std.specs.Prelude.{◌≡◌, ℕ, ◌<◌, ◌^◌, IsTrue, Some, slice_get}
+use Rattle.std.specs.Prelude.{◌≡◌, ℕ, ◌<◌, ◌^◌, Some, slice_get}
 use Rattle.flame_spec.specs.declared.conditions.Condition.{Condition}
-use Rattle.flame_spec.specs.declared.models.Model.{Model}
 use Rattle.flame_spec.specs.declared.models.MessageType.{MessageType}
 use Rattle.flame_spec.specs.declared.models.AgentType.{AgentType}
 use Rattle.flame_spec.specs.declared.models.Function.{Function}
@@ -9,8 +8,6 @@ use Rattle.flame_spec.specs.declared.models.Input.{Input}
 use Rattle.flame_spec.specs.declared.outcomes.Source.{Source}
 use Rattle.flame_spec.specs.Columns.{width}
 use Rattle.flame_spec.specs.Conditions.{agent_scope, input_scope, IsReadable}
-use Rattle.flame_spec.specs.WellFormed.{is_well_formed}
-use Rattle.flame_spec.specs.Counted.{is_counted}
 use Rattle.flame_spec.specs.Accepted.{IsAccepted}
 
 -- the condition of a function of an accepted source can be read, where the memory is not too wide for columns
@@ -38,21 +35,3 @@ FiltersAreReadable =
     → width type.memory < 2 ^ 32
     → width message.variables < 2 ^ 32
     → IsReadable (input_scope type message) filter
-
--- where a model is well formed and its parts can be numbered, no memory is too wide for columns
-abbrev pub MemoriesAreNarrow : Type 0
-MemoriesAreNarrow =
-    (model : Model) (i : ℕ) (type : AgentType)
-    → IsTrue (is_well_formed model)
-    → IsTrue (is_counted model)
-    → slice_get model.agents i ≡ Some type
-    → width type.memory < 2 ^ 32
-
--- nor is a message
-abbrev pub MessagesAreNarrow : Type 0
-MessagesAreNarrow =
-    (model : Model) (i : ℕ) (message : MessageType)
-    → IsTrue (is_well_formed model)
-    → IsTrue (is_counted model)
-    → slice_get model.messages i ≡ Some message
-    → width message.variables < 2 ^ 32

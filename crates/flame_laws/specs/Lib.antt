@@ -4,6 +4,7 @@ pub mod DistinctNames
 pub mod NameLaws
 pub mod MemberLaws
 pub mod UsedNames
+pub mod ArrayWidths
 pub mod NameCases
 pub mod OrderLaws
 pub mod StateLaws

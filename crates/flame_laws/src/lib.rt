@@ -11,6 +11,7 @@ mod order_laws;
 mod tree_laws;
 mod used_laws;
 mod view_laws;
+mod width_laws;
 
 pub use accepted_laws::{accepted_cases, accepted_conditions};
 pub use check_laws::{
@@ -23,3 +24,4 @@ pub use order_laws::{cycles, layers, order_cases, orders, ranks, start_states_of
 pub use tree_laws::trees_are_told;
 pub use used_laws::{used_names, used_names_cases};
 pub use view_laws::{choices, time_conditions, view_cases, views};
+pub use width_laws::{narrow_rows, near_arrays};

@@ -1,6 +1,9 @@
 -- Rows are as wide as they have variables.
-use Rattle.flame_laws.proofs.Narrow.{memory_narrow, message_narrow}
-use Rattle.flame_laws.proofs.accepted_laws.narrow_rows.Goals as goal
+use Rattle.flame_laws.proofs.Narrow.{width-length, memory_narrow, message_narrow}
+use Rattle.flame_laws.proofs.width_laws.narrow_rows.Goals as goal
+
+pub returns-clause-counted : goal.returns-clause-counted
+returns-clause-counted c = width-length
 
 pub returns-clause-memories : goal.returns-clause-memories
 returns-clause-memories c = memory_narrow
