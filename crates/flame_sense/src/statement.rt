@@ -6,7 +6,7 @@ ghost use Rattle.flame_spec.specs.Definitions.{helper_named};
 ghost use Rattle.flame_spec.specs.Trees.{call as called_there, do_while};
 ghost use Rattle.flame_spec.specs.Seen.{expression, expressions, declared, assigned, indexed, stored as value_seen, statement as seen, statements as all_seen, arms as arms_seen};
 ghost use Rattle.flame_sense.specs.Scenes.{Progress as Left};
-ghost use Rattle.flame_sense.specs.Ends.{End, no_fuel, with_value, outside, as_scope};
+ghost use Rattle.flame_sense.specs.Ends.{End, no_fuel, with_value, on_to, outside, as_scope};
 ghost use Rattle.flame_sense.specs.Loops.{after_turn, turn, loop, each_row};
 ghost use Rattle.flame_sense.specs.Statements.{helped, by_value, by_initial, declarations, name_set, name_changed, element_set, element_changed, assignment, done, test_value, step_of, loop_currents, inside, meaning, meanings, first_arm};
 ghost use Rattle.flame_sense.specs.HelperCalls.{gives};
@@ -24,7 +24,7 @@ use crate::store::{
 };
 use flame_ops::{Cause, Op};
 use flame_rows::{NoMemory, Row};
-use flame_spec::{Arm, Assign, Expr, Fault, Item, Stmt, Subscript, Value};
+use flame_spec::{Arm, Assign, Expr, Fault, Head, Item, Stmt, Subscript, Value};
 
 /// A unit was needed and none was left.
 fn no_fuel(line: u32) -> Fault
@@ -402,26 +402,7 @@ fn statement<'a>(
             turns(body.items(), *line, Some(test), &None, scene, open_loops, s)
         }
         Stmt::For(line, head, body) => {
-            let depth = s.locals.as_slice().len();
-            match statements(head.first.items(), scene, open_loops, s)? {
-                Ending::WentOn => {
-                    let ending = turns(
-                        body.items(),
-                        *line,
-                        head.test.as_ref(),
-                        &head.step,
-                        scene,
-                        open_loops,
-                        s,
-                    )?;
-                    leave(depth, s);
-                    Ok(ending)
-                }
-                ending => {
-                    leave(depth, s);
-                    Ok(ending)
-                }
-            }
+            for_loop(head.get(), body.items(), *line, scene, open_loops, s)
         }
         Stmt::Do(line, body, test) => do_loop(body.items(), *line, test, scene, open_loops, s),
         Stmt::Loop(line, word, body, _, _) => {
@@ -602,6 +583,40 @@ fn turns<'a>(
         match step(after, scene, open_loops, s)? {
             Ending::WentOn => {}
             ending => return Ok(ending),
+        }
+    }
+}
+
+/// `for (first; test; step) body`, which is a scope.
+#[cycle(run)]
+fn for_loop<'a>(
+    head: &'a Head,
+    body: &'a [Stmt],
+    line: u32,
+    scene: &Scene<'_, '_>,
+    open_loops: &Open<'_>,
+    s: &mut Progress<'a>,
+) -> Result<Ending, NoMemory>
+    ensures { IfOk result (λ ending.
+        as_scope (λ t. on_to (meanings (all_seen head.now.first) (scene_seen scene.now open_loops.now) t)
+        (loop line
+        (test_value (option_map expression head.now.test) (scene_seen scene.now open_loops.now))
+        (as_scope (meanings (all_seen body.now) (scene_seen scene.now open_loops.now)))
+        (step_of (option_map assigned head.now.step) (scene_seen scene.now open_loops.now))))
+        (progress_seen s.old)
+        ≡ end_of ending (progress_seen s.new)) }
+{
+    let depth = s.locals.as_slice().len();
+    match statements(head.first.items(), scene, open_loops, s)? {
+        Ending::WentOn => {
+            let test = head.test.as_ref();
+            let ending = turns(body, line, test, &head.step, scene, open_loops, s)?;
+            leave(depth, s);
+            Ok(ending)
+        }
+        ending => {
+            leave(depth, s);
+            Ok(ending)
         }
     }
 }

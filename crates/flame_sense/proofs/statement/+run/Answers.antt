@@ -240,50 +240,51 @@ statement-returns-in-None t c =
     ∙ ap (λ b. as_scope (meanings (statements b) scene) (progress_seen c.branch-items.new.s)) (sym c.items-in-None.ensures) ∙ h)
     c.block-in-None.ensures
 
-pub statement-returns-in_ok-ending-in-WentOn : goal.statement-returns-in_ok-ending-in-WentOn
-statement-returns-in_ok-ending-in-WentOn t c =
+pub statement-returns-in-For : goal.statement-returns-in-For
+statement-returns-in-For t c =
     let scene : Scene = scene_seen c.args.scene.now c.args.open_loops.now in
     let s : Progress = progress_seen c.args.s.now in
-    let head = c.in-For.head in
-    let test = option_map (λ e. expression e.now) c.as_ref.result in
-    let step = option_map assigned c.deref-in-WentOn-2.result.now.step in
-    let body = c.items-in-WentOn.result.now in
-    let test_is = copied_test c.as_ref.result ∙ ap (option_map expression) (c.as_ref.ensures.value ∙ ap (λ h. h.test) c.deref-in-WentOn.ensures) in
+    let head = c.get.result.now in
     let seen =
     ap (λ x. meaning (statement x) scene s) c.in-For.is
     ∙ ap (λ x. meaning x scene s) (statement-For c.in-For.line c.in-For.head c.in-For.body)
-    ∙ ap (λ f. as_scope (begun c.in-For.line f (option_map expression head.test) (option_map assigned head.step) c.in-For.body scene) s)
-    (sym (c.items-in-For.ensures ∙ ap (λ h. h.first) c.deref.ensures))
-    ∙ ap (λ e. as_scope (begun c.in-For.line c.items-in-For.result.now e (option_map assigned head.step) c.in-For.body scene) s) (sym test_is)
-    ∙ ap (λ h. as_scope (begun c.in-For.line c.items-in-For.result.now test (option_map assigned h.step) c.in-For.body scene) s)
-    (sym c.deref-in-WentOn-2.ensures)
-    ∙ ap (λ b. as_scope (begun c.in-For.line c.items-in-For.result.now test step b scene) s) (sym c.items-in-WentOn.ensures) in
-    seen
-    ∙ scope_end (begun c.in-For.line c.items-in-For.result.now test step body scene) s _ _ c.in_ok-ending-in-WentOn.ending _
+    ∙ ap (λ h. as_scope (begun c.in-For.line h.first (option_map expression h.test) (option_map assigned h.step) c.in-For.body scene) s)
+    (sym c.get.ensures)
+    ∙ ap (λ b. as_scope (begun c.in-For.line head.first (option_map expression head.test) (option_map assigned head.step) b scene) s)
+    (sym c.items-in-For.ensures) in
+    if_ok_more c.for_loop.result _ _ (λ ending h. seen ∙ h) c.for_loop.ensures
+
+pub for_loop-returns-in_ok-ending-in-WentOn : goal.for_loop-returns-in_ok-ending-in-WentOn
+for_loop-returns-in_ok-ending-in-WentOn t c =
+    let scene : Scene = scene_seen c.args.scene.now c.args.open_loops.now in
+    let s : Progress = progress_seen c.args.s.now in
+    let head = c.args.head.now in
+    let body = c.args.body.now in
+    let test = option_map (λ e. expression e.now) c.as_ref-test.result in
+    let step = option_map assigned head.step in
+    let test_is = copied_test c.as_ref-test.result ∙ ap (option_map expression) c.as_ref-test.ensures.value in
+    ap (λ f. as_scope (begun c.args.line f (option_map expression head.test) step body scene) s) (sym c.items.ensures)
+    ∙ ap (λ e. as_scope (begun c.args.line c.items.result.now e step body scene) s) (sym test_is)
+    ∙ scope_end (begun c.args.line c.items.result.now test step body scene) s _ _ c.in_ok-ending-in-WentOn.ending _
     (ap length c.as_slice-depth.ensures.value ∙ sym (length-visible c.args.s.now.locals.items))
-    (ap (λ e. on_to e (whole c.in-For.line (test_value test scene) (statements body) step scene))
-    (c.in_ok-ending-in-For.ensures ∙ ap (λ e. end_of e (progress_seen c.statements.new.s)) c.in-WentOn.is)
+    (ap (λ e. on_to e (whole c.args.line (test_value test scene) (statements body) step scene))
+    (c.in_ok-ending.ensures ∙ ap (λ e. end_of e (progress_seen c.statements.new.s)) c.in-WentOn.is)
     ∙ c.in_ok-ending-in-WentOn.ensures)
     c.leave.ensures
 
-pub statement-returns-in_default : goal.statement-returns-in_default
-statement-returns-in_default t c =
+pub for_loop-returns-in_default : goal.for_loop-returns-in_default
+for_loop-returns-in_default t c =
     let scene : Scene = scene_seen c.args.scene.now c.args.open_loops.now in
     let s : Progress = progress_seen c.args.s.now in
-    let head = c.in-For.head in
+    let head = c.args.head.now in
     let test = option_map expression head.test in
     let step = option_map assigned head.step in
-    let next : Progress → End = whole c.in-For.line (test_value test scene) (statements c.in-For.body) step scene in
-    let seen =
-    ap (λ x. meaning (statement x) scene s) c.in-For.is
-    ∙ ap (λ x. meaning x scene s) (statement-For c.in-For.line c.in-For.head c.in-For.body)
-    ∙ ap (λ f. as_scope (begun c.in-For.line f test step c.in-For.body scene) s)
-    (sym (c.items-in-For.ensures ∙ ap (λ h. h.first) c.deref.ensures)) in
-    seen
-    ∙ scope_end (begun c.in-For.line c.items-in-For.result.now test step c.in-For.body scene) s _ _ c.in_ok-ending-in-For.ending _
+    let next : Progress → End = whole c.args.line (test_value test scene) (statements c.args.body.now) step scene in
+    ap (λ f. as_scope (begun c.args.line f test step c.args.body.now scene) s) (sym c.items.ensures)
+    ∙ scope_end (begun c.args.line c.items.result.now test step c.args.body.now scene) s _ _ c.in_ok-ending.ending _
     (ap length c.as_slice-depth.ensures.value ∙ sym (length-visible c.args.s.now.locals.items))
-    (ap (λ e. on_to e next) c.in_ok-ending-in-For.ensures
-    ∙ stopped c.in_ok-ending-in-For.ending (progress_seen c.statements.new.s) next c.in_default.not-WentOn)
+    (ap (λ e. on_to e next) c.in_ok-ending.ensures
+    ∙ stopped c.in_ok-ending.ending (progress_seen c.statements.new.s) next c.in_default.not-WentOn)
     c.leave-in_default.ensures
 
 pub turns-returns-then-value-eq0 : goal.turns-returns-then-value-eq0

@@ -1,5 +1,5 @@
 use denote.Param.Weighed.{most}
-use Rattle.std.proofs.Common.{◌≡◌, ◌+◌, ◌*◌, drop, map, option_map}
+use Rattle.std.proofs.Common.{◌≡◌, ◌+◌, ◌*◌, max, drop, map, option_map}
 use Rattle.flame_spec.specs.declared.trees.Arm.{size-Arm}
 use Rattle.flame_spec.specs.declared.trees.Stmt.{size-Stmt}
 use Rattle.flame_spec.specs.Seen.{expression, declared, assigned, statements, arms}
@@ -110,3 +110,6 @@ decreases-message_loop l = levels l.scene.now.left l.scene.now.units.now + (8 * 
 
 abbrev pub decreases-do_loop : goal.decreases-do_loop
 decreases-do_loop l = levels l.scene.now.left l.scene.now.units.now + (8 * depth l.body.now + 11)
+
+abbrev pub decreases-for_loop : goal.decreases-for_loop
+decreases-for_loop l = levels l.scene.now.left l.scene.now.units.now + (8 * max (depth l.head.now.first) (depth l.body.now) + 12)
