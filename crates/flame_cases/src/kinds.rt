@@ -2,7 +2,7 @@
 
 use crate::case::Case;
 use crate::{
-    deciding, lexing, modeling, naming, ordering, outcomes, parsing, planning, running, viewing,
+    choosing, deciding, lexing, modeling, naming, ordering, outcomes, parsing, planning, running, viewing,
 };
 use std::alloc::{AllocError, Global};
 use std::sync::Wait;
@@ -31,6 +31,8 @@ pub(crate) enum Kind {
     Condition,
     /// `flame_view::View`
     View,
+    /// The calls of `flame_pool`
+    Choice,
     /// `flame_expr::parse_expr`
     Expression,
     /// `flame_parse::parse`
@@ -50,6 +52,7 @@ pub(crate) fn kind_of(file: &str) -> Option<Kind> {
         "plan" => Some(Kind::Plan),
         "condition" => Some(Kind::Condition),
         "view" => Some(Kind::View),
+        "choice" => Some(Kind::Choice),
         "expression" => Some(Kind::Expression),
         "parse" => Some(Kind::Parse),
         _ => None,
@@ -74,6 +77,7 @@ pub(crate) fn answer(
         Kind::Plan => planning::answer(alloc, case),
         Kind::Condition => deciding::answer(alloc, case),
         Kind::View => viewing::answer(alloc, case),
+        Kind::Choice => choosing::answer(rt, alloc, case),
         Kind::Expression => parsing::answer_expression(alloc, case),
         Kind::Parse => parsing::answer(alloc, case),
     }

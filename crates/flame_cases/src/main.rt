@@ -5,6 +5,7 @@
 #![tactic(auto)]
 
 mod case;
+mod choosing;
 mod deciding;
 mod kinds;
 mod lexing;

@@ -21,7 +21,7 @@ struct Scene {
     board: Frozen,
 }
 
-fn print_row(out: &mut String, row: &Row) -> Result<(), AllocError> {
+pub(crate) fn print_row(out: &mut String, row: &Row) -> Result<(), AllocError> {
     write!(out, "row")?;
     for number in row.values() {
         write!(out, " {number}")?;
