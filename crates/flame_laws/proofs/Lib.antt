@@ -27,3 +27,7 @@ pub mod UnseenStatements
 pub mod Columned
 pub mod Narrow
 pub mod Near
+pub mod Bounded
+pub mod Readings
+pub mod Causes
+pub mod Free

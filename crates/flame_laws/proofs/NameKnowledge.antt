@@ -1,5 +1,6 @@
 -- Where nothing is found wrong with the names of a condition, they are declared.
-use Rattle.std.proofs.Common.{◌≡◌, ℕ, zero, suc, ◌+◌, Bool, true, false, List, [], ◌∷◌, ◌++◌, Option, Some, None, refl, ap, sym, ◌∙◌}
+use Rattle.std.proofs.Common.{◌≡◌, ℕ, zero, suc, ◌+◌, Bool, true, false, List, [], ◌∷◌, ◌++◌, Option, Some, None}
+use Rattle.std.proofs.Common.{refl, ap, sym, ◌∙◌}
 use Rattle.std.proofs.Common.{arith, rules, not}
 use Rattle.std.specs.Prelude.{ℤ, slice_get, codes, ◌&&◌}
 use Rattle.flame_ops.specs.declared.integers.Op.{Op}
@@ -60,14 +61,14 @@ operand_known scope path (Number number) none = refl
 operand_known scope path (Agent name) none = found_single (variable_named scope.memory name) _ _ none
 operand_known scope path (Message name) none = found_single (variable_named scope.message name) _ _ none
 
-leaf-Compare :
+pub leaf-Compare :
     (scope : LeafScope) (op : Op) (a b : Operand) (path : List ℕ)
     → leaf_faults scope (Compare op a b) path
     ≡ operand_faults scope (at_key (at_key path (codes "lhs")) (codes "value")) a
     ++ operand_faults scope (at_key (at_key path (codes "rhs")) (codes "value")) b
 leaf-Compare scope op a b path = search (rules, the_lemmas)
 
-leaf-And :
+pub leaf-And :
     (scope : LeafScope) (a b : Condition) (path : List ℕ)
     → leaf_faults scope (And a b) path
     ≡ leaf_faults scope a (at_key path (codes "lhs")) ++ leaf_faults scope b (at_key path (codes "rhs"))
@@ -84,7 +85,7 @@ leaf-Not :
     → leaf_faults scope (Not a) path ≡ leaf_faults scope a (at_key path (codes "not"))
 leaf-Not scope a path = search (rules, the_lemmas)
 
-leaf-Time :
+pub leaf-Time :
     (scope : LeafScope) (unit : List ℕ) (phase : Operand) (duration : ℤ) (path : List ℕ)
     → leaf_faults scope (Time unit phase duration) path
     ≡ period_faults scope (at_key (at_key path (codes "time")) (codes "period")) unit

@@ -1,22 +1,21 @@
 -- Columns of arrays where no width is a fault.
-use Rattle.std.proofs.Common.{◌≡◌, ℕ, zero, suc, ◌+◌, ◌≤◌, Bool, true, false, List, [], ◌∷◌, ◌++◌, map, take, length}
+use Rattle.std.proofs.Common.{◌≡◌, ℕ, suc, ◌+◌, ◌≤◌, Bool, true, false, List, [], ◌∷◌, ◌++◌, take, length}
 use Rattle.std.proofs.Common.{codes, Option, Some, None, cond, refl, ap, sym, ◌∙◌, subst, arith}
 use Rattle.std.specs.Prelude.{nat_lt, ◌&&◌, slice_get, is_some}
 use Rattle.std.specs.Str.{bytes_eq}
 use Rattle.std.proofs.lemmas.Bool.{ltb-false}
-use Rattle.flame_ops.specs.Ascii.{capitals}
 use Rattle.flame_spec.specs.declared.faults.NameKind.TheVariants.{TooWide}
 use Rattle.flame_spec.specs.declared.models.Model.{Model}
 use Rattle.flame_spec.specs.declared.models.Variable.{Variable}
 use Rattle.flame_spec.specs.declared.models.MessageType.{MessageType}
 use Rattle.flame_spec.specs.declared.models.AgentType.{AgentType}
-use Rattle.flame_spec.specs.Columns.{width_by, width_of, width, is_array, columned_from, variable_named}
+use Rattle.flame_spec.specs.Columns.{width_by, width_of, width, is_array, columned_from}
 use Rattle.flame_spec.specs.KnownNames.{message_names}
 use Rattle.flame_spec.specs.Paths.{at_key, at_number}
 use Rattle.flame_spec.specs.MessageFaults.{is_too_wide, width_faults, apart_faults}
 use Rattle.flame_spec.specs.NameFaults.{name_faults}
 use Rattle.flame_laws.specs.ArrayWidths.{AreNear}
-use Rattle.flame_laws.proofs.Found.{left-none, right-none}
+use Rattle.flame_laws.proofs.Found.{right-none}
 use Rattle.flame_laws.proofs.NameKnowledge.{each_none, test_fails}
 use Rattle.flame_laws.proofs.UsedKnown.{xmodel, parts_none}
 use Rattle.flame_laws.proofs.Members.{memory_path, memory_none}

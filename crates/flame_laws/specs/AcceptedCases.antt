@@ -1,5 +1,5 @@
 -- Sources that are accepted, and what well-formed models and start states are, worked by hand. [own]
-use Rattle.std.specs.Prelude.{◌≡◌, List, [], ◌∷◌, map, codes, true, false, pos}
+use Rattle.std.specs.Prelude.{◌≡◌, ℕ, List, [], ◌∷◌, map, codes, true, false, pos, Option, Some, None}
 use Rattle.flame_ops.specs.declared.integers.Op.TheVariants.{Add, Eq}
 use Rattle.flame_spec.specs.declared.conditions.Condition.{Condition, Compare, Time}
 use Rattle.flame_spec.specs.declared.conditions.Operand.TheVariants.{Number, Agent, Message}
@@ -9,7 +9,8 @@ use Rattle.flame_spec.specs.declared.trees.Expr as tree
 use Rattle.flame_spec.specs.declared.trees.Stmt as form
 use Rattle.flame_spec.specs.Names.{is_name}
 use Rattle.flame_spec.specs.WellFormed.{is_positive_int, is_well_formed_phase, is_well_formed_condition}
-use Rattle.flame_spec.specs.WellFormed.{is_well_formed_filter}
+use Rattle.flame_spec.specs.WellFormed.{is_well_formed_filter, is_well_formed_variable}
+use Rattle.flame_spec.specs.declared.models.Variable.{Variable}
 use Rattle.flame_laws.specs.SmallModels.{agent_type, function, lone_model, lone_file}
 use Rattle.flame_spec.specs.Accepted.{has_one_start, IsAccepted}
 
@@ -48,6 +49,17 @@ FormedCase =
     ≡ true ∷ true ∷ false ∷ [])
     × (map is_well_formed_condition some_conditions ≡ true ∷ false ∷ true ∷ false ∷ [])
     × (map is_well_formed_filter some_conditions ≡ true ∷ false ∷ false ∷ false ∷ [])
+
+-- a variable of this length, or a single one
+abbrev pub variable_of : Option ℕ → Variable
+variable_of length = record { name = codes "x"; length = length }
+
+-- an array has 1 to 1000 elements
+abbrev pub LengthsCase : Type 0
+LengthsCase =
+    map (λ length. is_well_formed_variable (variable_of length))
+    (None ∷ Some 0 ∷ Some 1 ∷ Some 1000 ∷ Some 1001 ∷ [])
+    ≡ true ∷ false ∷ true ∷ true ∷ false ∷ []
 
 -- a type without functions has one start state, one whose functions leave two states has two, and one whose only
 -- function enters the state that it leaves has none

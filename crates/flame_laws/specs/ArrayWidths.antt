@@ -1,5 +1,6 @@
 -- How wide rows are: in models without name faults the columns of arrays end within 4,096. [own]
-use Rattle.std.specs.Prelude.{◌≡◌, ℕ, ◌+◌, ◌<◌, ◌≤◌, ◌^◌, List, [], ◌∷◌, ◌++◌, take, length, true, Some, IsTrue, slice_get}
+use Rattle.std.specs.Prelude.{◌≡◌, ℕ, ◌+◌, ◌<◌, ◌≤◌, ◌^◌, List, [], ◌∷◌, ◌++◌, take, length, true, Some, IsTrue}
+use Rattle.std.specs.Prelude.{slice_get}
 use Rattle.std.specs.List.{list_all}
 use Rattle.std.specs.Option.{is_none}
 use Rattle.flame_spec.specs.declared.models.Model.{Model}
@@ -56,20 +57,18 @@ SinglesAreCounted =
     → list_all (λ variable. is_none variable.length) variables ≡ true
     → width variables ≡ length variables
 
--- where the parts of a model can be numbered, no memory of single variables is too wide for columns
+-- where the parts of a model can be numbered, no memory is too wide for columns
 abbrev pub MemoriesAreNarrow : Type 0
 MemoriesAreNarrow =
     (model : Model) (i : ℕ) (type : AgentType)
     → IsTrue (is_counted model)
     → slice_get model.agents i ≡ Some type
-    → list_all (λ variable. is_none variable.length) type.memory ≡ true
     → width type.memory < 2 ^ 32
 
--- nor is a message of single variables
+-- nor is a message
 abbrev pub MessagesAreNarrow : Type 0
 MessagesAreNarrow =
     (model : Model) (i : ℕ) (message : MessageType)
     → IsTrue (is_counted model)
     → slice_get model.messages i ≡ Some message
-    → list_all (λ variable. is_none variable.length) message.variables ≡ true
     → width message.variables < 2 ^ 32

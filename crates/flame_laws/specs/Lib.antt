@@ -19,5 +19,7 @@ pub mod CheckCases
 pub mod PlaceCases
 pub mod ArrayCases
 pub mod HelperCases
+pub mod JoinedLaws
+pub mod FreeBodies
 pub mod AcceptedLaws
 pub mod AcceptedCases

@@ -32,8 +32,8 @@ knows_operand scope (Number number) = true
 knows_operand scope (Agent name) = has_single scope.memory name
 knows_operand scope (Message name) = has_single scope.message name
 
--- each variable and each unit of a form is one that can be read there, where its parts tell whether theirs are; a phase
--- is a single variable too
+-- each variable of a form is a single one that can be read there, a phase too, and each unit is one of those there,
+-- where its parts tell whether theirs are
 abbrev pub knows_step : LeafScope → Condition-F Bool → Bool
 knows_step scope (Condition-F.Compare op a b) = knows_operand scope a && knows_operand scope b
 knows_step scope (Condition-F.And left right) = left && right
@@ -71,8 +71,8 @@ pub record IsFunctionKnown (declared : DeclaredNames) (memory : List Variable) (
       → slice_get function.outputs k ≡ Some message
       → is_among message declared.messages ≡ true
 
--- in a model without name faults the names that a function uses are declared, and the variables that it reads are single
--- ones of the memory or of the message
+-- in a model without name faults the names that a function uses are declared, and the variables that it reads are
+-- single ones of the memory or of the message
 abbrev pub UsedNamesAreDeclared : Type 0
 UsedNamesAreDeclared =
     (model : Model) (i j : ℕ) (type : AgentType) (function : Function)

@@ -9,7 +9,7 @@ use Rattle.flame_spec.specs.declared.models.MessageType.{MessageType}
 use Rattle.flame_spec.specs.declared.models.AgentType.{AgentType}
 use Rattle.flame_spec.specs.declared.models.Function.{Function}
 use Rattle.flame_spec.specs.Conditions.{condition_holds}
-use Rattle.flame_spec.specs.Choice.{choice}
+use Rattle.flame_spec.specs.Choice.{functions_out, choice}
 use Rattle.flame_spec.specs.Views.{view_of}
 
 -- a variable of one number
@@ -102,3 +102,33 @@ NoneOfOne = choice_at (function_of (Some x_is_9) ∷ []) 3 ≡ None
 -- a function without a condition is taken where the one before it does not hold
 abbrev pub NextWithoutCondition : Type 0
 NextWithoutCondition = choice_at (function_of (Some x_is_9) ∷ function_of None ∷ []) 3 ≡ Some 1
+
+-- ---- functions out of a state
+
+-- a function from one state to another
+abbrev pub between : List ℕ → List ℕ → Function
+between current next = record (function_of None) { current = current; next = next }
+
+-- a type with one function, and a type with three, of which two leave `s`
+abbrev pub two_types : Model
+two_types = record {
+  constants = [];
+  files = [];
+  units = [];
+  messages = [];
+  agents =
+      agent_type [] (between (codes "s") (codes "t") ∷ [])
+      ∷ agent_type [] (
+      between (codes "s") (codes "t")
+      ∷ between (codes "t") (codes "s")
+      ∷ between (codes "s") (codes "s")
+      ∷ [])
+      ∷ [];
+}
+
+-- those of the type alone, in document order
+abbrev pub OutOfStates : Type 0
+OutOfStates =
+    (functions_out two_types 1 (codes "s") ≡ 1 ∷ 3 ∷ [])
+    × (functions_out two_types 1 (codes "t") ≡ 2 ∷ [])
+    × (functions_out two_types 0 (codes "t") ≡ [])

@@ -6,6 +6,7 @@ mod accepted_laws;
 mod check_laws;
 mod fault_cases;
 mod helper_laws;
+mod joined_laws;
 mod name_laws;
 mod order_laws;
 mod tree_laws;
@@ -13,12 +14,13 @@ mod used_laws;
 mod view_laws;
 mod width_laws;
 
-pub use accepted_laws::{accepted_cases, accepted_conditions};
+pub use accepted_laws::{accepted_cases, accepted_conditions, counted_conditions};
 pub use check_laws::{
     check_faults_stand_in_files, checked_calls, checked_functions, checked_loops, checked_names,
 };
 pub use fault_cases::{array_cases, check_cases, helper_cases, place_cases};
 pub use helper_laws::{helpers_end, helpers_stand_alone};
+pub use joined_laws::{bounded_calls, free_functions, outcomes_over_boards};
 pub use name_laws::{members_differ, names_differ, unit_lengths};
 pub use order_laws::{cycles, layers, order_cases, orders, ranks, start_states_of_types};
 pub use tree_laws::trees_are_told;

@@ -4,7 +4,7 @@ ghost use Rattle.flame_spec.specs.ViewLaws.{TimeRepeats, ChoiceIsFirst, FirstIsC
 ghost use Rattle.flame_spec.specs.ViewLaws.{TakersKeepCounts, ViewKeepsCounts, ViewAscends, ViewGoesByKey};
 ghost use Rattle.flame_spec.specs.ViewLaws.{ViewTiesByContent, ViewIsTheOne, PlainViewIsBoard};
 ghost use Rattle.flame_laws.specs.ViewCases.{SortedByKey, FilteredByMemory, HoldsInWeek, FirstOfTwo, NoneOfOne};
-ghost use Rattle.flame_laws.specs.ViewCases.{NextWithoutCondition};
+ghost use Rattle.flame_laws.specs.ViewCases.{NextWithoutCondition, OutOfStates};
 
 /// Whether a time condition holds is the same again after each period of its unit.
 pub fn time_conditions()
@@ -39,4 +39,5 @@ pub fn view_cases()
     ensures first { FirstOfTwo }
     ensures none { NoneOfOne }
     ensures next { NextWithoutCondition }
+    ensures out { OutOfStates }
 {}
