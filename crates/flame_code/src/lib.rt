@@ -1,6 +1,17 @@
 //! What the code of transition functions runs on.
 #![tactic(auto)]
 
+mod codes;
 mod feeds;
+mod helpers;
+mod instrs;
+mod labels;
+pub mod laws;
+#[cfg(test)]
+mod tests;
 
+pub use codes::Code;
 pub use feeds::Feed;
+pub use helpers::Helpers;
+pub use instrs::Instr;
+pub use labels::{Label, labelled, labels_fit};

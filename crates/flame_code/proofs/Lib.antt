@@ -1,0 +1,6 @@
+pub mod InputMoves
+pub mod Safety
+pub mod Uniqueness
+pub mod Endings
+pub mod Rooms
+pub mod Labelling

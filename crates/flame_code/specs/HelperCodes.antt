@@ -1,0 +1,62 @@
+-- Codes of helpers, and which codes they fit.
+use Rattle.std.specs.Prelude.{◌≡◌, ℕ, ◌+◌, ◌<◌, ◌≤◌, ◌==◌, List, [], length, slice_get, slice_index}
+use Rattle.std.specs.List.{list_all}
+use Rattle.std.specs.Prelude.{Bool, true, false, ◌&&◌, Option, Some, None}
+use Rattle.std.specs.Option.{option_map_or}
+use Rattle.flame_spec.specs.declared.outcomes.Widths.{Widths}
+use Rattle.flame_code.specs.declared.instrs.Instr.{Instr}
+use Rattle.flame_code.specs.declared.instrs.Instr.TheVariants.{Call}
+use Rattle.flame_code.specs.Routines.{Routine}
+
+-- the codes of helpers and their numbers of parameters, in order [own]
+pub record HelperCodes : Type 0 where
+  pub routines : List Routine
+  pub parameters : List ℕ
+
+-- ---- calls
+
+-- a call has as many arguments as the helper that it names has parameters [C, 6.5.2.2]
+abbrev pub call_fits : List ℕ → Instr → Bool
+call_fits parameters (Call l h n) = option_map_or (λ count. count == n) (slice_get parameters h) false
+call_fits parameters instr = true
+
+-- all calls of the code name helpers and have the right counts of arguments [C, 6.5.2.2]
+abbrev pub calls_fit : List ℕ → Routine → Bool
+calls_fit parameters r = list_all (call_fits parameters) r.instrs
+
+-- ---- helpers
+
+-- a helper sees no memory, no inputs, no messages and no agent types [own]
+abbrev pub sees_nothing : Routine → Bool
+sees_nothing r =
+    (r.widths.memory == 0) && ((length r.widths.inputs == 0)
+    && ((length r.widths.messages == 0) && (length r.widths.agents == 0)))
+
+-- the instruction calls only helpers of a smaller height than this [own]
+abbrev pub CallsBelow : List ℕ → ℕ → Instr → Type 0
+CallsBelow heights height (Call l h n) = slice_index heights h < height
+CallsBelow heights height instr = Unit {0}
+
+-- these are heights of helpers: each is at most 64, and each helper calls only helpers of a smaller height [own]
+abbrev pub AreHeights : List Routine → List ℕ → Type 0
+AreHeights routines heights =
+    (h : ℕ) (r : Routine) → slice_get routines h ≡ Some r
+    → (slice_index heights h ≤ 64)
+    × ((p : ℕ) (i : Instr) → slice_get r.instrs p ≡ Some i → CallsBelow heights (slice_index heights h) i)
+
+-- these are helpers of one another [own]
+pub record AreHelpers (helpers : HelperCodes) : Type 0 where
+  pub counts : length helpers.parameters ≡ length helpers.routines
+  pub heights : List ℕ
+  pub bounded : AreHeights helpers.routines heights
+  pub fitting : (h : ℕ) (r : Routine) → slice_get helpers.routines h ≡ Some r
+      → calls_fit helpers.parameters r ≡ true
+  pub blind : (h : ℕ) (r : Routine) → slice_get helpers.routines h ≡ Some r → sees_nothing r ≡ true
+
+-- ---- what fits a code
+
+-- the code's calls name its helpers with the right counts, and every helper sees as many constants as the code [own]
+abbrev pub fits : HelperCodes → Routine → Bool
+fits helpers r =
+    calls_fit helpers.parameters r
+    && list_all (λ helper. helper.widths.constants == r.widths.constants) helpers.routines
