@@ -65,8 +65,8 @@ stays_current change i d feeds all k e =
     ⊎_elim
     (λ t. absurd (let bad : false ≡ true = sym (ap (λ b. cond b false (d k)) t) ∙ e in cc))
     (λ f. let old = all k (sym (ap (λ b. cond b false (d k)) f) ∙ e) in
-      let ne : k ≢ i = λ same. let bad : true ≡ false = sym (eq-eqb k i same) ∙ f in cc in
-      (old.0, ap (option_and_then last_come) (other-kept change feeds i k ne) ∙ old.1))
+    let ne : k ≢ i = λ same. let bad : true ≡ false = sym (eq-eqb k i same) ∙ f in cc in
+    (old.0, ap (option_and_then last_come) (other-kept change feeds i k ne) ∙ old.1))
     (cases_Bool (k == i))
 
 pub left_current : (i : ℕ) (d : Delivered) (feeds : List Fed) → AreCurrent d feeds → AreCurrent (delivery i false d) feeds
@@ -97,10 +97,10 @@ pub comes_current : (i : ℕ) (d : Delivered) (feeds : List Fed) → AreCurrent 
 comes_current i d feeds all h k e =
     ⊎_elim
     (λ t. let here = came_by i feeds (slice_get feeds i) refl h in let same : k ≡ i = eqb-true k i t in
-      (here.0, ap (λ j. option_and_then last_come (slice_get (at_next i feeds) j)) same ∙ here.1))
+    (here.0, ap (λ j. option_and_then last_come (slice_get (at_next i feeds) j)) same ∙ here.1))
     (λ f. let old = all k (sym (ap (λ b. cond b true (d k)) f) ∙ e) in
-      let ne : k ≢ i = λ same. let bad : true ≡ false = sym (eq-eqb k i same) ∙ f in cc in
-      (old.0, ap (option_and_then last_come) (other-kept with_more feeds i k ne) ∙ old.1))
+    let ne : k ≢ i = λ same. let bad : true ≡ false = sym (eq-eqb k i same) ∙ f in cc in
+    (old.0, ap (option_and_then last_come) (other-kept with_more feeds i k ne) ∙ old.1))
     (cases_Bool (k == i))
 
 -- ---- fields

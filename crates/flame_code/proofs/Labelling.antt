@@ -243,36 +243,36 @@ module _ (r : Routine) (labels : List Label) (fit : labels_fit r labels ≡ true
   pub labels_valid : IsValid r
   labels_valid = record {
     ends = λ p e.
-      let last = returns (slice_get r.instrs (length r.instrs - 1)) (and_parts _ _ (and_parts _ _ fit).1).0 in
-      let q : length r.instrs - 1 ≡ p = omega arith in
-      subst (λ n. slice_get r.instrs n ≡ Some Return) q last;
+        let last = returns (slice_get r.instrs (length r.instrs - 1)) (and_parts _ _ (and_parts _ _ fit).1).0 in
+        let q : length r.instrs - 1 ≡ p = omega arith in
+        subst (λ n. slice_get r.instrs n ≡ Some Return) q last;
     some =
-      let s = start_of (slice_get labels 0) (and_parts _ _ fit).0 in
-      let w = slice_get_within labels 0 s.0 s.1 in
-      omega (arith, same_length r labels 0 r.instrs labels all_of);
+        let s = start_of (slice_get labels 0) (and_parts _ _ fit).0 in
+        let w = slice_get_within labels 0 s.0 s.1 in
+        omega (arith, same_length r labels 0 r.instrs labels all_of);
     lands = λ p t i at aims.
-      let l = aim_label p i at t aims in
-      let w = slice_get_within labels t l.label l.at in
-      omega (arith, same_length r labels 0 r.instrs labels all_of);
+        let l = aim_label p i at t aims in
+        let w = slice_get_within labels t l.label l.at in
+        omega (arith, same_length r labels 0 r.instrs labels all_of);
     forward = λ p i at. forward_of p i (part_forward p i at);
     spends = λ p t i j at aims le there.
-      ⊎_elim (λ lt. let w : p < t = ltb-true _ _ lt in absurd (omega arith))
-      (λ s. spends_there p t j (slice_get r.instrs t) there s)
-      (either _ _ (and_parts _ _ (aimed p i at t aims)).1);
+        ⊎_elim (λ lt. let w : p < t = ltb-true _ _ lt in absurd (omega arith))
+        (λ s. spends_there p t j (slice_get r.instrs t) there s)
+        (either _ _ (and_parts _ _ (aimed p i at t aims)).1);
     level = λ {p} {h} {k} {d} {e} a b.
-      let x = says p h d a in let y = says p k e b in
-      let same = ap (λ (l : Label). l.height) (same_label p x.label y.label x.at y.at) in
-      omega (arith, x.height, y.height);
+        let x = says p h d a in let y = says p k e b in
+        let same = ap (λ (l : Label). l.height) (same_label p x.label y.label x.at y.at) in
+        omega (arith, x.height, y.height);
     pops = λ {p} {h} {d} {i} path at.
-      let x = says p h d path in
-      let l = here p i at in
-      let same = ap (λ (l : Label). l.height) (same_label p x.label l.label x.at l.at) in
-      omega (arith, part_pops p i at, x.height);
+        let x = says p h d path in
+        let l = here p i at in
+        let same = ap (λ (l : Label). l.height) (same_label p x.label l.label x.at l.at) in
+        omega (arith, part_pops p i at, x.height);
     reading = λ {p} {h} {d} {i} input path at reads_it.
-      let x = says p h d path in
-      let l = here p i at in
-      let same = same_label p l.label x.label l.at x.at in
-      x.knows input (subst (λ (y : Label). has_input y.rows input ≡ true) same (read_input l.label.rows (reads i) input reads_it (part_reads p i at)));
+        let x = says p h d path in
+        let l = here p i at in
+        let same = same_label p l.label x.label l.at x.at in
+        x.knows input (subst (λ (y : Label). has_input y.rows input ≡ true) same (read_input l.label.rows (reads i) input reads_it (part_reads p i at)));
     within = λ p i at. within_of r.widths i (part_within p i at);
   }
 

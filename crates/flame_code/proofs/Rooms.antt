@@ -30,12 +30,12 @@ lower r p h d starts k le = let e : 0 ≡ k = omega arith in subst (Passed r) e 
 lower r p h d (goes {p = q} {h = g} {d = b} {i = i} path at on moves) k le =
     ⊎_elim (λ lt. lower r q g b path k (omega arith))
     (λ ge. let m = leaves_most r.widths i in let e : h ≡ k = omega arith in
-      subst (Passed r) e (record { place = p; delivered = d; path = goes path at on moves }))
+    subst (Passed r) e (record { place = p; delivered = d; path = goes path at on moves }))
     (cases_lt k (g + 1))
 lower r p h d (jumps {p = q} {h = g} {d = b} {i = i} path at aims moves) k le =
     ⊎_elim (λ lt. lower r q g b path k (omega arith))
     (λ ge. let m = leaves_most r.widths i in let e : h ≡ k = omega arith in
-      subst (Passed r) e (record { place = p; delivered = d; path = jumps path at aims moves }))
+    subst (Passed r) e (record { place = p; delivered = d; path = jumps path at aims moves }))
     (cases_lt k (g + 1))
 
 -- so many different numbers below n are at most n
@@ -63,12 +63,12 @@ moved_apart : (f : ℕ → ℕ) (m n : ℕ) → AreApart f (suc m) (suc n) → (
 moved_apart f m n all j k lj lk e =
     ⊎_elim
     (λ x. ⊎_elim (λ y. all.apart j k (omega arith) (omega arith) (x.0 ∙ sym y.0))
-      (λ y. let same : m ≡ k = all.apart m k (omega arith) (omega arith) (sym x.1 ∙ e ∙ y.1) in omega arith)
-      (moved_at f m n k))
+    (λ y. let same : m ≡ k = all.apart m k (omega arith) (omega arith) (sym x.1 ∙ e ∙ y.1) in omega arith)
+    (moved_at f m n k))
     (λ x. ⊎_elim
-      (λ y. let same : j ≡ m = all.apart j m (omega arith) (omega arith) (sym x.1 ∙ e ∙ y.1) in omega arith)
-      (λ y. all.apart j k (omega arith) (omega arith) (sym x.1 ∙ e ∙ y.1))
-      (moved_at f m n k))
+    (λ y. let same : j ≡ m = all.apart j m (omega arith) (omega arith) (sym x.1 ∙ e ∙ y.1) in omega arith)
+    (λ y. all.apart j k (omega arith) (omega arith) (sym x.1 ∙ e ∙ y.1))
+    (moved_at f m n k))
     (moved_at f m n j)
 
 crowded : (m n : ℕ) (f : ℕ → ℕ) → AreApart f m n → m ≤ n
@@ -99,8 +99,8 @@ module _ (r : Routine) (valid : IsValid r) (p h : ℕ) (d : Delivered) (path : P
       let le = crowded (suc h) (length r.instrs) place_at (record {
         below = λ k lt. let x = here_at k lt in path_within r valid (place_at k) k x.0 x.1;
         apart = λ j k lj lk e.
-          let x = here_at j lj in let y = here_at k lk in
-          valid.level (subst (λ q. Path r q j x.0) e x.1) y.1;
+            let x = here_at j lj in let y = here_at k lk in
+            valid.level (subst (λ q. Path r q j x.0) e x.1) y.1;
       }) in
       omega arith
 

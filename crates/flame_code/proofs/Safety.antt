@@ -106,8 +106,8 @@ module _ (r : Routine) (valid : IsValid r) where
       let w : p < length r.instrs = slice_get_within r.instrs p i at in
       ⊎_elim (λ lt. lt)
       (λ le. let e : p + 1 ≡ length r.instrs = omega arith in
-        let last : i ≡ Return = let a : Some i ≡ Some Return = sym at ∙ valid.ends p e in cc in
-        absurd (let bad : false ≡ true = ap goes_on (sym last) ∙ g in cc))
+      let last : i ≡ Return = let a : Some i ≡ Some Return = sym at ∙ valid.ends p e in cc in
+      absurd (let bad : false ≡ true = ap goes_on (sym last) ∙ g in cc))
       (cases_lt (p + 1) (length r.instrs))
 
   rank_here : (p : ℕ) (i : Instr) → p < length r.instrs → slice_get r.instrs p ≡ Some i → GoesForward p i
@@ -156,11 +156,11 @@ module _ (r : Routine) (valid : IsValid r) where
         rows = subst (HaveWidths r.widths.inputs) (sym rows) stands.rows;
       };
       falls =
-        let m = rank_most d.place (let w = more_code c.place i at on_ in omega arith) in
-        let w = here in
-        let k = rank_c in
-        let e = ap (λ f. f * span r) fuel in
-        omega arith;
+          let m = rank_most d.place (let w = more_code c.place i at on_ in omega arith) in
+          let w = here in
+          let k = rank_c in
+          let e = ap (λ f. f * span r) fuel in
+          omega arith;
       less = omega arith;
       rows = rows;
     }
@@ -207,8 +207,8 @@ module _ (r : Routine) (valid : IsValid r) where
         let b = valid.lands c.place t i at aims in
         ⊎_elim (λ lt. let m = rank_most t b in omega arith)
         (λ le. let j = some_instr r.instrs t b in
-          let s = rank_back c.place t j.0 here j.1 (valid.spends c.place t i j.0 at aims le j.1) in
-          subst (λ o. rank_at (length r.instrs) o t < rank_at (length r.instrs) (Some i) c.place) (sym j.1) (omega arith))
+        let s = rank_back c.place t j.0 here j.1 (valid.spends c.place t i j.0 at aims le j.1) in
+        subst (λ o. rank_at (length r.instrs) o t < rank_at (length r.instrs) (Some i) c.place) (sym j.1) (omega arith))
         (cases_lt c.place t)
 
     -- on to the next place, with the same inputs

@@ -45,18 +45,22 @@ fn call_fits(parameters: &[u32], instr: &Instr) -> bool
 fn calls_fit(parameters: &[u32], code: &Code) -> bool
     ensures { result ≡ fitting_calls parameters.now code.now }
 {
-    code.instrs().iter().all(|instr: &Instr| -> bool
-        ensures { result ≡ fitting parameters.entry.now instr.now }
-    { call_fits(parameters, instr) })
+    code.instrs().iter().all(
+        |instr: &Instr| -> bool
+            ensures { result ≡ fitting parameters.entry.now instr.now }
+        { call_fits(parameters, instr) },
+    )
 }
 
 /// Whether all codes see so many constants.
 fn constants_fit(codes: &[Code], constants: u32) -> bool
     ensures { result ≡ list_all (λ helper. helper.widths.constants == constants) codes.now }
 {
-    codes.iter().all(|helper: &Code| -> bool
-        ensures { result ≡ (helper.now.widths.constants == constants) }
-    { helper.widths().constants == constants })
+    codes.iter().all(
+        |helper: &Code| -> bool
+            ensures { result ≡ (helper.now.widths.constants == constants) }
+        { helper.widths().constants == constants },
+    )
 }
 
 impl Helpers {

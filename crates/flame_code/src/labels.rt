@@ -159,9 +159,11 @@ fn is_within(widths: &Widths, instr: &Instr) -> bool
 fn has_input(rows: &[u32], input: u32) -> bool
     ensures { result ≡ is_among rows.now input }
 {
-    rows.iter().any(|other: &u32| -> bool
-        ensures { result ≡ (other.now == input) }
-    { *other == input })
+    rows.iter().any(
+        |other: &u32| -> bool
+            ensures { result ≡ (other.now == input) }
+        { *other == input },
+    )
 }
 
 /// Whether of this input a row was delivered behind the instruction, where the run goes on at the next place.
@@ -190,18 +192,22 @@ fn has_jumped(instr: &Instr, rows: &[u32], input: u32) -> bool
 fn all_passed(instr: &Instr, rows: &[u32], inputs: &[u32]) -> bool
     ensures { result ≡ list_all (is_passed instr.now rows.now) inputs.now }
 {
-    inputs.iter().all(|input: &u32| -> bool
-        ensures { result ≡ is_passed instr.entry.now rows.entry.now input.now }
-    { has_passed(instr, rows, *input) })
+    inputs.iter().all(
+        |input: &u32| -> bool
+            ensures { result ≡ is_passed instr.entry.now rows.entry.now input.now }
+        { has_passed(instr, rows, *input) },
+    )
 }
 
 /// Whether all these inputs have a row behind the instruction, where the run goes on at its target.
 fn all_jumped(instr: &Instr, rows: &[u32], inputs: &[u32]) -> bool
     ensures { result ≡ list_all (is_jumped instr.now rows.now) inputs.now }
 {
-    inputs.iter().all(|input: &u32| -> bool
-        ensures { result ≡ is_jumped instr.entry.now rows.entry.now input.now }
-    { has_jumped(instr, rows, *input) })
+    inputs.iter().all(
+        |input: &u32| -> bool
+            ensures { result ≡ is_jumped instr.entry.now rows.entry.now input.now }
+        { has_jumped(instr, rows, *input) },
+    )
 }
 
 /// Whether the height behind the instruction is the label's.
@@ -268,7 +274,15 @@ fn goes_fit(widths: &Widths, labels: &[Label], place: usize, instr: &Instr, here
 }
 
 /// Whether the label of the target fits, and a jump back spends fuel.
-fn target_fits(instrs: &[Instr], widths: &Widths, labels: &[Label], place: usize, instr: &Instr, here: &Label, to: u32) -> bool
+fn target_fits(
+    instrs: &[Instr],
+    widths: &Widths,
+    labels: &[Label],
+    place: usize,
+    instr: &Instr,
+    here: &Label,
+    to: u32,
+) -> bool
     ensures { result ≡ target_fitting (record { instrs = instrs.now; widths = widths.now }) labels.now place instr.now here.now (Some to) }
 {
     let to = to as usize;
@@ -295,7 +309,14 @@ fn reads_fit(instr: &Instr, here: &Label) -> bool
 }
 
 /// Whether the target, if any, fits.
-fn aims_fit(instrs: &[Instr], widths: &Widths, labels: &[Label], place: usize, instr: &Instr, here: &Label) -> bool
+fn aims_fit(
+    instrs: &[Instr],
+    widths: &Widths,
+    labels: &[Label],
+    place: usize,
+    instr: &Instr,
+    here: &Label,
+) -> bool
     ensures { result ≡ target_fitting (record { instrs = instrs.now; widths = widths.now }) labels.now place instr.now here.now (targeted instr.now) }
 {
     match target(instr) {
@@ -305,7 +326,14 @@ fn aims_fit(instrs: &[Instr], widths: &Widths, labels: &[Label], place: usize, i
 }
 
 /// Whether the label of a place fits its instruction and the labels of the places behind it.
-fn place_fits(instrs: &[Instr], widths: &Widths, labels: &[Label], place: usize, instr: &Instr, here: &Label) -> bool
+fn place_fits(
+    instrs: &[Instr],
+    widths: &Widths,
+    labels: &[Label],
+    place: usize,
+    instr: &Instr,
+    here: &Label,
+) -> bool
     requires { place + 1 < 2 ^ 64 }
     ensures { result ≡ place_fitting (record { instrs = instrs.now; widths = widths.now }) labels.now place instr.now here.now }
 {
@@ -340,7 +368,14 @@ fn all_fit(instrs: &[Instr], widths: &Widths, labels: &[Label]) -> bool
         return false;
     }
     for place in 0..instrs.len() {
-        if !place_fits(instrs, widths, labels, place, instr_at(instrs, place), label_at(labels, place)) {
+        if !place_fits(
+            instrs,
+            widths,
+            labels,
+            place,
+            instr_at(instrs, place),
+            label_at(labels, place),
+        ) {
             return false;
         }
     }

@@ -37,7 +37,12 @@ fn code(alloc: Global, instrs: &[Instr], heights: &[u32]) -> Result<Option<Code>
 #[test]
 fn labels_show_that_codes_are_valid(rt: HostRuntime) -> Result<(), Fail> {
     let alloc = rt.alloc();
-    let instrs = [Instr::Mem(0), Instr::SetLoc(2), Instr::Push(0), Instr::Return];
+    let instrs = [
+        Instr::Mem(0),
+        Instr::SetLoc(2),
+        Instr::Push(0),
+        Instr::Return,
+    ];
     let made = code(alloc, &instrs, &[0, 1, 0, 1])?;
     assert!(rt; made.is_some());
     let Some(made) = made else {
