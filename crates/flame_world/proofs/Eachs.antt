@@ -1,0 +1,96 @@
+-- What holds of each element of a list, and of two lists place by place.
+use Rattle.std.proofs.Common.{◌≡◌, ℕ, zero, suc, ◌+◌, ◌<◌, Bool, true, false, cond, List, [], ◌∷◌, ◌++◌, length, map, Option, Some, None, refl, ap, ◌∙◌, arith, All, subst}
+use Rattle.std.specs.Prelude.{slice_get, slice_index_or}
+use Rattle.std.specs.List.{filter, filter_map, flat_map, cons_option, AllZip, zip}
+use Rattle.std.specs.declared.cmp.Ordering.{Ordering}
+use Rattle.std.specs.Ordering.{is_gt}
+use Rattle.flame_rows.specs.Sorted.{with_one, sorted_by}
+use Rattle.flame_sense.specs.RangeLaws.{Each, IfAny}
+use Rattle.flame_world.specs.Fields.{changed}
+
+pub all_each : {X : Type 0} (P : X → Type 0) (xs : List X) → All P xs → Each P xs
+all_each P [] all = tt
+all_each P (x ∷ xs) all = (all 0 x (omega arith), all_each P xs (λ k d h. all (suc k) d (omega (arith, h))))
+
+pub each_append : {X : Type 0} (P : X → Type 0) (xs ys : List X) → Each P xs → Each P ys → Each P (xs ++ ys)
+each_append P [] ys one two = two
+each_append P (x ∷ xs) ys one two = (one.0, each_append P xs ys one.1 two)
+
+pub each_map : {X Y : Type 0} (P : X → Type 0) (Q : Y → Type 0) (f : X → Y) → ((x : X) → P x → Q (f x)) → (xs : List X) → Each P xs → Each Q (map f xs)
+each_map P Q f go [] all = tt
+each_map P Q f go (x ∷ xs) all = (go x all.0, each_map P Q f go xs all.1)
+
+pub each_filter : {X : Type 0} (P : X → Type 0) (p : X → Bool) (xs : List X) → Each P xs → Each P (filter p xs)
+each_filter P p [] all = tt
+each_filter P p (x ∷ xs) all =
+    elim (p x) as (λ t. Each P (cond t (x ∷ filter p xs) (filter p xs))) [
+      | true ↦ (all.0, each_filter P p xs all.1)
+      | false ↦ each_filter P p xs all.1
+    ]
+
+-- what passes has passed
+pub each_passing : {X : Type 0} (P Q : X → Type 0) (p : X → Bool) → ((x : X) → p x ≡ true → P x → Q x) → (xs : List X) → Each P xs → Each Q (filter p xs)
+each_passing P Q p go [] all = tt
+each_passing P Q p go (x ∷ xs) all =
+    (elim (p x) as (λ t. p x ≡ t → Each Q (cond t (x ∷ filter p xs) (filter p xs))) [
+      | true ↦ λ passes. (go x passes all.0, each_passing P Q p go xs all.1)
+      | false ↦ λ fails. each_passing P Q p go xs all.1
+    ])
+    refl
+
+each_cons : {Y : Type 0} (Q : Y → Type 0) (o : Option Y) (ys : List Y) → IfAny Q o → Each Q ys → Each Q (cons_option o ys)
+each_cons Q None ys here rest = rest
+each_cons Q (Some y) ys here rest = (here, rest)
+
+pub each_filter_map : {X Y : Type 0} (P : X → Type 0) (Q : Y → Type 0) (f : X → Option Y) → ((x : X) → P x → IfAny Q (f x)) → (xs : List X) → Each P xs → Each Q (filter_map f xs)
+each_filter_map P Q f go [] all = tt
+each_filter_map P Q f go (x ∷ xs) all = each_cons Q (f x) (filter_map f xs) (go x all.0) (each_filter_map P Q f go xs all.1)
+
+pub each_flat_map : {X Y : Type 0} (P : X → Type 0) (Q : Y → Type 0) (f : X → List Y) → ((x : X) → P x → Each Q (f x)) → (xs : List X) → Each P xs → Each Q (flat_map f xs)
+each_flat_map P Q f go [] all = tt
+each_flat_map P Q f go (x ∷ xs) all = each_append Q (f x) (flat_map f xs) (go x all.0) (each_flat_map P Q f go xs all.1)
+
+each_with_one : {X : Type 0} (P : X → Type 0) (order : X → X → Ordering) (x : X) (xs : List X) → P x → Each P xs → Each P (with_one order x xs)
+each_with_one P order x [] here all = (here, tt)
+each_with_one P order x (y ∷ ys) here all =
+    elim (is_gt (order x y)) as (λ t. Each P (cond t (y ∷ with_one order x ys) (x ∷ y ∷ ys))) [
+      | true ↦ (all.0, each_with_one P order x ys here all.1)
+      | false ↦ (here, all)
+    ]
+
+pub each_sorted : {X : Type 0} (P : X → Type 0) (order : X → X → Ordering) (xs : List X) → Each P xs → Each P (sorted_by order xs)
+each_sorted P order [] all = tt
+each_sorted P order (x ∷ xs) all = each_with_one P order x (sorted_by order xs) all.0 (each_sorted P order xs all.1)
+
+-- ---- two lists
+
+pub zip_at : {X Y : Type 0} (R : X → Y → Type 0) (xs : List X) (ys : List Y) (k : ℕ) (x : X) (d : Y)
+    → AllZip R xs ys → slice_get xs k ≡ Some x → R x (slice_index_or ys k d)
+zip_at R [] ys k x d all at = absurd cc
+zip_at R (here ∷ xs) [] k x d all at = absurd all
+zip_at R (here ∷ xs) (y ∷ ys) zero x d all at = let same : here ≡ x = cc in subst (λ z. R z y) same all.0
+zip_at R (here ∷ xs) (y ∷ ys) (suc k) x d all at = zip_at R xs ys k x d all.1 at
+
+pub zip_changed : {X Y : Type 0} (R : X → Y → Type 0) (xs : List X) (ys : List Y) (k : ℕ) (f : Y → Y)
+    → AllZip R xs ys → ((x : X) (y : Y) → slice_get xs k ≡ Some x → R x y → R x (f y)) → AllZip R xs (changed k f ys)
+zip_changed R [] [] k f all go = tt
+zip_changed R [] (y ∷ ys) k f all go = absurd all
+zip_changed R (x ∷ xs) [] k f all go = absurd all
+zip_changed R (x ∷ xs) (y ∷ ys) zero f all go = (go x y refl all.0, all.1)
+zip_changed R (x ∷ xs) (y ∷ ys) (suc k) f all go = (all.0, zip_changed R xs ys k f all.1 go)
+
+pub zip_each : {X Y : Type 0} (R : X → Y → Type 0) (Q : Y → Type 0) → ((x : X) (y : Y) → R x y → Q y) → (xs : List X) (ys : List Y) → AllZip R xs ys → Each Q ys
+zip_each R Q go [] [] all = tt
+zip_each R Q go [] (y ∷ ys) all = absurd all
+zip_each R Q go (x ∷ xs) [] all = absurd all
+zip_each R Q go (x ∷ xs) (y ∷ ys) all = (go x y all.0, zip_each R Q go xs ys all.1)
+
+pub each_index : {X : Type 0} (P : X → Type 0) (d : X) (xs : List X) (k : ℕ) → P d → Each P xs → P (slice_index_or xs k d)
+each_index P d [] k none all = none
+each_index P d (x ∷ xs) zero none all = all.0
+each_index P d (x ∷ xs) (suc k) none all = each_index P d xs k none all.1
+
+pub each_changed : {X : Type 0} (P : X → Type 0) (k : ℕ) (f : X → X) → ((x : X) → P x → P (f x)) → (xs : List X) → Each P xs → Each P (changed k f xs)
+each_changed P k f go [] all = tt
+each_changed P zero f go (x ∷ xs) all = (go x all.0, all.1)
+each_changed P (suc k) f go (x ∷ xs) all = (all.0, each_changed P k f go xs all.1)

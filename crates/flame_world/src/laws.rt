@@ -1,0 +1,31 @@
+//! Laws of iterations. Each function is its contract: it computes nothing.
+
+ghost use Rattle.flame_world.specs.IterationLaws.{AgentsHaveNoOrder, EqualAgentsFareAlike, NobodyChangesNothing, NoFunctionsNoChange};
+ghost use Rattle.flame_world.specs.CountLaws.{AllAgentsBegin, SurvivorsReplaceTakers, SurvivorsAndBirthsRemain};
+ghost use Rattle.flame_world.specs.WorldLaws.{WorldsStayWorlds};
+
+/// An iteration depends on its agents as a multiset alone, and agents with equal memory fare alike.
+pub fn what_counts()
+    ensures order { AgentsHaveNoOrder }
+    ensures equal { EqualAgentsFareAlike }
+{}
+
+/// A function that nobody takes changes nothing, and an iteration of a model without functions is the world itself.
+pub fn where_nothing_happens()
+    ensures nobody { NobodyChangesNothing }
+    ensures none { NoFunctionsNoChange }
+{}
+
+/// An iteration of a world of the model ends with a world of the model: one bag for each type, with memories as wide as
+/// declared and numbers within int. Its boards are boards of the model.
+pub fn worlds_stay_worlds()
+    ensures { WorldsStayWorlds }
+{}
+
+/// How many agents there are: an iteration begins with those of the world; where a function runs, its survivors come in
+/// place of its takers; at the end there are those that are left and the births.
+pub fn numbers_of_agents()
+    ensures begin { AllAgentsBegin }
+    ensures run { SurvivorsReplaceTakers }
+    ensures end { SurvivorsAndBirthsRemain }
+{}

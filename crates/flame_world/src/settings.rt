@@ -1,0 +1,75 @@
+//! What the agents of a piece have before them.
+
+ghost use Rattle.std.specs.Prelude.{IsTrue, ◌↔◌, ◌≡◌, map};
+ghost use Rattle.std.specs.Arc.{arc_value};
+ghost use Rattle.flame_world.specs.Settings.{SameSetting};
+
+use flame_index::Frozen;
+use flame_rows::{Row, Same, Seq};
+use flame_spec::Source;
+use std::sync::Arc;
+
+/// What the agents of a piece have before them.
+#[derive(Clone, Copy)]
+pub struct Setting<'a> {
+    /// The model and its function files.
+    pub source: &'a Source,
+    /// The constants, in the order of the model.
+    pub constants: &'a Row,
+    /// The board of each input of the function, in their order.
+    pub boards: &'a Seq<Arc<Frozen>>,
+    /// The number of the iteration.
+    pub iteration: i32,
+    /// The fuel of each agent.
+    pub fuel: u32,
+}
+
+/// Whether both have the same rows in the same order.
+fn same_rows(ones: &[Row], twos: &[Row]) -> bool
+    ensures { IsTrue result ↔ (ones.now ≡ twos.now) }
+{
+    if ones.len() != twos.len() {
+        return false;
+    }
+    for i in 0..ones.len() {
+        if !ones[i].same(&twos[i]) {
+            return false;
+        }
+    }
+    true
+}
+
+/// Whether both boards have the same messages.
+fn same_board(one: &Arc<Frozen>, two: &Arc<Frozen>) -> bool
+    ensures { IsTrue result ↔ (arc_value one.now ≡ arc_value two.now) }
+{
+    same_rows(one.bag().rows(), two.bag().rows())
+}
+
+/// Whether both are the same boards in the same order.
+fn same_boards(ones: &[Arc<Frozen>], twos: &[Arc<Frozen>]) -> bool
+    ensures { IsTrue result ↔ (map arc_value ones.now ≡ map arc_value twos.now) }
+{
+    if ones.len() != twos.len() {
+        return false;
+    }
+    for i in 0..ones.len() {
+        if !same_board(&ones[i], &twos[i]) {
+            return false;
+        }
+    }
+    true
+}
+
+impl Setting<'_> {
+    /// Whether the two have equal sources, constants, boards, iterations and fuels.
+    pub fn same(&self, other: &Setting<'_>) -> bool
+        ensures { IsTrue result ↔ SameSetting self.now other.now }
+    {
+        self.source.same(other.source)
+            && self.constants.same(other.constants)
+            && same_boards(self.boards.items(), other.boards.items())
+            && self.iteration == other.iteration
+            && self.fuel == other.fuel
+    }
+}
