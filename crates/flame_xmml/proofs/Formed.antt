@@ -1,7 +1,7 @@
 -- What a value without shape faults stands for is well formed.
 use Rattle.std.proofs.Common.{◌≡◌, ℕ, zero, suc, ◌+◌, ◌<◌, List, [], ◌∷◌, ◌++◌, map, Bool, true, false, cond, refl, sym, ap, ◌∙◌, subst, arith, rules, codes}
 use Rattle.std.proofs.Common.{Option, Some, None, not, ◌&&◌}
-use Rattle.std.specs.Prelude.{ℤ, pos, is_some, is_none, unwrap_or, option_map, option_and_then, int_le}
+use Rattle.std.specs.Prelude.{ℤ, pos, negsuc, unsigned_abs, is_some, is_none, unwrap_or, option_map, option_and_then, int_le}
 use Rattle.std.specs.List.{list_all}
 use Rattle.std.specs.Option.{option_map_or}
 use Rattle.std.specs.Str.{bytes_eq}
@@ -22,37 +22,37 @@ use Rattle.flame_spec.specs.Names.{is_name, is_filled}
 use Rattle.flame_spec.specs.Paths.{root, at_key, at_number}
 use Rattle.flame_spec.specs.WellFormed.{is_positive_int, is_comparison, is_well_formed_operand, is_well_formed_phase}
 use Rattle.flame_spec.specs.WellFormed.{well_formed_step, is_well_formed_filter, is_well_formed_condition, is_well_formed_sort}
-use Rattle.flame_spec.specs.WellFormed.{is_well_formed_unit, is_well_formed_variable, is_well_formed_message, is_well_formed_input}
+use Rattle.flame_spec.specs.WellFormed.{is_array_length, is_well_formed_unit, is_well_formed_variable, is_well_formed_message, is_well_formed_input}
 use Rattle.flame_spec.specs.WellFormed.{is_well_formed_function, is_well_formed_agent, is_well_formed}
 use Rattle.flame_xmml.specs.declared.faults.Shape.{Shape}
 use Rattle.flame_xmml.specs.declared.faults.Want.{Want}
 use Rattle.flame_xmml.specs.declared.words.Connective.{Connective}
 use Rattle.flame_xmml.specs.declared.words.Connective.TheVariants.{Compare, And, Or}
 use Rattle.flame_xmml.specs.ValueParts.{part, has, is_object, members, wanted, leaf, required, optional, object_faults, list_faults}
-use Rattle.flame_xmml.specs.Wants.{name_of, filled_of, int_of, positive_of, held, whole_of, either, after_prefix, name_after}
+use Rattle.flame_xmml.specs.Wants.{name_of, filled_of, int_of, positive_of, length_of, held, whole_of, either, after_prefix, name_after}
 use Rattle.flame_xmml.specs.Wants.{agent_named, message_named, number_named, operand_of, phase_of, connective_of, connective_named}
 use Rattle.flame_xmml.specs.ConditionShapes.{side_of, time_of, sides_of, condition_of, condition_faults}
 use Rattle.flame_xmml.specs.ConditionShapes.{sides_keys, time_keys}
-use Rattle.flame_xmml.specs.ShapeFaults.{variable_faults, unit_faults, environment_faults, message_faults, sort_faults}
+use Rattle.flame_xmml.specs.ShapeFaults.{constant_faults, variable_faults, unit_faults, environment_faults, row_faults, sort_faults}
 use Rattle.flame_xmml.specs.ShapeFaults.{input_faults, output_faults, function_faults, agent_faults, xmodel_faults, shape_faults}
-use Rattle.flame_xmml.specs.ShapeFaults.{variable_keys, unit_keys, environment_keys, message_keys, sort_keys, input_keys}
-use Rattle.flame_xmml.specs.ShapeFaults.{output_keys, function_keys, agent_keys, xmodel_keys}
-use Rattle.flame_xmml.specs.LeafShapes.{file_faults}
-use Rattle.flame_xmml.specs.Models.{name_at, filled, period_at, list_at, there, variable_of, unit_of, message_of}
+use Rattle.flame_xmml.specs.ShapeFaults.{typed_keys, variable_keys, unit_keys, environment_keys, row_keys, sort_keys, input_keys}
+use Rattle.flame_xmml.specs.ShapeFaults.{output_keys, function_keys, agent_keys, xmodel_keys, plain}
+use Rattle.flame_xmml.specs.LeafShapes.{file_faults, int_faults}
+use Rattle.flame_xmml.specs.Models.{name_at, filled, period_at, length_at, list_at, there, variable_of, unit_of, message_of}
 use Rattle.flame_xmml.specs.Models.{sort_of, input_of, function_of, agent_of, model_of}
 use Rattle.flame_xmml.proofs.Layers.{part-depth, condition_faults-open, condition_of-open}
 
 -- ---- lists and tests
 
-left-none : {X : Type 0} (xs ys : List X) → xs ++ ys ≡ [] → xs ≡ []
+pub left-none : {X : Type 0} (xs ys : List X) → xs ++ ys ≡ [] → xs ≡ []
 left-none [] ys none = refl
 left-none (x ∷ xs) ys none = cc
 
-right-none : {X : Type 0} (xs ys : List X) → xs ++ ys ≡ [] → ys ≡ []
+pub right-none : {X : Type 0} (xs ys : List X) → xs ++ ys ≡ [] → ys ≡ []
 right-none [] ys none = none
 right-none (x ∷ xs) ys none = cc
 
-both : (a b : Bool) → a ≡ true → b ≡ true → a && b ≡ true
+pub both : (a b : Bool) → a ≡ true → b ≡ true → a && b ≡ true
 both a b e f = cc
 
 and_right : (a b : Bool) → a && b ≡ true → b ≡ true
@@ -60,7 +60,7 @@ and_right true b e = e
 and_right false b e = cc
 
 -- what is there passes
-abbrev passes : {X : Type 0} → (X → Bool) → Option X → Bool
+abbrev pub passes : {X : Type 0} → (X → Bool) → Option X → Bool
 passes test o = option_map_or test o true
 
 passes-or : {X : Type 0} (test : X → Bool) (o : Option X) (d : X) → passes test o ≡ true → test d ≡ true → test (unwrap_or o d) ≡ true
@@ -89,7 +89,7 @@ passes-either test (Some x) b here other = here
 
 -- ---- parts of values
 
-object-is : (faults : List ℕ → Data → List Shape) (path : List ℕ) (value : Data)
+pub object-is : (faults : List ℕ → Data → List Shape) (path : List ℕ) (value : Data)
     → object_faults faults path value ≡ [] → faults path value ≡ []
 object-is faults path value none =
     elim (is_object value) as (λ b. cond b (faults path value) (wanted Want.Object path) ≡ [] → faults path value ≡ []) [
@@ -97,7 +97,7 @@ object-is faults path value none =
       | false ↦ λ e. cc
     ] none
 
-leaf-is : {X : Type 0} (want : Want) (read : Data → Option X) (path : List ℕ) (value : Data)
+pub leaf-is : {X : Type 0} (want : Want) (read : Data → Option X) (path : List ℕ) (value : Data)
     → leaf want read path value ≡ [] → is_some (read value) ≡ true
 leaf-is want read path value none =
     elim (is_some (read value)) as (λ b. cond b [] (wanted want path) ≡ [] → b ≡ true) [
@@ -105,17 +105,17 @@ leaf-is want read path value none =
       | false ↦ λ e. cc
     ] none
 
-name-is : (want : Want) (path key : List ℕ) (value : Data)
+pub name-is : (want : Want) (path key : List ℕ) (value : Data)
     → leaf want name_of path (part key value) ≡ [] → is_name (name_at key value) ≡ true
 name-is want path key value none =
     passes-there is_name (name_of (part key value)) [] (passes-kept is_name (as_str (part key value))) (leaf-is want name_of path (part key value) none)
 
-filled-is : (want : Want) (path : List ℕ) (value : Data)
+pub filled-is : (want : Want) (path : List ℕ) (value : Data)
     → leaf want filled_of path value ≡ [] → is_filled (filled value) ≡ true
 filled-is want path value none =
     passes-there is_filled (filled_of value) [] (passes-kept is_filled (as_str value)) (leaf-is want filled_of path value none)
 
-optional-is : (faults : List ℕ → Data → List Shape) (key path : List ℕ) (value : Data)
+pub optional-is : (faults : List ℕ → Data → List Shape) (key path : List ℕ) (value : Data)
     → optional faults key path value ≡ [] → has key value ≡ true → faults (at_key path key) (part key value) ≡ []
 optional-is faults key path value none is =
     sym (ap (λ b. cond b (faults (at_key path key) (part key value)) []) is) ∙ none
@@ -157,7 +157,7 @@ list-is faults read test each path value none = by (members value) none
     by None e = cc
     by (Some values) e = all-are (λ number value. faults (at_number path number) value) read test (λ i value. each (at_number path i) value) 0 values e
 
-no_members : (value : Data) → is_none (as_null value) ≡ false → members value ≡ None
+pub no_members : (value : Data) → is_none (as_null value) ≡ false → members value ≡ None
 no_members null e = refl
 no_members (boolean b) e = cc
 no_members (number n) e = cc
@@ -165,7 +165,7 @@ no_members (string s) e = cc
 no_members (array items) e = cc
 no_members (object entries) e = cc
 
-is_null : (value : Data) → is_none (as_null value) ≡ false → value ≡ null
+pub is_null : (value : Data) → is_none (as_null value) ≡ false → value ≡ null
 is_null null e = refl
 is_null (boolean b) e = cc
 is_null (number n) e = cc
@@ -174,7 +174,7 @@ is_null (array items) e = cc
 is_null (object entries) e = cc
 
 -- the members of a list that may be missing pass
-list_at-is : {X : Type 0} (faults : List ℕ → Data → List Shape) (read : Data → X) (test : X → Bool)
+pub list_at-is : {X : Type 0} (faults : List ℕ → Data → List Shape) (read : Data → X) (test : X → Bool)
     → ((path : List ℕ) (value : Data) → faults path value ≡ [] → test (read value) ≡ true)
     → (key path : List ℕ) (value : Data)
     → optional (list_faults faults) key path value ≡ []
@@ -408,17 +408,40 @@ condition-formed (suc n) in_filter path value few none =
 
 -- ---- objects
 
-variable-formed : (path : List ℕ) (value : Data) → variable_faults path value ≡ [] → is_well_formed_variable (variable_of value) ≡ true
-variable-formed path value none =
-    let keys = object-is variable_keys path value none in
-    both _ _ (name-is _ _ (codes "name") value (right-none _ _ keys)) refl
+passes-length : (value : Data) → passes is_array_length (length_of value) ≡ true
+passes-length value = by (int_of value)
+  where
+    by : (o : Option ℤ)
+        → passes is_array_length
+        (o >>= (λ z. only_where (int_le (pos 1) z && int_le z (pos 1000)) >>= (λ u. Some (unsigned_abs z))))
+        ≡ true
+    by None = refl
+    by (Some (pos n)) =
+        elim (int_le (pos 1) (pos n) && int_le (pos n) (pos 1000)) as (λ b.
+        (int_le (pos 1) (pos n) && int_le (pos n) (pos 1000)) ≡ b
+        → passes is_array_length (only_where b >>= (λ u. Some (unsigned_abs (pos n))))
+        ≡ true) [
+          | true ↦ λ e. e
+          | false ↦ λ e. refl
+        ] refl
+    by (Some (negsuc n)) = refl
 
-constant-formed : (path : List ℕ) (value : Data) → variable_faults path value ≡ [] → is_name (name_at (codes "name") value) ≡ true
+-- the length of an array, if there is one
+pub length-formed : (value : Data) → passes is_array_length (length_at value) ≡ true
+length-formed value = passes-length (part (codes "length") value)
+
+variable-formed : (path : List ℕ) (value : Data)
+    → variable_faults int_faults path value ≡ [] → is_well_formed_variable (variable_of value) ≡ true
+variable-formed path value none =
+    let typed = left-none _ _ (object-is (variable_keys int_faults) path value none) in
+    both _ _ (name-is _ _ (codes "name") value (right-none _ _ typed)) (length-formed value)
+
+constant-formed : (path : List ℕ) (value : Data) → constant_faults path value ≡ [] → is_name (name_at (codes "name") value) ≡ true
 constant-formed path value none =
-    let keys = object-is variable_keys path value none in
+    let keys = object-is (typed_keys int_faults) path value none in
     name-is _ _ (codes "name") value (right-none _ _ keys)
 
-file-formed : (path : List ℕ) (value : Data) → file_faults path value ≡ [] → is_filled (filled value) ≡ true
+pub file-formed : (path : List ℕ) (value : Data) → file_faults path value ≡ [] → is_filled (filled value) ≡ true
 file-formed path value none = filled-is _ path value none
 
 unit-formed : (path : List ℕ) (value : Data) → unit_faults path value ≡ [] → is_well_formed_unit (unit_of value) ≡ true
@@ -428,11 +451,12 @@ unit-formed path value none =
     both _ _ (name-is _ _ (codes "name") value (left-none _ _ names))
     (both _ _ (name-is _ _ (codes "unit") value (right-none _ _ names)) (period-is _ _ value (right-none _ _ keys)))
 
-message_type-formed : (path : List ℕ) (value : Data) → message_faults path value ≡ [] → is_well_formed_message (message_of value) ≡ true
+message_type-formed : (path : List ℕ) (value : Data)
+    → row_faults plain.variable path value ≡ [] → is_well_formed_message (message_of value) ≡ true
 message_type-formed path value none =
-    let keys = object-is message_keys path value none in
+    let keys = object-is (row_keys plain.variable) path value none in
     both _ _ (name-is _ _ (codes "name") value (left-none _ _ keys))
-    (list_at-is variable_faults variable_of is_well_formed_variable variable-formed (codes "variables") path value (right-none _ _ keys))
+    (list_at-is plain.variable variable_of is_well_formed_variable variable-formed (codes "variables") path value (right-none _ _ keys))
 
 sort-formed : (path : List ℕ) (value : Data) → sort_faults path value ≡ [] → is_well_formed_sort (sort_of value) ≡ true
 sort-formed path value none =
@@ -459,7 +483,7 @@ output-formed path value none =
     let keys = object-is output_keys path value none in
     name-is _ _ (codes "messageName") value keys
 
-function-formed : (path : List ℕ) (value : Data) → function_faults path value ≡ [] → is_well_formed_function (function_of value) ≡ true
+pub function-formed : (path : List ℕ) (value : Data) → function_faults path value ≡ [] → is_well_formed_function (function_of value) ≡ true
 function-formed path value none =
     let keys = object-is function_keys path value none in
     let to_inputs = left-none _ _ keys in
@@ -475,27 +499,29 @@ function-formed path value none =
     (list_at-is input_faults input_of is_well_formed_input input-formed (codes "inputs") path value (right-none _ _ to_inputs))
     (list_at-is output_faults (name_at (codes "messageName")) is_name output-formed (codes "outputs") path value (right-none _ _ keys))))))
 
-agent_type-formed : (path : List ℕ) (value : Data) → agent_faults path value ≡ [] → is_well_formed_agent (agent_of value) ≡ true
+agent_type-formed : (path : List ℕ) (value : Data)
+    → agent_faults plain.variable path value ≡ [] → is_well_formed_agent (agent_of value) ≡ true
 agent_type-formed path value none =
-    let keys = object-is agent_keys path value none in
+    let keys = object-is (agent_keys plain.variable) path value none in
     let front = left-none _ _ keys in
     both _ _ (name-is _ _ (codes "name") value (left-none _ _ front))
     (both _ _
-    (list_at-is variable_faults variable_of is_well_formed_variable variable-formed (codes "memory") path value (right-none _ _ front))
+    (list_at-is plain.variable variable_of is_well_formed_variable variable-formed (codes "memory") path value (right-none _ _ front))
     (list_at-is function_faults function_of is_well_formed_function function-formed (codes "functions") path value (right-none _ _ keys)))
 
 -- what an environment stands for
-record IsFormed (value : Data) : Type 0 where
-  constants : list_all is_name (list_at (name_at (codes "name")) (codes "constants") value) ≡ true
-  files : list_all is_filled (list_at filled (codes "functionFiles") value) ≡ true
-  units : list_all is_well_formed_unit (list_at unit_of (codes "timeUnits") value) ≡ true
+pub record IsFormed (value : Data) : Type 0 where
+  pub constants : list_all is_name (list_at (name_at (codes "name")) (codes "constants") value) ≡ true
+  pub files : list_all is_filled (list_at filled (codes "functionFiles") value) ≡ true
+  pub units : list_all is_well_formed_unit (list_at unit_of (codes "timeUnits") value) ≡ true
 
-environment-formed : (path : List ℕ) (value : Data) → environment_faults path value ≡ [] → IsFormed value
-environment-formed path value none =
-    let to_units = left-none _ _ (object-is environment_keys path value none) in
+environment-formed : (types : List ℕ → Data → List Shape) (path : List ℕ) (value : Data)
+    → environment_faults types path value ≡ [] → IsFormed value
+environment-formed types path value none =
+    let to_units = left-none _ _ (object-is (environment_keys types) path value none) in
     let to_files = left-none _ _ to_units in
     record {
-      constants = list_at-is variable_faults (name_at (codes "name")) is_name constant-formed (codes "constants") path value (left-none _ _ to_files);
+      constants = list_at-is constant_faults (name_at (codes "name")) is_name constant-formed (codes "constants") path value (left-none _ _ to_files);
       files = list_at-is file_faults filled is_filled file-formed (codes "functionFiles") path value (right-none _ _ to_files);
       units = list_at-is unit_faults unit_of is_well_formed_unit unit-formed (codes "timeUnits") path value (right-none _ _ to_units);
     }
@@ -503,12 +529,13 @@ environment-formed path value none =
 nothing-formed : IsFormed null
 nothing-formed = record { constants = refl; files = refl; units = refl }
 
-environment_at-formed : (path : List ℕ) (value : Data)
-    → optional environment_faults (codes "environment") path value ≡ [] → IsFormed (part (codes "environment") value)
-environment_at-formed path value none = by (has (codes "environment") value) refl
+pub environment_at-formed : (types : List ℕ → Data → List Shape) (path : List ℕ) (value : Data)
+    → optional (environment_faults types) (codes "environment") path value ≡ []
+    → IsFormed (part (codes "environment") value)
+environment_at-formed types path value none = by (has (codes "environment") value) refl
   where
     by : (b : Bool) → has (codes "environment") value ≡ b → IsFormed (part (codes "environment") value)
-    by true e = environment-formed _ (part (codes "environment") value) (optional-is environment_faults (codes "environment") path value none e)
+    by true e = environment-formed types _ (part (codes "environment") value) (optional-is (environment_faults types) (codes "environment") path value none e)
     by false e = subst IsFormed (sym (is_null (part (codes "environment") value) e)) nothing-formed
 
 -- a value without shape faults stands for a model that is well formed
@@ -516,13 +543,13 @@ pub model-formed : (value : Data) → shape_faults value ≡ [] → is_well_form
 model-formed value none =
     let whole = part (codes "xmodel") value in
     let path = at_key root (codes "xmodel") in
-    let keys = object-is xmodel_keys path whole (object-is (required xmodel_faults (codes "xmodel")) root value none) in
+    let keys = object-is (xmodel_keys plain) path whole (object-is (required (xmodel_faults plain) (codes "xmodel")) root value none) in
     let to_agents = left-none _ _ keys in
     let to_messages = left-none _ _ to_agents in
-    let environment = environment_at-formed path whole (left-none _ _ to_messages) in
+    let environment = environment_at-formed plain.types path whole (left-none _ _ to_messages) in
     both _ _ environment.constants
     (both _ _ environment.files
     (both _ _ environment.units
     (both _ _
-    (list_at-is message_faults message_of is_well_formed_message message_type-formed (codes "messages") path whole (right-none _ _ to_messages))
-    (list_at-is agent_faults agent_of is_well_formed_agent agent_type-formed (codes "agents") path whole (right-none _ _ to_agents)))))
+    (list_at-is (row_faults plain.variable) message_of is_well_formed_message message_type-formed (codes "messages") path whole (right-none _ _ to_messages))
+    (list_at-is (agent_faults plain.variable) agent_of is_well_formed_agent agent_type-formed (codes "agents") path whole (right-none _ _ to_agents)))))

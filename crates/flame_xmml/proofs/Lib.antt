@@ -1,7 +1,9 @@
 pub mod Firsts
 pub mod Formed
+pub mod FormedWide
 pub mod Layers
 pub mod Members
 pub mod Parsed
 pub mod Paths
+pub mod Plain
 pub mod Prefixes

@@ -9,7 +9,7 @@ use Rattle.flame_xmml.specs.declared.place.Place.TheOpen.{Place-F}
 use Rattle.flame_xmml.specs.declared.place.Place.TheFolds.{fold-roll-Place}
 use Rattle.flame_xmml.specs.ValueParts.{part, has, is_object, required, optional}
 use Rattle.flame_xmml.specs.ConditionShapes.{condition_faults}
-use Rattle.flame_xmml.specs.ShapeFaults.{xmodel_faults, shape_faults}
+use Rattle.flame_xmml.specs.ShapeFaults.{Form, xmodel_faults, form_faults}
 use Rattle.flame_xmml.specs.ValuePlaces.{path_of, path_step}
 
 pub path_of-Key : (parent : Bor Place) (key : Bor (List ℕ)) → path_of (Key parent key) ≡ at_key (path_of parent.now) key.now
@@ -38,17 +38,17 @@ path_of-Root = ap path_of (sym rolls-Root) ∙ fold-roll-Place (List ℕ) path_s
 
 -- the faults of the whole value are those at the place of `xmodel`
 pub whole :
-    (top : Bor Place) (key : Bor (List ℕ)) (inner value : Data)
+    (form : Form) (top : Bor Place) (key : Bor (List ℕ)) (inner value : Data)
     → top.now ≡ Root
     → key.now ≡ codes "xmodel"
     → is_object value ≡ true
     → inner ≡ part (codes "xmodel") value
-    → shape_faults value ≡ xmodel_faults (path_of (Key top key)) inner
-whole top key inner value at_root is_key object there =
+    → form_faults form value ≡ xmodel_faults form (path_of (Key top key)) inner
+whole form top key inner value at_root is_key object there =
     let path : path_of (Key top key) ≡ at_key root (codes "xmodel") =
     path_of-Key top key ∙ ap (λ place. at_key (path_of place) key.now) at_root
     ∙ ap (λ path. at_key path key.now) path_of-Root ∙ ap (at_key root) is_key in
-    let opened : shape_faults value ≡ xmodel_faults (at_key root (codes "xmodel")) (part (codes "xmodel") value) =
+    let opened : form_faults form value ≡ xmodel_faults form (at_key root (codes "xmodel")) (part (codes "xmodel") value) =
     rw object refl in
-    opened ∙ ap (λ path. xmodel_faults path (part (codes "xmodel") value)) (sym path)
-    ∙ ap (λ value. xmodel_faults (path_of (Key top key)) value) (sym there)
+    opened ∙ ap (λ path. xmodel_faults form path (part (codes "xmodel") value)) (sym path)
+    ∙ ap (λ value. xmodel_faults form (path_of (Key top key)) value) (sym there)

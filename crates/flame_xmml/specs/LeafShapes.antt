@@ -3,10 +3,10 @@ use Rattle.std.specs.Prelude.{ℕ, List}
 use Rattle.serde_json.specs.Data.{Data}
 use Rattle.flame_xmml.specs.declared.faults.Shape.{Shape}
 use Rattle.flame_xmml.specs.declared.faults.Want.TheVariants.{Empty, Name, State, FileName, Int, Positive, Truth}
-use Rattle.flame_xmml.specs.declared.faults.Want.TheVariants.{Order, Op, Operand, Phase}
+use Rattle.flame_xmml.specs.declared.faults.Want.TheVariants.{Order, Op, Operand, Phase, Length}
 use Rattle.flame_xmml.specs.ValueParts.{leaf}
 use Rattle.flame_xmml.specs.Wants.{empty_of, name_of, filled_of, int_type_of, positive_of, truth_of, order_of}
-use Rattle.flame_xmml.specs.Wants.{connective_of, operand_of, phase_of}
+use Rattle.flame_xmml.specs.Wants.{connective_of, operand_of, phase_of, length_of}
 
 -- a list that has no member is wanted [own]
 abbrev pub empty_faults : List ℕ → Data → List Shape
@@ -31,6 +31,10 @@ int_faults = leaf Int int_type_of
 -- a whole number from 1 is wanted [XMML]
 abbrev pub positive_faults : List ℕ → Data → List Shape
 positive_faults = leaf Positive positive_of
+
+-- the length of an array is wanted [own]
+abbrev pub length_faults : List ℕ → Data → List Shape
+length_faults = leaf Length length_of
 
 -- a truth is wanted [XMML]
 abbrev pub truth_faults : List ℕ → Data → List Shape

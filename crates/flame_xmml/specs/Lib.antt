@@ -9,6 +9,8 @@ pub mod ConditionShapes
 pub mod ShapeFaults
 pub mod WantNames
 pub mod Models
+pub mod WideValues
+pub mod PlainFiles
 -- What holds of these.
 pub mod ShapeLaws
 -- The words that only bodies and proofs use.

@@ -12,7 +12,7 @@ use Rattle.flame_spec.specs.declared.models.Input.{Input}
 use Rattle.flame_spec.specs.declared.models.Sort.{Sort}
 use Rattle.flame_xmml.specs.declared.reader.Environment.{Environment}
 use Rattle.flame_xmml.specs.ValueParts.{part, has, members}
-use Rattle.flame_xmml.specs.Wants.{name_of, filled_of, positive_of, truth_of, order_of}
+use Rattle.flame_xmml.specs.Wants.{name_of, filled_of, positive_of, length_of, truth_of, order_of}
 use Rattle.flame_xmml.specs.ConditionShapes.{condition_of}
 
 -- ---- what stands at keys
@@ -33,6 +33,10 @@ filled_at key value = filled (part key value)
 abbrev pub period_at : Data → ℤ
 period_at value = unwrap_or (positive_of (part (codes "period") value)) (pos 1)
 
+-- the length of an array, if there is one [own]
+abbrev pub length_at : Data → Option ℕ
+length_at value = length_of (part (codes "length") value)
+
 -- whether a random order is asked for; it is not where that is missing [XMML]
 abbrev pub random_at : Data → Bool
 random_at value = unwrap_or (truth_of (part (codes "random") value)) false
@@ -51,9 +55,9 @@ there key value = if has key value then Some (part key value) else None
 
 -- ---- the objects
 
--- a variable [XMML]
+-- a variable of type int, or an array of them [XMML]
 abbrev pub variable_of : Data → Variable
-variable_of value = record { name = name_at (codes "name") value; length = None }
+variable_of value = record { name = name_at (codes "name") value; length = length_at value }
 
 -- a time unit [XMML]
 abbrev pub unit_of : Data → TimeUnit

@@ -2,7 +2,7 @@
 use Rattle.std.specs.Prelude.{ℕ, List as Items, codes}
 use Rattle.flame_xmml.specs.declared.faults.Want.{Want}
 use Rattle.flame_xmml.specs.declared.faults.Want.TheVariants.{Object, List, Empty, Name, State, FileName, Int, Positive}
-use Rattle.flame_xmml.specs.declared.faults.Want.TheVariants.{Truth, Order, Condition, Op, Operand, Phase}
+use Rattle.flame_xmml.specs.declared.faults.Want.TheVariants.{Truth, Order, Condition, Op, Operand, Phase, Length}
 
 -- the name of what is wanted [own]
 abbrev pub name_of_want : Want → Items ℕ
@@ -20,3 +20,4 @@ name_of_want Condition = codes "Condition"
 name_of_want Op = codes "Op"
 name_of_want Operand = codes "Operand"
 name_of_want Phase = codes "Phase"
+name_of_want Length = codes "Length"

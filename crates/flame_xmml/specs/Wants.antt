@@ -1,5 +1,5 @@
 -- What the texts, numbers and truths of a model are read as. None is read of null, so of nothing that is missing.
-use Rattle.std.specs.Prelude.{ℕ, List, length, drop, nat_eq, codes, ℤ, pos, int_le}
+use Rattle.std.specs.Prelude.{ℕ, List, length, drop, nat_eq, codes, ℤ, pos, int_le, unsigned_abs}
 use Rattle.std.specs.Prelude.{Bool, true, false, ◌==◌, ◌&&◌, if◌then◌else◌, Option, Some, None, option_map}
 use Rattle.std.specs.List.{list_all, starts_with}
 use Rattle.std.specs.Char.{is_ascii_digit}
@@ -97,6 +97,13 @@ positive_of value = do
   z ← int_of value
   _ ← only_where (int_le (pos 1) z)
   Some z
+
+-- Length: a whole number from 1 to 1000 [own]
+abbrev pub length_of : Data → Option ℕ
+length_of value = do
+  z ← int_of value
+  _ ← only_where (int_le (pos 1) z && int_le z (pos 1000))
+  Some (unsigned_abs z)
 
 -- ---- operands
 

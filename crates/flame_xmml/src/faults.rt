@@ -45,6 +45,8 @@ pub enum Want {
     Operand,
     /// A whole number in the range of int, or `a.` and a name.
     Phase,
+    /// A whole number from 1 to 1000.
+    Length,
 }
 
 impl Want {
@@ -67,6 +69,7 @@ impl Want {
             Want::Op => "Op",
             Want::Operand => "Operand",
             Want::Phase => "Phase",
+            Want::Length => "Length",
         }
     }
 }

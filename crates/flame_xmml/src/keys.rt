@@ -1,17 +1,17 @@
 //! Single values at the keys of objects.
 
-ghost use Rattle.std.specs.Prelude.{◌≡◌, codes, is_some};
+ghost use Rattle.std.specs.Prelude.{◌≡◌, codes, is_some, unwrap_or};
 ghost use Rattle.serde_json.specs.View.{view};
 ghost use Rattle.flame_xmml.specs.LeafShapes.{empty_faults, int_faults, name_faults, state_faults, positive_faults};
-ghost use Rattle.flame_xmml.specs.LeafShapes.{truth_faults, order_faults};
-ghost use Rattle.flame_xmml.specs.Models.{name_at, filled_at, period_at, random_at, descending_at};
-ghost use Rattle.flame_xmml.specs.ValueParts.{required, optional};
+ghost use Rattle.flame_xmml.specs.LeafShapes.{truth_faults, order_faults, length_faults, file_faults};
+ghost use Rattle.flame_xmml.specs.Models.{name_at, filled_at, period_at, length_at, descending_at};
+ghost use Rattle.flame_xmml.specs.ValueParts.{part, required, optional};
 ghost use Rattle.flame_xmml.specs.ValuePlaces.{path_of};
 ghost use Rattle.flame_xmml.specs.ReadValues.{Reads, Passes};
-ghost use Rattle.flame_xmml.specs.Wants.{empty_of};
+ghost use Rattle.flame_xmml.specs.Wants.{empty_of, truth_of};
 
 use crate::faults::{Shape, Want};
-use crate::numbers::positive_of;
+use crate::numbers::{length_of, positive_of};
 use crate::parts::{fault, members, part, wanted};
 use crate::place::Place;
 use crate::words::{filled_of, int_type_of, name_of, order_of, truth_of};
@@ -88,20 +88,59 @@ pub(crate) fn descending(
     wanted(alloc, &Place::Key(place, "order"), Want::Order, descending)
 }
 
-/// The truth at `random`; false where it is missing.
-pub(crate) fn random(alloc: Global, place: &Place<'_>, value: &Value) -> Result<bool, Fail<Shape>>
+/// The truth at a key; `other` where it is missing.
+pub(crate) fn truth_at(
+    alloc: Global,
+    place: &Place<'_>,
+    value: &Value,
+    key: &str,
+    other: bool,
+) -> Result<bool, Fail<Shape>>
     ensures { Reads
-        (optional truth_faults (codes "random") (path_of place.now) (view value.now))
-        (random_at (view value.now))
+        (optional truth_faults key.now (path_of place.now) (view value.now))
+        (unwrap_or (truth_of (part key.now (view value.now))) other)
         result }
 {
-    match part(value, "random") {
+    match part(value, key) {
         Some(found) => {
-            let random = truth_of(found);
-            wanted(alloc, &Place::Key(place, "random"), Want::Truth, random)
+            let truth = truth_of(found);
+            wanted(alloc, &Place::Key(place, key), Want::Truth, truth)
         }
-        None => Ok(false),
+        None => Ok(other),
     }
+}
+
+/// The length of an array at `length`, if there is one.
+pub(crate) fn length_at(
+    alloc: Global,
+    place: &Place<'_>,
+    value: &Value,
+) -> Result<Option<u32>, Fail<Shape>>
+    ensures { Reads
+        (optional length_faults (codes "length") (path_of place.now) (view value.now))
+        (length_at (view value.now))
+        result }
+{
+    match part(value, "length") {
+        Some(found) => {
+            let length = length_of(found);
+            let length = wanted(alloc, &Place::Key(place, "length"), Want::Length, length)?;
+            Ok(Some(length))
+        }
+        None => Ok(None),
+    }
+}
+
+/// The name of a file at `file`.
+pub(crate) fn file_at(alloc: Global, place: &Place<'_>, value: &Value) -> Result<Text, Fail<Shape>>
+    ensures { Reads
+        (required file_faults (codes "file") (path_of place.now) (view value.now))
+        (filled_at (codes "file") (view value.now))
+        result }
+{
+    let file = filled_of(part(value, "file"));
+    let file = wanted(alloc, &Place::Key(place, "file"), Want::FileName, file)?;
+    Ok(Text::of(alloc, file)?)
 }
 
 /// The list at a key, which has no member where it is there.

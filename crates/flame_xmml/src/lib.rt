@@ -1,4 +1,5 @@
-//! Reading the JSON form of an XMML model: the model that a value stands for, or the first fault of its shape.
+//! Reading the JSON form of an XMML model: the model, or the model file with data types and nested files, that a value
+//! stands for, or the first fault of its shape.
 #![tactic(auto)]
 
 mod condition;
@@ -13,9 +14,12 @@ mod operand;
 mod parts;
 mod place;
 mod reader;
+mod rows;
 #[cfg(test)]
 mod tests;
+mod wide;
 mod words;
 
 pub use faults::{Shape, Want};
 pub use reader::model_of;
+pub use wide::wide_of;

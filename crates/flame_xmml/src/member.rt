@@ -1,13 +1,12 @@
-//! The objects of a model.
+//! Constants, files, time units and functions.
 
 ghost use Rattle.std.specs.Prelude.{◌≡◌, codes, map, option_map, true, false};
 ghost use Rattle.serde_json.specs.View.{view};
 ghost use Rattle.flame_xmml.specs.ConditionShapes.{condition_faults, condition_of};
-ghost use Rattle.flame_xmml.specs.ShapeFaults.{variable_faults, unit_faults, message_faults, sort_faults, input_faults};
-ghost use Rattle.flame_xmml.specs.ShapeFaults.{output_faults, function_faults, agent_faults};
+ghost use Rattle.flame_xmml.specs.ShapeFaults.{constant_faults, unit_faults, sort_faults, input_faults, output_faults};
+ghost use Rattle.flame_xmml.specs.ShapeFaults.{function_faults};
 ghost use Rattle.flame_xmml.specs.LeafShapes.{file_faults};
-ghost use Rattle.flame_xmml.specs.Models.{name_at, filled, there, variable_of, unit_of, message_of, sort_of};
-ghost use Rattle.flame_xmml.specs.Models.{input_of, function_of, agent_of};
+ghost use Rattle.flame_xmml.specs.Models.{name_at, filled, there, unit_of, sort_of, input_of, function_of};
 ghost use Rattle.flame_xmml.specs.FunctionStep.{step_faults, step_of};
 ghost use Rattle.flame_xmml.specs.ValueParts.{optional};
 ghost use Rattle.flame_xmml.specs.ValuePlaces.{path_of};
@@ -15,13 +14,13 @@ ghost use Rattle.flame_xmml.specs.ReadValues.{Reads};
 
 use crate::condition::condition;
 use crate::faults::{Shape, Want};
-use crate::keys::{descending, int_type, name_at, period, random, state_at};
+use crate::keys::{descending, int_type, name_at, period, state_at, truth_at};
 use crate::list::{Member, list_at};
 use crate::parts::{object, part, wanted};
 use crate::place::Place;
 use crate::words::filled_of;
 use flame_rows::{Fail, Text};
-use flame_spec::{AgentType, Condition, Function, Input, MessageType, Sort, TimeUnit, Variable};
+use flame_spec::{Condition, Function, Input, Sort, TimeUnit};
 use serde_json::Value;
 use std::alloc::Global;
 
@@ -42,28 +41,17 @@ struct Step {
     next: Text,
 }
 
-impl Member for Variable {
-    type Read = Variable;
-
-    ghost faults = { variable_faults };
-
-    ghost meant = { variable_of };
-
-    fn read(alloc: Global, place: &Place<'_>, value: &Value) -> Result<Variable, Fail<Shape>> {
-        let name = variable_name(alloc, place, value)?;
-        Ok(Variable { name, length: None })
-    }
-}
-
 impl Member for Constants {
     type Read = Text;
 
-    ghost faults = { variable_faults };
+    ghost faults = { constant_faults };
 
     ghost meant = { name_at (codes "name") };
 
     fn read(alloc: Global, place: &Place<'_>, value: &Value) -> Result<Text, Fail<Shape>> {
-        variable_name(alloc, place, value)
+        object(alloc, place, value)?;
+        int_type(alloc, place, value)?;
+        name_at(alloc, place, value, "name")
     }
 }
 
@@ -97,22 +85,6 @@ impl Member for TimeUnit {
     }
 }
 
-impl Member for MessageType {
-    type Read = MessageType;
-
-    ghost faults = { message_faults };
-
-    ghost meant = { message_of };
-
-    fn read(alloc: Global, place: &Place<'_>, value: &Value) -> Result<MessageType, Fail<Shape>> {
-        object(alloc, place, value)?;
-        Ok(MessageType {
-            name: name_at(alloc, place, value, "name")?,
-            variables: list_at::<Variable>(alloc, place, value, "variables")?,
-        })
-    }
-}
-
 impl Member for Outputs {
     type Read = Text;
 
@@ -137,7 +109,7 @@ impl Member for Input {
         object(alloc, place, value)?;
         Ok(Input {
             message: name_at(alloc, place, value, "messageName")?,
-            random: random(alloc, place, value)?,
+            random: truth_at(alloc, place, value, "random", false)?,
             filter: condition_at(alloc, place, value, "filter", true)?,
             sort: sort_at(alloc, place, value)?,
         })
@@ -167,35 +139,6 @@ impl Member for Function {
             outputs: list_at::<Outputs>(alloc, place, value, "outputs")?,
         })
     }
-}
-
-impl Member for AgentType {
-    type Read = AgentType;
-
-    ghost faults = { agent_faults };
-
-    ghost meant = { agent_of };
-
-    fn read(alloc: Global, place: &Place<'_>, value: &Value) -> Result<AgentType, Fail<Shape>> {
-        object(alloc, place, value)?;
-        Ok(AgentType {
-            name: name_at(alloc, place, value, "name")?,
-            memory: list_at::<Variable>(alloc, place, value, "memory")?,
-            functions: list_at::<Function>(alloc, place, value, "functions")?,
-        })
-    }
-}
-
-/// The name of a variable of type int.
-fn variable_name(alloc: Global, place: &Place<'_>, value: &Value) -> Result<Text, Fail<Shape>>
-    ensures { Reads
-        (variable_faults (path_of place.now) (view value.now))
-        (name_at (codes "name") (view value.now))
-        result }
-{
-    object(alloc, place, value)?;
-    int_type(alloc, place, value)?;
-    name_at(alloc, place, value, "name")
 }
 
 /// The name of a function and its states.

@@ -4,7 +4,7 @@ ghost use Rattle.std.specs.Prelude.{◌≡◌, option_and_then};
 ghost use Rattle.serde_json.specs.View.{view, number_view};
 ghost use Rattle.serde_json.specs.Find.{as_integer};
 ghost use Rattle.flame_xmml.specs.ValueData.{data_of};
-ghost use Rattle.flame_xmml.specs.Wants.{held, whole_named, int_of, positive_of};
+ghost use Rattle.flame_xmml.specs.Wants.{held, whole_named, int_of, positive_of, length_of};
 
 use serde_json::{Number, Value};
 
@@ -25,6 +25,18 @@ pub(crate) fn positive_of(value: Option<&Value>) -> Option<i32>
 {
     let number = int_of(value?)?;
     if number >= 1 { Some(number) } else { None }
+}
+
+/// A whole number from 1 to 1000.
+pub(crate) fn length_of(value: &Value) -> Option<u32>
+    ensures { result ≡ length_of (view value.now) }
+{
+    let number = int_of(value)?;
+    if number >= 1 && number <= 1000 {
+        Some(number.unsigned_abs())
+    } else {
+        None
+    }
 }
 
 /// The integer, where int holds it.

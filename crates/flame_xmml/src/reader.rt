@@ -1,10 +1,12 @@
 //! Models.
 
 ghost use Rattle.std.specs.Prelude.{◌≡◌, [], codes, IsTrue, IfOk, IfErr};
+ghost use Rattle.serde_json.specs.Data.{null};
 ghost use Rattle.serde_json.specs.View.{view};
 ghost use Rattle.flame_rows.specs.declared.fails.Fail.TheVariants.{NoMemory};
 ghost use Rattle.flame_spec.specs.Counted.{is_counted};
-ghost use Rattle.flame_xmml.specs.ShapeFaults.{environment_faults, xmodel_faults, shape_faults};
+ghost use Rattle.flame_xmml.specs.ShapeFaults.{environment_lists, environment_faults, xmodel_faults};
+ghost use Rattle.flame_xmml.specs.ShapeFaults.{shape_faults, plain};
 ghost use Rattle.flame_xmml.specs.Models.{environment_of, xmodel_of, model_of};
 ghost use Rattle.flame_xmml.specs.ValueParts.{part, optional};
 ghost use Rattle.flame_xmml.specs.ValuePlaces.{path_of};
@@ -21,7 +23,8 @@ use flame_spec::{AgentType, MessageType, Model, TimeUnit};
 use serde_json::Value;
 use std::alloc::Global;
 
-/// The model that a value stands for (XMML, in JSON).
+/// The model that a value stands for (XMML, in JSON), where it is a model file by itself: each variable is of type int,
+/// and there are no data types and no further files.
 ///
 /// An entry whose value is null counts as missing, a missing list is an empty one, and a key that the form does not
 /// name is passed over. `Fault` comes exactly where something else is wanted somewhere, with the first such place in
@@ -58,16 +61,16 @@ fn counted(model: Model) -> Result<Model, Fail<Shape>>
 
 /// What stands at `environment`.
 #[derive(Drop)]
-struct Environment {
-    constants: Seq<Text>,
-    files: Seq<Text>,
-    units: Seq<TimeUnit>,
+pub(crate) struct Environment {
+    pub(crate) constants: Seq<Text>,
+    pub(crate) files: Seq<Text>,
+    pub(crate) units: Seq<TimeUnit>,
 }
 
 /// What stands at `xmodel`.
 fn xmodel(alloc: Global, place: &Place<'_>, value: &Value) -> Result<Model, Fail<Shape>>
     ensures { Reads
-        (xmodel_faults (path_of place.now) (view value.now))
+        (xmodel_faults plain (path_of place.now) (view value.now))
         (xmodel_of (view value.now))
         result }
 {
@@ -96,17 +99,24 @@ fn environment_at(
     value: &Value,
 ) -> Result<Environment, Fail<Shape>>
     ensures { Reads
-        (optional environment_faults (codes "environment") (path_of place.now) (view value.now))
+        (optional (environment_faults plain.types) (codes "environment") (path_of place.now) (view value.now))
         (environment_of (part (codes "environment") (view value.now)))
         result }
 {
     match part(value, "environment") {
         Some(found) => environment_of(alloc, &Place::Key(place, "environment"), found),
-        None => Ok(Environment {
-            constants: Seq::of(Vec::new(alloc)),
-            files: Seq::of(Vec::new(alloc)),
-            units: Seq::of(Vec::new(alloc)),
-        }),
+        None => Ok(no_environment(alloc)),
+    }
+}
+
+/// An environment of nothing.
+pub(crate) fn no_environment(alloc: Global) -> Environment
+    ensures { result ≡ environment_of null }
+{
+    Environment {
+        constants: Seq::of(Vec::new(alloc)),
+        files: Seq::of(Vec::new(alloc)),
+        units: Seq::of(Vec::new(alloc)),
     }
 }
 
@@ -117,18 +127,30 @@ fn environment_of(
     value: &Value,
 ) -> Result<Environment, Fail<Shape>>
     ensures { Reads
-        (environment_faults (path_of place.now) (view value.now))
+        (environment_faults plain.types (path_of place.now) (view value.now))
         (environment_of (view value.now))
         result }
 {
     object(alloc, place, value)?;
-    let constants = list_at::<Constants>(alloc, place, value, "constants")?;
-    let files = list_at::<Files>(alloc, place, value, "functionFiles")?;
-    let units = list_at::<TimeUnit>(alloc, place, value, "timeUnits")?;
+    let environment = environment_lists(alloc, place, value)?;
     empty_at(alloc, place, value, "dataTypes")?;
+    Ok(environment)
+}
+
+/// The lists of the environment at a place that each model file may have.
+pub(crate) fn environment_lists(
+    alloc: Global,
+    place: &Place<'_>,
+    value: &Value,
+) -> Result<Environment, Fail<Shape>>
+    ensures { Reads
+        (environment_lists (path_of place.now) (view value.now))
+        (environment_of (view value.now))
+        result }
+{
     Ok(Environment {
-        constants,
-        files,
-        units,
+        constants: list_at::<Constants>(alloc, place, value, "constants")?,
+        files: list_at::<Files>(alloc, place, value, "functionFiles")?,
+        units: list_at::<TimeUnit>(alloc, place, value, "timeUnits")?,
     })
 }

@@ -2,6 +2,7 @@
 
 use crate::faults::Shape;
 use crate::reader::model_of;
+use crate::wide::wide_of;
 use flame_rows::Fail;
 use serde_json::Value;
 use std::alloc::Global;
@@ -39,6 +40,21 @@ fn a_fault_has_its_path_and_its_want(rt: HostRuntime) -> Result<(), Failed> {
     if let Some(shape) = fault {
         assert_eq!(rt; shape.path.as_str(), "/xmodel");
         assert!(rt; shape.want.name() == "Object");
+    }
+    Ok(())
+}
+
+#[test]
+fn a_model_file_is_read(rt: HostRuntime) -> Result<(), Failed> {
+    let alloc = rt.alloc();
+    let text = r#"{"xmodel":{"messages":[{"name":"m"}],"models":[{"file":"a.json"}]}}"#;
+    let value = Value::from_str(alloc, text)?;
+    match wide_of(alloc, &value) {
+        Ok(wide) => {
+            assert_eq!(rt; wide.messages.len(), 1);
+            assert_eq!(rt; wide.nested.len(), 1);
+        }
+        Err(_fail) => assert!(rt; false),
     }
     Ok(())
 }

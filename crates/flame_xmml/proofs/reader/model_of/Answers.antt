@@ -2,6 +2,7 @@
 use Rattle.std.proofs.Common.{refl, sym, ◌∙◌, subst}
 use Rattle.serde_json.specs.Data.{null}
 use Rattle.serde_json.specs.View.{view}
+use Rattle.flame_xmml.specs.ShapeFaults.{plain}
 use Rattle.flame_xmml.specs.ReadValues.{IsFirst}
 use Rattle.flame_xmml.proofs.Firsts.{passed_fault, if_ok}
 use Rattle.flame_xmml.proofs.Paths.{whole}
@@ -9,19 +10,19 @@ use Rattle.flame_xmml.proofs.reader.model_of.Goals as goal
 
 pub returns-in_err-xmodel-in-Some-clause-fault : goal.returns-in_err-xmodel-in-Some-clause-fault
 returns-in_err-xmodel-in-Some-clause-fault c =
-    let same = whole _ _ (view c.in-Some.found.now) (view c.args.value.now) refl refl
+    let same = whole plain _ _ (view c.in-Some.found.now) (view c.args.value.now) refl refl
     c.in_ok-object.ensures.object c.in-Some.ensures.value in
     passed_fault _ _ c.from_residual-in_err-xmodel-in-Some.result c.from_residual-in_err-xmodel-in-Some.ensures.1
     (subst (λ faults. IsFirst faults c.in_err-xmodel-in-Some.field-0.0) (sym same) c.in_err-xmodel-in-Some.ensures)
 
 pub returns-in_ok-xmodel-in-Some-clause-faultless : goal.returns-in_ok-xmodel-in-Some-clause-faultless
 returns-in_ok-xmodel-in-Some-clause-faultless c =
-    let same = whole _ _ (view c.in-Some.found.now) (view c.args.value.now) refl refl
+    let same = whole plain _ _ (view c.in-Some.found.now) (view c.args.value.now) refl refl
     c.in_ok-object.ensures.object c.in-Some.ensures.value in
     if_ok c.counted.result (same ∙ c.in_ok-xmodel-in-Some.ensures.0)
 
 pub returns-in-None-clause-fault : goal.returns-in-None-clause-fault
 returns-in-None-clause-fault c =
     subst (λ faults. IsFirst faults c.fault.result)
-    (sym (whole _ _ null (view c.args.value.now) refl refl c.in_ok-object.ensures.object c.in-None.ensures.value))
+    (sym (whole plain _ _ null (view c.args.value.now) refl refl c.in_ok-object.ensures.object c.in-None.ensures.value))
     c.fault.ensures

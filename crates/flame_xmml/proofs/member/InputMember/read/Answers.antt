@@ -2,7 +2,7 @@
 use Rattle.serde_json.specs.View.{view}
 use Rattle.flame_xmml.specs.ShapeFaults.{input_keys}
 use Rattle.flame_xmml.specs.ValuePlaces.{path_of}
-use Rattle.flame_xmml.proofs.Firsts.{first_stays, first_after, first_in_object, refused}
+use Rattle.flame_xmml.proofs.Firsts.{first_stays, first_after, first_in_object, none_both, refused}
 use Rattle.flame_xmml.proofs.member.InputMember.read.Goals as goal
 
 pub returns-in_err-name_at : goal.returns-in_err-name_at
@@ -11,9 +11,17 @@ returns-in_err-name_at c =
     (first_in_object input_keys (path_of c.args.place.now) (view c.args.value.now) _ c.in_ok-object.ensures.object
     (first_stays _ _ _ (first_stays _ _ _ (first_stays _ _ _ c.in_err-name_at.ensures))))
 
-pub returns-in_err-random : goal.returns-in_err-random
-returns-in_err-random c =
-    let here = first_after _ _ _ c.in_ok-name_at.ensures.0 c.in_err-random.ensures in
-    refused _ _ _ c.from_residual-in_err-random.result c.from_residual-in_err-random.ensures.1
+pub returns-in_err-truth_at : goal.returns-in_err-truth_at
+returns-in_err-truth_at c =
+    let here = first_after _ _ _ c.in_ok-name_at.ensures.0 c.in_err-truth_at.ensures in
+    refused _ _ _ c.from_residual-in_err-truth_at.result c.from_residual-in_err-truth_at.ensures.1
     (first_in_object input_keys (path_of c.args.place.now) (view c.args.value.now) _ c.in_ok-object.ensures.object
     (first_stays _ _ _ (first_stays _ _ _ here)))
+
+pub returns-in_err-condition_at : goal.returns-in_err-condition_at
+returns-in_err-condition_at c =
+    let before = none_both _ _ c.in_ok-name_at.ensures.0 c.in_ok-truth_at.ensures.0 in
+    let here = first_after _ _ _ before c.in_err-condition_at.ensures in
+    refused _ _ _ c.from_residual-in_err-condition_at.result c.from_residual-in_err-condition_at.ensures.1
+    (first_in_object input_keys (path_of c.args.place.now) (view c.args.value.now) _ c.in_ok-object.ensures.object
+    (first_stays _ _ _ here))
