@@ -80,10 +80,7 @@ fn condition_of(
 }
 
 /// The conditions of all functions in document order, where they can be read.
-fn conditions_of(
-    alloc: Global,
-    model: &Model,
-) -> Result<Option<Seq<Option<Cond>>>, NoMemory> {
+fn conditions_of(alloc: Global, model: &Model) -> Result<Option<Seq<Option<Cond>>>, NoMemory> {
     let mut conditions = Vec::new(alloc);
     for agent in model.agents.items() {
         for function in agent.functions.items() {
@@ -197,7 +194,15 @@ fn print_all(
         return Ok(());
     }
     let pool = pool_in(alloc, case.text("pool"))?;
-    print_choices(rt, alloc, out, &pool, &conditions, functions.as_slice(), given.iteration)
+    print_choices(
+        rt,
+        alloc,
+        out,
+        &pool,
+        &conditions,
+        functions.as_slice(),
+        given.iteration,
+    )
 }
 
 pub(crate) fn answer(

@@ -2,7 +2,8 @@
 
 use crate::case::Case;
 use crate::{
-    choosing, deciding, lexing, modeling, naming, ordering, outcomes, parsing, planning, running, viewing,
+    choosing, deciding, lexing, modeling, naming, nesting, ordering, outcomes, parsing, planning,
+    running, viewing,
 };
 use std::alloc::{AllocError, Global};
 use std::sync::Wait;
@@ -21,6 +22,10 @@ pub(crate) enum Kind {
     Shape,
     /// `flame_xmml::model_of`, with the model
     Model,
+    /// `flame_xmml::wide_of`
+    Wide,
+    /// `flame_nest::flatten`
+    Nest,
     /// `flame_names::names`
     Names,
     /// `flame_sense::evaluate`
@@ -47,6 +52,8 @@ pub(crate) fn kind_of(file: &str) -> Option<Kind> {
         "words" => Some(Kind::Words),
         "shape" => Some(Kind::Shape),
         "model" => Some(Kind::Model),
+        "wide" => Some(Kind::Wide),
+        "nest" => Some(Kind::Nest),
         "names" => Some(Kind::Names),
         "outcome" => Some(Kind::Outcome),
         "plan" => Some(Kind::Plan),
@@ -72,6 +79,8 @@ pub(crate) fn answer(
         Kind::Words => ordering::answer(alloc, case),
         Kind::Shape => modeling::answer_shape(alloc, case),
         Kind::Model => modeling::answer(alloc, case),
+        Kind::Wide => modeling::answer_wide(alloc, case),
+        Kind::Nest => nesting::answer(alloc, case),
         Kind::Names => naming::answer(alloc, case),
         Kind::Outcome => outcomes::answer(alloc, case),
         Kind::Plan => planning::answer(alloc, case),

@@ -11,6 +11,7 @@ mod kinds;
 mod lexing;
 mod modeling;
 mod naming;
+mod nesting;
 mod ordering;
 mod outcomes;
 mod parsing;

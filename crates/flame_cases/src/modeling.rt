@@ -1,11 +1,14 @@
-//! Cases of `model_of`, and the model of other cases. The section `model` is the JSON text of a model. The answer is
-//! the model, a part of it a line, in cases of the kind `model`; `fine` in its place in cases of the kind `shape`; and
-//! the fault of its shape, as `wanted List at /xmodel/agents`, in both.
+//! Cases of `model_of` and `wide_of`, and the model of other cases. The section `model` is the JSON text of a model.
+//! The answer is the model, or in cases of the kind `wide` the model file, a part of it a line; `fine` in its place in
+//! cases of the kind `shape`; and the fault of its shape, as `wanted List at /xmodel/agents`, in all of them.
 
 use crate::case::Case;
 use flame_rows::{Fail, Text};
-use flame_spec::{AgentType, Condition, Function, Input, Model, Operand, Variable};
-use flame_xmml::{Shape, model_of};
+use flame_spec::{
+    AgentType, Condition, Function, Input, Model, Operand, TimeUnit, Variable, Wide, WideAgent,
+    WideVariable,
+};
+use flame_xmml::{Shape, model_of, wide_of};
 use serde_json::Value;
 use std::alloc::{AllocError, Global};
 
@@ -153,12 +156,17 @@ fn print_names(out: &mut String, title: &str, names: &[Text]) -> Result<(), Allo
     Ok(())
 }
 
-fn print_model(out: &mut String, model: &Model) -> Result<(), AllocError> {
-    print_names(out, "constant", model.constants.items())?;
-    print_names(out, "file", model.files.items())?;
-    for unit in model.units.items() {
+fn print_units(out: &mut String, units: &[TimeUnit]) -> Result<(), AllocError> {
+    for unit in units {
         writeln!(out, "unit {} {} {}", unit.name, unit.unit, unit.period)?;
     }
+    Ok(())
+}
+
+pub(crate) fn print_model(out: &mut String, model: &Model) -> Result<(), AllocError> {
+    print_names(out, "constant", model.constants.items())?;
+    print_names(out, "file", model.files.items())?;
+    print_units(out, model.units.items())?;
     for message in model.messages.items() {
         writeln!(out, "message {}", message.name)?;
         print_variables(out, message.variables.items())?;
@@ -186,5 +194,81 @@ pub(crate) fn answer_shape(alloc: Global, case: &Case) -> Result<String, AllocEr
     match model_in(alloc, case)? {
         Found::Told(told) => Ok(told),
         Found::Model(_) => String::from_str(alloc, "fine\n"),
+    }
+}
+
+/// The variables with their types.
+fn print_typed(out: &mut String, variables: &[WideVariable]) -> Result<(), AllocError> {
+    for variable in variables {
+        match variable.length {
+            None => writeln!(out, "variable {} {}", variable.kind, variable.name)?,
+            Some(length) => {
+                writeln!(out, "variable {} {} {length}", variable.kind, variable.name)?;
+            }
+        }
+    }
+    Ok(())
+}
+
+fn print_wide_agent(out: &mut String, agent: &WideAgent) -> Result<(), AllocError> {
+    writeln!(out, "agent {}", agent.name)?;
+    print_typed(out, agent.memory.items())?;
+    for function in agent.functions.items() {
+        print_function(out, function)?;
+    }
+    Ok(())
+}
+
+fn print_wide(out: &mut String, wide: &Wide) -> Result<(), AllocError> {
+    print_names(out, "constant", wide.constants.items())?;
+    print_names(out, "file", wide.files.items())?;
+    print_units(out, wide.units.items())?;
+    for kind in wide.types.items() {
+        writeln!(out, "type {}", kind.name)?;
+        print_typed(out, kind.variables.items())?;
+    }
+    for message in wide.messages.items() {
+        writeln!(out, "message {}", message.name)?;
+        print_typed(out, message.variables.items())?;
+    }
+    for agent in wide.agents.items() {
+        print_wide_agent(out, agent)?;
+    }
+    print_names(out, "nested", wide.nested.items())
+}
+
+/// What was read of a model file.
+#[derive(Drop)]
+pub(crate) enum FoundWide {
+    /// The model file.
+    Wide(Wide),
+    /// Why there is none, as it is answered.
+    Told(String),
+}
+
+/// The model file of a text.
+pub(crate) fn wide_from(alloc: Global, text: &str) -> Result<FoundWide, AllocError> {
+    let mut out = String::new(alloc);
+    let Ok(value) = Value::from_str(alloc, text) else {
+        writeln!(out, "not JSON")?;
+        return Ok(FoundWide::Told(out));
+    };
+    match wide_of(alloc, &value) {
+        Ok(wide) => return Ok(FoundWide::Wide(wide)),
+        Err(Fail::Fault(shape)) => print_shape(&mut out, &shape)?,
+        Err(Fail::NoMemory) => writeln!(out, "no memory")?,
+    }
+    Ok(FoundWide::Told(out))
+}
+
+/// The answer to a case of the kind `wide`.
+pub(crate) fn answer_wide(alloc: Global, case: &Case) -> Result<String, AllocError> {
+    match wide_from(alloc, case.text("model"))? {
+        FoundWide::Told(told) => Ok(told),
+        FoundWide::Wide(wide) => {
+            let mut out = String::new(alloc);
+            print_wide(&mut out, &wide)?;
+            Ok(out)
+        }
     }
 }

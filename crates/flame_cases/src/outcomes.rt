@@ -10,8 +10,7 @@ use flame_lex::lex;
 use flame_parse::parse;
 use flame_rows::{Bag, Row, Seq};
 use flame_sense::evaluate;
-use flame_spec::{AgentType, Effect, MessageType, Model, Outcome, Source, Unit, Variable};
-use serde_json::Value;
+use flame_spec::{Effect, Outcome, Source, Unit};
 use std::alloc::{AllocError, Global};
 
 /// How many bytes a function file may have.
@@ -91,95 +90,6 @@ fn units_in(alloc: Global, case: &Case) -> Result<Seq<Unit>, AllocError> {
     Ok(Seq::of(units))
 }
 
-/// The length that the variable of this number has in the list of the model file.
-fn length_of(list: Option<&Value>, number: usize) -> Option<u32> {
-    let length = list?.get(number)?.get("length")?.as_u64()?;
-    u32::try_from(length).ok()
-}
-
-/// What the list of this name in the model file has at this number and name.
-fn list_of<'a>(file: &'a Value, lists: &str, number: usize, name: &str) -> Option<&'a Value> {
-    file.get("xmodel")?.get(lists)?.get(number)?.get(name)
-}
-
-/// The variables with the lengths of arrays, which `model_of` passes over.
-fn with_lengths(
-    alloc: Global,
-    variables: Seq<Variable>,
-    list: Option<&Value>,
-) -> Result<Seq<Variable>, AllocError> {
-    let mut arrays = Vec::new(alloc);
-    for variable in variables.into_items() {
-        let length = length_of(list, arrays.len());
-        let Variable { name, length: _ } = variable;
-        arrays.push(Variable { name, length })?;
-    }
-    Ok(Seq::of(arrays))
-}
-
-/// The messages with the lengths of arrays.
-fn messages_with(
-    alloc: Global,
-    messages: Seq<MessageType>,
-    file: &Value,
-) -> Result<Seq<MessageType>, AllocError> {
-    let mut found = Vec::new(alloc);
-    for message in messages.into_items() {
-        let list = list_of(file, "messages", found.len(), "variables");
-        let MessageType { name, variables } = message;
-        let variables = with_lengths(alloc, variables, list)?;
-        found.push(MessageType { name, variables })?;
-    }
-    Ok(Seq::of(found))
-}
-
-/// The agent types with the lengths of arrays.
-fn agents_with(
-    alloc: Global,
-    agents: Seq<AgentType>,
-    file: &Value,
-) -> Result<Seq<AgentType>, AllocError> {
-    let mut found = Vec::new(alloc);
-    for agent in agents.into_items() {
-        let list = list_of(file, "agents", found.len(), "memory");
-        let AgentType {
-            name,
-            memory,
-            functions,
-        } = agent;
-        let memory = with_lengths(alloc, memory, list)?;
-        found.push(AgentType {
-            name,
-            memory,
-            functions,
-        })?;
-    }
-    Ok(Seq::of(found))
-}
-
-/// The model with the lengths of arrays that its file has.
-fn model_with(alloc: Global, model: Model, text: &str) -> Result<Model, AllocError> {
-    let Ok(file) = Value::from_str(alloc, text) else {
-        return Ok(model);
-    };
-    let Model {
-        constants,
-        files,
-        units,
-        messages,
-        agents,
-    } = model;
-    let messages = messages_with(alloc, messages, &file)?;
-    let agents = agents_with(alloc, agents, &file)?;
-    Ok(Model {
-        constants,
-        files,
-        units,
-        messages,
-        agents,
-    })
-}
-
 // ---- the answer
 
 fn print_effect(out: &mut String, effect: &Effect) -> Result<(), AllocError> {
@@ -224,7 +134,7 @@ fn print_outcome(
 
 pub(crate) fn answer(alloc: Global, case: &Case) -> Result<String, AllocError> {
     let model = match model_in(alloc, case)? {
-        Found::Model(model) => model_with(alloc, model, case.text("model"))?,
+        Found::Model(model) => model,
         Found::Told(told) => return Ok(told),
     };
     let mut out = String::new(alloc);

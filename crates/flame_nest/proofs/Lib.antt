@@ -1,0 +1,14 @@
+pub mod Measures
+pub mod Looks
+pub mod Unfolding
+pub mod Agreement
+pub mod Firsts
+pub mod Joins
+pub mod Typing
+pub mod Walks
+pub mod PlainForms
+pub mod PlainFaults
+pub mod Shapes
+pub mod LaterTypes
+pub mod FormedModels
+pub mod BasedTypes

@@ -1,0 +1,15 @@
+-- The promise: model files are refused by the first of their faults.
+use Rattle.std.specs.Prelude.{◌≡◌, List, Some}
+use Rattle.flame_rows.specs.declared.fails.Fail.{Fail}
+use Rattle.flame_rows.specs.declared.fails.Fail.TheVariants.{Fault, NoMemory}
+use Rattle.flame_spec.specs.Lists.{first}
+
+-- it is the first of these faults, or want of memory [own]
+abbrev pub FailsFirst : {F : Type 0} → List F → Fail F → Type 0
+FailsFirst faults (Fault fault) = first faults ≡ Some fault
+FailsFirst faults NoMemory = Unit {0}
+
+-- it is this fault, or want of memory [own]
+abbrev pub FailsBy : {F : Type 0} → F → Fail F → Type 0
+FailsBy fault (Fault other) = other ≡ fault
+FailsBy fault NoMemory = Unit {0}

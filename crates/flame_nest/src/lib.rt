@@ -1,0 +1,22 @@
+//! Model files with data types and nested files, and the flat model that they mean.
+#![tactic(auto)]
+
+mod copies;
+mod earlier;
+mod faults;
+mod fields;
+mod flattening;
+mod joining;
+mod kinds;
+pub mod laws;
+mod messages;
+mod names;
+mod refusing;
+#[cfg(test)]
+mod tests;
+mod types;
+mod variables;
+mod walking;
+
+pub use faults::{NestFault, NestKind};
+pub use flattening::flatten;
