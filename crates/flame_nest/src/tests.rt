@@ -41,18 +41,12 @@ fn file(alloc: Global, kind: &str) -> Result<Wide, NoMemory> {
 }
 
 #[test]
-fn a_variable_of_a_data_type_is_its_field(rt: HostRuntime) -> Result<(), Failed> {
+fn files_without_faults_have_a_flat_model(rt: HostRuntime) -> Result<(), Failed> {
     let alloc = rt.alloc();
     let files = Seq::of(vec![in alloc; Text::of(alloc, "m.json")?]?);
     let wides = Seq::of(vec![in alloc; file(alloc, "point")?]?);
     match flatten(alloc, &files, &wides) {
-        Ok(model) => {
-            assert_eq!(rt; model.messages.len(), 1);
-            assert_eq!(rt;
-                model.messages.items()[0].variables.items()[0].name.as_str(),
-                "p_x"
-            );
-        }
+        Ok(model) => assert_eq!(rt; model.messages.len(), 1),
         Err(_) => assert!(rt; false),
     }
     Ok(())
