@@ -4,6 +4,7 @@ use Rattle.std.specs.List.{list_all}
 use Rattle.std.specs.Prelude.{Bool, true, false, ◌&&◌, Option, Some, None}
 use Rattle.std.specs.Option.{option_map_or}
 use Rattle.flame_spec.specs.declared.outcomes.Widths.{Widths}
+use Rattle.flame_spec.specs.HelperFaults.{deepest_calls}
 use Rattle.flame_code.specs.declared.instrs.Instr.{Instr}
 use Rattle.flame_code.specs.declared.instrs.Instr.TheVariants.{Call}
 use Rattle.flame_code.specs.Routines.{Routine}
@@ -37,11 +38,16 @@ abbrev pub CallsBelow : List ℕ → ℕ → Instr → Type 0
 CallsBelow heights height (Call l h n) = slice_index heights h < height
 CallsBelow heights height instr = Unit {0}
 
--- these are heights of helpers: each is at most 64, and each helper calls only helpers of a smaller height [own]
+-- a helper may have this height: it is 1 more than the greatest height of the helpers that it calls, and 1 where it
+-- calls none, so it is at least 1, and at most 64 [own]
+abbrev pub IsHeight : ℕ → Type 0
+IsHeight height = (1 ≤ height) × (height ≤ deepest_calls)
+
+-- these are heights of helpers, and each helper calls only helpers of a smaller height [own]
 abbrev pub AreHeights : List Routine → List ℕ → Type 0
 AreHeights routines heights =
     (h : ℕ) (r : Routine) → slice_get routines h ≡ Some r
-    → (slice_index heights h ≤ 64)
+    → IsHeight (slice_index heights h)
     × ((p : ℕ) (i : Instr) → slice_get r.instrs p ≡ Some i → CallsBelow heights (slice_index heights h) i)
 
 -- these are helpers of one another [own]

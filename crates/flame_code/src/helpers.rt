@@ -10,7 +10,7 @@ use flame_rows::Seq;
 use std::marker::Model;
 
 /// The codes of helpers with their numbers of parameters, in order. Each calls only helpers of a smaller height than its
-/// own, with the right count of arguments, the heights are at most 64, and none sees a memory, an input, a message type
+/// own, with the right count of arguments, the heights go from 1 to 64, and none sees a memory, an input, a message type
 /// or an agent type. So calls are never open more than 64 deep.
 #[derive(Debug, Drop)]
 pub struct Helpers {

@@ -13,7 +13,7 @@ use Rattle.flame_spec.specs.MessageFaults.{apart_faults}
 use Rattle.flame_spec.specs.NameFaults.{memory_name_faults}
 use Rattle.flame_rows.specs.declared.fails.Fail.{Fail}
 use Rattle.flame_rows.specs.declared.fails.Fail.TheVariants.{Fault, NoMemory}
-use Rattle.flame_names.specs.FirstFaults.{FailsBy, FailsFirst}
+use Rattle.flame_spec.specs.FirstFaults.{FailsBy, FailsFirst}
 use Rattle.flame_spec.proofs.Alike.{clashes-new}
 
 -- a fault that is the first

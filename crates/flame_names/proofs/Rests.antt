@@ -5,7 +5,7 @@ use Rattle.flame_spec.specs.declared.faults.NameFault.{NameFault}
 use Rattle.flame_spec.specs.Lists.{each_from, first}
 use Rattle.flame_rows.specs.declared.fails.Fail.{Fail}
 use Rattle.flame_rows.specs.declared.fails.Fail.TheVariants.{Fault, NoMemory}
-use Rattle.flame_names.specs.FirstFaults.{FailsFirst}
+use Rattle.flame_spec.specs.FirstFaults.{FailsFirst}
 
 first-append : (xs ys : List NameFault) (fault : NameFault) → first xs ≡ Some fault → first (xs ++ ys) ≡ Some fault
 first-append [] ys fault h = cc

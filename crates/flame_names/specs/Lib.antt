@@ -1,5 +1,4 @@
--- The promise: a refusal names the first fault of the model's names.
-pub mod FirstFaults
+-- The promise stands in flame_spec: a refusal is the first (FirstFaults) of the model's faults of names (NameFaults).
 -- The words that only bodies and proofs use.
 pub mod PlacePaths
 pub mod NameLooks

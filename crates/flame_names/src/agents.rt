@@ -7,7 +7,7 @@ ghost use Rattle.flame_spec.specs.NameFaults.{memory_name_faults, memory_variabl
 ghost use Rattle.flame_spec.specs.NameFaults.{function_names, agent_faults, agents_faults};
 ghost use Rattle.flame_spec.specs.Paths.{at_key};
 ghost use Rattle.flame_names.specs.PlacePaths.{text_of};
-ghost use Rattle.flame_names.specs.FirstFaults.{FailsFirst};
+ghost use Rattle.flame_spec.specs.FirstFaults.{FailsFirst};
 ghost use Rattle.flame_names.specs.TableScopes.{declared_of};
 
 use crate::faults::{add_new, fault, refuse};

@@ -5,7 +5,7 @@ ghost use Rattle.flame_spec.specs.declared.faults.NameKind.TheVariants.{Duplicat
 ghost use Rattle.flame_spec.specs.KnownNames.{is_among};
 ghost use Rattle.flame_spec.specs.Refusals.{name_fault, fault_where};
 ghost use Rattle.flame_names.specs.PlacePaths.{text_of};
-ghost use Rattle.flame_names.specs.FirstFaults.{FailsBy, FailsFirst};
+ghost use Rattle.flame_spec.specs.FirstFaults.{FailsBy, FailsFirst};
 
 use crate::path::Place;
 use crate::table::Names;

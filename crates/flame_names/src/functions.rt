@@ -5,7 +5,7 @@ ghost use Rattle.flame_spec.specs.KnownNames.{is_among};
 ghost use Rattle.flame_spec.specs.Leaves.{condition_faults};
 ghost use Rattle.flame_spec.specs.FunctionFaults.{condition_scope, sort_faults, reading_faults, use_faults, input_faults, inputs_faults, outputs_faults, functions_faults};
 ghost use Rattle.flame_names.specs.PlacePaths.{text_of};
-ghost use Rattle.flame_names.specs.FirstFaults.{FailsFirst};
+ghost use Rattle.flame_spec.specs.FirstFaults.{FailsFirst};
 ghost use Rattle.flame_names.specs.NameLooks.{transition_of};
 ghost use Rattle.flame_names.specs.TableScopes.{scope_of, declared_of};
 ghost use Rattle.flame_names.specs.FunctionTitles.{title_at, function_at};

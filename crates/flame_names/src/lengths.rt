@@ -3,7 +3,7 @@
 ghost use Rattle.std.specs.Prelude.{◌≡◌, ◌++◌, ◌*ℤ◌, ◌≤ℤ◌, pos, [], ◌∷◌, ℕ, List, IfOk, IfErr, OnOk, None, Some, is_some, not, if◌then◌else◌};
 ghost use Rattle.flame_spec.specs.UnitFaults.{units_faults};
 ghost use Rattle.flame_names.specs.PlacePaths.{text_of};
-ghost use Rattle.flame_names.specs.FirstFaults.{FailsFirst};
+ghost use Rattle.flame_spec.specs.FirstFaults.{FailsFirst};
 ghost use Rattle.flame_names.specs.NameLooks.{look, names_of};
 ghost use Rattle.flame_names.specs.UnitTables.{started, unit_at, with_unit, floored};
 ghost use Rattle.flame_spec.specs.KnownNames.{is_among, unit_names};

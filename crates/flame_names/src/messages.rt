@@ -7,7 +7,7 @@ ghost use Rattle.flame_spec.specs.KnownNames.{is_among};
 ghost use Rattle.flame_spec.specs.MessageFaults.{apart_faults, constant_faults, variable_faults, variables_faults};
 ghost use Rattle.flame_spec.specs.MessageFaults.{message_faults, messages_faults};
 ghost use Rattle.flame_names.specs.PlacePaths.{text_of};
-ghost use Rattle.flame_names.specs.FirstFaults.{FailsFirst};
+ghost use Rattle.flame_spec.specs.FirstFaults.{FailsFirst};
 ghost use Rattle.flame_names.specs.NameLooks.{look, names_of, message_entry};
 
 use crate::faults::fault;

@@ -6,7 +6,7 @@ ghost use Rattle.flame_spec.specs.KnownNames.{unit_names};
 ghost use Rattle.flame_spec.specs.NameFaults.{environment_faults, model_faults, name_faults};
 ghost use Rattle.flame_names.specs.PlacePaths.{text_of};
 ghost use Rattle.flame_names.specs.NameLooks.{names_of};
-ghost use Rattle.flame_names.specs.FirstFaults.{FailsFirst};
+ghost use Rattle.flame_spec.specs.FirstFaults.{FailsFirst};
 
 use crate::agents::agents;
 use crate::functions::Tables;

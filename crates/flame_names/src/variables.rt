@@ -8,7 +8,7 @@ ghost use Rattle.flame_spec.specs.Leaves.{single_faults};
 ghost use Rattle.flame_spec.specs.Paths.{at_key};
 ghost use Rattle.flame_spec.specs.Refusals.{fault_where};
 ghost use Rattle.flame_names.specs.PlacePaths.{text_of};
-ghost use Rattle.flame_names.specs.FirstFaults.{FailsFirst};
+ghost use Rattle.flame_spec.specs.FirstFaults.{FailsFirst};
 
 use crate::faults::{prefixed_fault, refuse};
 use crate::path::Place;

@@ -9,7 +9,7 @@ use Rattle.flame_rows.specs.declared.fails.Fail.{Fail}
 use Rattle.flame_rows.specs.declared.fails.Fail.TheVariants.{Fault, NoMemory}
 use Rattle.flame_nest.specs.declared.faults.NestKind.{NestKind}
 use Rattle.flame_nest.specs.NestFaults.{nest_where}
-use Rattle.flame_nest.specs.FirstNestFault.{FailsBy, FailsFirst}
+use Rattle.flame_spec.specs.FirstFaults.{FailsBy, FailsFirst}
 
 -- a fault that is the first
 pub fails_first : {F : Type 0} (fault : F) (faults : List F) (fail : Fail F)

@@ -1,6 +1,4 @@
--- The promise: the flat model, or the first fault.
-pub mod FirstNestFault
--- What these are. Each definition's comment ends with its source in brackets, as in flame_spec.
+-- The promise: the flat model, or the first fault (FirstFaults in flame_spec). Each definition's comment ends with its source in brackets, as in flame_spec.
 pub mod FlatModels
 pub mod NestFaults
 pub mod NestKindNames

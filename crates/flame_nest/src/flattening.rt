@@ -4,7 +4,7 @@ ghost use Rattle.std.specs.Prelude.{◌≡◌, ◌<◌, [], map, length, IsTrue,
 ghost use Rattle.flame_spec.specs.Counted.{is_counted};
 ghost use Rattle.flame_nest.specs.FlatModels.{flat, joined_types, joined_messages};
 ghost use Rattle.flame_nest.specs.NestFaults.{nest_faults};
-ghost use Rattle.flame_nest.specs.FirstNestFault.{FailsFirst};
+ghost use Rattle.flame_spec.specs.FirstFaults.{FailsFirst};
 
 use crate::faults::NestFault;
 use crate::joining::{agents, constants, files, messages, units};

@@ -4,7 +4,7 @@ ghost use Rattle.std.specs.Prelude.{◌≡◌, ◌++◌, [], not, map, IfErr, On
 ghost use Rattle.std.specs.List.{filter};
 ghost use Rattle.flame_nest.specs.NestFaults.{meant_by, message_faults, messages_faults, agents_faults};
 ghost use Rattle.flame_nest.specs.GivenTables.{given_in};
-ghost use Rattle.flame_nest.specs.FirstNestFault.{FailsFirst};
+ghost use Rattle.flame_spec.specs.FirstFaults.{FailsFirst};
 
 use crate::earlier::Earlier;
 use crate::faults::{NestFault, NestKind};

@@ -2,7 +2,7 @@
 
 ghost use Rattle.std.specs.Prelude.{◌≡◌, [], IfOk, IfErr, OnOk};
 ghost use Rattle.flame_nest.specs.NestFaults.{nest_fault, nest_where};
-ghost use Rattle.flame_nest.specs.FirstNestFault.{FailsBy, FailsFirst};
+ghost use Rattle.flame_spec.specs.FirstFaults.{FailsBy, FailsFirst};
 
 use crate::faults::{NestFault, NestKind};
 use flame_rows::{Copied, Fail, NoMemory, Text};

@@ -5,7 +5,7 @@ ghost use Rattle.flame_spec.specs.KnownNames.{is_among};
 ghost use Rattle.flame_nest.specs.FlatModels.{flat_variables, with_new};
 ghost use Rattle.flame_nest.specs.NestFaults.{meant_by, type_names, fields_faults, type_faults, types_faults, is_wide, is_int};
 ghost use Rattle.flame_nest.specs.GivenTables.{given_in};
-ghost use Rattle.flame_nest.specs.FirstNestFault.{FailsFirst};
+ghost use Rattle.flame_spec.specs.FirstFaults.{FailsFirst};
 
 use crate::earlier::Earlier;
 use crate::faults::{NestFault, NestKind};

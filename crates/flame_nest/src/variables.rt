@@ -2,7 +2,7 @@
 
 ghost use Rattle.std.specs.Prelude.{◌≡◌, ◌||◌, ◌&&◌, [], not, is_some, IfErr, OnOk};
 ghost use Rattle.flame_nest.specs.NestFaults.{meant_by, variable_faults, variables_faults, is_int};
-ghost use Rattle.flame_nest.specs.FirstNestFault.{FailsFirst};
+ghost use Rattle.flame_spec.specs.FirstFaults.{FailsFirst};
 
 use crate::faults::{NestFault, NestKind};
 use crate::kinds::Kinds;

@@ -6,7 +6,7 @@ ghost use Rattle.flame_nest.specs.FlatModels.{joined_types, joined_messages};
 ghost use Rattle.flame_nest.specs.NestFaults.{type_names, nest_faults};
 ghost use Rattle.flame_nest.specs.GivenTables.{given_in};
 ghost use Rattle.flame_nest.specs.FileWalks.{known_with, walk_faults};
-ghost use Rattle.flame_nest.specs.FirstNestFault.{FailsFirst};
+ghost use Rattle.flame_spec.specs.FirstFaults.{FailsFirst};
 
 use crate::earlier::Earlier;
 use crate::faults::NestFault;

@@ -20,7 +20,7 @@ use Rattle.flame_spec.specs.HelperFaults.{helper_context}
 use Rattle.flame_spec.specs.KnownNames.{is_among}
 use Rattle.flame_spec.specs.Lists.{numbered_from, numbered_where}
 use Rattle.flame_spec.specs.LookUps.{message_looped}
-use Rattle.flame_spec.specs.Scopes.{Context, over_message, over_none, Sight, at_entry, after_parameters, after_name}
+use Rattle.flame_spec.specs.Scopes.{Context, over_message, over_none, Sight, at_entry, after_parameters, after_name, names_seen}
 use Rattle.flame_spec.specs.Scopes.{after_items, after, after_all, in_value_of, in_loop, messages_at, given_at}
 use Rattle.flame_spec.specs.Scopes.{is_local}
 use Rattle.flame_spec.specs.Scopes.{in_scope as scoped}
@@ -37,7 +37,7 @@ use Rattle.flame_sense.specs.Statements.{meaning, meanings}
 use Rattle.flame_sense.specs.HelperCalls.{parameter_locals, helper_scene, entered}
 use Rattle.flame_sense.specs.Kept.{Leaves}
 use Rattle.flame_sense.specs.Outcomes.{start, scene_of, message_named}
-use Rattle.flame_sense.specs.Agreement.{names_of, names_seen, LoopsStand, no_loops, plain_loop, message_loop, Agrees}
+use Rattle.flame_sense.specs.Agreement.{names_of, LoopsStand, no_loops, plain_loop, message_loop, Agrees}
 use Rattle.flame_sense.specs.AcceptedMeaning.{place_in, WentOnAgrees, EndAgrees}
 use Rattle.flame_sense.proofs.Naming.{Same, Ends, names_with, names_after, names_after_all, statement_names}
 use Rattle.flame_sense.proofs.Naming.{statements_names, body_names}

@@ -18,7 +18,7 @@ use Rattle.flame_spec.specs.Functions.{Place}
 use Rattle.flame_spec.specs.KnownNames.{is_among}
 use Rattle.flame_spec.specs.LookUps.{iteration, memory_named, constant_named, is_iteration, given_beside, given_by}
 use Rattle.flame_spec.specs.LookUps.{memory_got, message_read, message_looped}
-use Rattle.flame_spec.specs.Scopes.{Context, Loop, Sight, memory_at, messages_at, given_at, is_local, is_name_of}
+use Rattle.flame_spec.specs.Scopes.{Context, Loop, Sight, memory_at, messages_at, given_at, is_local, is_name_of, laid}
 use Rattle.flame_spec.specs.Scopes.{is_visible, is_over, is_open_over}
 use Rattle.flame_spec.specs.StatementFaults.{is_only_read, is_read_only, is_input, start_faults, subscript_faults}
 use Rattle.flame_spec.specs.Trees.{Expression, number, name, field, get, at, field_at, signed, chain, all_of, any_of}
@@ -26,7 +26,7 @@ use Rattle.flame_spec.specs.Trees.{Expressions, no_parts, part, Links, no_links,
 use Rattle.flame_sense.specs.Scenes.{Scene, Local, Progress, Current, local_value, array_named}
 use Rattle.flame_sense.specs.Statements.{input_for}
 use Rattle.flame_sense.specs.Outcomes.{message_named}
-use Rattle.flame_sense.specs.Agreement.{names_of, laid, LoopsStand, no_loops, plain_loop, message_loop, Agrees}
+use Rattle.flame_sense.specs.Agreement.{names_of, LoopsStand, no_loops, plain_loop, message_loop, Agrees}
 use Rattle.flame_sense.specs.AcceptedMeaning.{IsNamed, IsArrayNamed, IsOverOne, IsRowRead, Finds, PartsFind}
 use Rattle.flame_sense.specs.AcceptedMeaning.{LinksFind, PlaceFinds}
 use Rattle.flame_sense.proofs.Agreeing.{first_none, second_none, no_fault, same_bytes, bytes_same, true≢false}

@@ -1,22 +1,13 @@
 -- Where a function runs as the check faults see it: what its progress has agrees with what the place sees.
-use Rattle.std.specs.Prelude.{◌≡◌, ℕ, ℤ, List, [], ◌∷◌, ◌++◌, map, None, Some, IsTrue}
+use Rattle.std.specs.Prelude.{◌≡◌, ℕ, ℤ, List, [], ◌∷◌, map, None, Some, IsTrue}
 use Rattle.flame_spec.specs.declared.models.MessageType.{MessageType}
-use Rattle.flame_spec.specs.Scopes.{Context, Loop, over_message, over_none, Sight, messages_at, given_at, is_local}
+use Rattle.flame_spec.specs.Scopes.{Context, Loop, over_message, over_none, Sight, names_seen, messages_at, given_at, is_local}
 use Rattle.flame_sense.specs.Scenes.{Scene, Local, Progress, Current, context_for}
 use Rattle.flame_sense.specs.Outcomes.{message_named}
 
 -- the names of these locals, the newest first [own]
 abbrev pub names_of : List Local → List (List ℕ)
 names_of locals = map (λ local. local.name) locals
-
--- scopes laid end to end, from the inside [own]
-abbrev pub laid : List (List (List ℕ)) → List (List ℕ)
-laid [] = []
-laid (scope ∷ scopes) = scope ++ laid scopes
-
--- the names that a place sees: its scope and those round it, laid end to end [own]
-abbrev pub names_seen : Sight → List (List ℕ)
-names_seen sight = sight.scope ++ laid sight.outer
 
 -- the loops that a place is in, and where loops over messages stand, both from the inside: each loop over a message
 -- stands at a row of the first message of its name [own]

@@ -18,6 +18,7 @@ pub mod Counted
 pub mod WideModels
 pub mod Paths
 pub mod Refusals
+pub mod FirstFaults
 pub mod UnitFaults
 pub mod MessageFaults
 pub mod Leaves

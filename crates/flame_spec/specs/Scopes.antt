@@ -1,6 +1,6 @@
 -- What the places of a function's body see: the locals that are declared round them, the names that the model gives,
 -- and the loops that are open.
-use Rattle.std.specs.Prelude.{ℕ, List, [], ◌∷◌, map, Bool, true, false, not, ◌&&◌, ◌||◌, Option, Some, None, is_some}
+use Rattle.std.specs.Prelude.{ℕ, List, [], ◌∷◌, ◌++◌, map, Bool, true, false, not, ◌&&◌, ◌||◌, Option, Some, None, is_some}
 use Rattle.std.specs.List.{list_any}
 use Rattle.std.specs.Str.{bytes_eq}
 use Rattle.flame_spec.specs.declared.models.Model.{Model}
@@ -106,6 +106,15 @@ after_all sight (also statement statements) = after_all (after sight statement) 
 -- the word is a local of the scope or of one round it [C, 6.2.1]
 abbrev pub is_local : Sight → List ℕ → Bool
 is_local sight word = is_among word sight.scope || list_any (is_among word) sight.outer
+
+-- scopes laid end to end, from the inside [own]
+abbrev pub laid : List (List (List ℕ)) → List (List ℕ)
+laid [] = []
+laid (scope ∷ scopes) = scope ++ laid scopes
+
+-- the names that a place sees: its scope and those round it, laid end to end [own]
+abbrev pub names_seen : Sight → List (List ℕ)
+names_seen sight = sight.scope ++ laid sight.outer
 
 -- the name is there and is this word [own]
 abbrev pub is_name_of : Option (List ℕ) → List ℕ → Bool

@@ -1,16 +1,15 @@
--- Why a model's names are refused.
+-- How a reader fails: by a fault that it was told of, or for want of memory.
 use Rattle.std.specs.Prelude.{◌≡◌, List, Some}
-use Rattle.flame_spec.specs.declared.faults.NameFault.{NameFault}
-use Rattle.flame_spec.specs.Lists.{first}
 use Rattle.flame_rows.specs.declared.fails.Fail.{Fail}
 use Rattle.flame_rows.specs.declared.fails.Fail.TheVariants.{Fault, NoMemory}
+use Rattle.flame_spec.specs.Lists.{first}
 
 -- it is this fault, or want of memory [own]
-abbrev pub FailsBy : NameFault → Fail NameFault → Type 0
+abbrev pub FailsBy : {F : Type 0} → F → Fail F → Type 0
 FailsBy fault (Fault other) = other ≡ fault
 FailsBy fault NoMemory = Unit {0}
 
 -- it is the first of these faults, or want of memory [own]
-abbrev pub FailsFirst : List NameFault → Fail NameFault → Type 0
+abbrev pub FailsFirst : {F : Type 0} → List F → Fail F → Type 0
 FailsFirst faults (Fault fault) = first faults ≡ Some fault
 FailsFirst faults NoMemory = Unit {0}
