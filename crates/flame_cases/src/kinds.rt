@@ -1,10 +1,12 @@
 //! The calls that cases are of.
 
-use crate::case::Case;
-use crate::{
-    choosing, deciding, lexing, modeling, naming, nesting, ordering, outcomes, parsing, planning,
-    running, viewing,
+use crate::{outcomes, running};
+use flame_case::Case;
+use flame_case_models::{
+    answer_flat, answer_model, answer_names, answer_plan, answer_shape, answer_wide,
 };
+use flame_case_texts::{answer_expression, answer_order, answer_tokens, answer_trees};
+use flame_case_views::{answer_choices, answer_conditions, answer_views};
 use std::alloc::{AllocError, Global};
 use std::sync::Wait;
 use std::thread::Threads;
@@ -74,20 +76,20 @@ pub(crate) fn answer(
     case: &Case,
 ) -> Result<String, AllocError> {
     match kind {
-        Kind::Lex => lexing::answer(alloc, case),
+        Kind::Lex => answer_tokens(alloc, case),
         Kind::Run => running::answer(rt, alloc, case),
-        Kind::Words => ordering::answer(alloc, case),
-        Kind::Shape => modeling::answer_shape(alloc, case),
-        Kind::Model => modeling::answer(alloc, case),
-        Kind::Wide => modeling::answer_wide(alloc, case),
-        Kind::Nest => nesting::answer(alloc, case),
-        Kind::Names => naming::answer(alloc, case),
+        Kind::Words => answer_order(alloc, case),
+        Kind::Shape => answer_shape(alloc, case),
+        Kind::Model => answer_model(alloc, case),
+        Kind::Wide => answer_wide(alloc, case),
+        Kind::Nest => answer_flat(alloc, case),
+        Kind::Names => answer_names(alloc, case),
         Kind::Outcome => outcomes::answer(alloc, case),
-        Kind::Plan => planning::answer(alloc, case),
-        Kind::Condition => deciding::answer(alloc, case),
-        Kind::View => viewing::answer(alloc, case),
-        Kind::Choice => choosing::answer(rt, alloc, case),
-        Kind::Expression => parsing::answer_expression(alloc, case),
-        Kind::Parse => parsing::answer(alloc, case),
+        Kind::Plan => answer_plan(alloc, case),
+        Kind::Condition => answer_conditions(alloc, case),
+        Kind::View => answer_views(alloc, case),
+        Kind::Choice => answer_choices(rt, alloc, case),
+        Kind::Expression => answer_expression(alloc, case),
+        Kind::Parse => answer_trees(alloc, case),
     }
 }

@@ -4,25 +4,12 @@
 //! was wanted and what came. The status is 0 where none differs, 1 where one does, and 2 where a file cannot be used.
 #![tactic(auto)]
 
-mod case;
-mod choosing;
-mod deciding;
 mod kinds;
-mod lexing;
-mod modeling;
-mod naming;
-mod nesting;
-mod ordering;
 mod outcomes;
-mod parsing;
-mod planning;
-mod readable;
 mod running;
-mod trees;
-mod viewing;
 mod watched;
 
-use case::{Case, read_cases};
+use flame_case::{Case, read_cases};
 use kinds::{Kind, answer, kind_of};
 use std::alloc::Global;
 use std::process::ExitCode;

@@ -3,8 +3,8 @@
 //! and `fails err` are those of the calls that fail there. The answer has the status, how many files it says were put,
 //! what was printed, and each file that a call put as it stands at last.
 
-use crate::case::Case;
 use crate::watched::Watched;
+use flame_case::Case;
 use flame_outside::{MemDepot, MemSink, OpenGate};
 use flame_top::flame;
 use std::alloc::{AllocError, Global};

@@ -1,12 +1,10 @@
 //! Cases of `lex`: the section `text`; a token a line, as `Word x at 0 line 1`, or the fault, as `BadByte at byte 0`.
 
-use crate::case::Case;
+use crate::sources::LONGEST;
+use flame_case::Case;
 use flame_lex::{Kind, Token, lex};
 use flame_rows::Fail;
 use std::alloc::{AllocError, Global};
-
-/// How many bytes a function file may have.
-const LONGEST: usize = 4194304;
 
 fn print_token(out: &mut String, token: &Token) -> Result<(), AllocError> {
     match &token.kind {
@@ -20,7 +18,7 @@ fn print_token(out: &mut String, token: &Token) -> Result<(), AllocError> {
     writeln!(out, " at {} line {}", token.at, token.line)
 }
 
-pub(crate) fn answer(alloc: Global, case: &Case) -> Result<String, AllocError> {
+pub fn answer_tokens(alloc: Global, case: &Case) -> Result<String, AllocError> {
     let mut out = String::new(alloc);
     let bytes = case.bytes("text");
     if bytes.len() > LONGEST {

@@ -3,16 +3,14 @@
 //! without it, and behind its tree stands the token at which it ends, as `to 3`. Where the section `print` has the word
 //! `names`, only the names of the functions are printed.
 
-use crate::case::Case;
+use crate::sources::LONGEST;
 use crate::trees::{print_definitions, print_expression, print_names};
+use flame_case::Case;
 use flame_expr::{ParseFault, is_counted, nests, parse_expr};
 use flame_lex::{Token, lex};
 use flame_parse::parse;
 use flame_rows::{Fail, Seq};
 use std::alloc::{AllocError, Global};
-
-/// How many bytes a function file may have.
-const LONGEST: usize = 4194304;
 
 /// What was read.
 #[derive(Drop)]
@@ -69,7 +67,7 @@ fn print_place(
 }
 
 /// The answer to a case of the kind `expression`.
-pub(crate) fn answer_expression(alloc: Global, case: &Case) -> Result<String, AllocError> {
+pub fn answer_expression(alloc: Global, case: &Case) -> Result<String, AllocError> {
     let tokens = match tokens_in(alloc, case)? {
         Found::Told(told) => return Ok(told),
         Found::Tokens(tokens) => tokens,
@@ -103,7 +101,7 @@ fn print_file(
 }
 
 /// The answer to a case of the kind `parse`.
-pub(crate) fn answer(alloc: Global, case: &Case) -> Result<String, AllocError> {
+pub fn answer_trees(alloc: Global, case: &Case) -> Result<String, AllocError> {
     let tokens = match tokens_in(alloc, case)? {
         Found::Told(told) => return Ok(told),
         Found::Tokens(tokens) => tokens,

@@ -1,5 +1,5 @@
 use Rattle.std.proofs.Common.{length}
-use Rattle.flame_cases.proofs.readable.+length_of.Given as goal
+use Rattle.flame_case_views.proofs.readable.+length_of.Given as goal
 
 abbrev pub decreases-length_of : goal.decreases-length_of
 decreases-length_of l = length l.units.now

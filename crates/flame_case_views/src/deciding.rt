@@ -3,9 +3,9 @@
 //! `condition 0 true`; and for each of its inputs, from 0, whether the row passes its filter, as `filter 0 1 true`, and
 //! the column and the direction of its key, as `sort 0 1 2 descend`.
 
-use crate::case::Case;
-use crate::modeling::{Found, model_in};
 use crate::readable::{is_narrow, is_readable, is_readable_filter};
+use flame_case::Case;
+use flame_case_models::{Found, model_in};
 use flame_cond::{Cond, Filter, SortBy};
 use flame_rows::Row;
 use flame_spec::{AgentType, Condition, Function, Input, MessageType, Model, Sort};
@@ -156,7 +156,7 @@ fn print_all(
     Ok(())
 }
 
-pub(crate) fn answer(alloc: Global, case: &Case) -> Result<String, AllocError> {
+pub fn answer_conditions(alloc: Global, case: &Case) -> Result<String, AllocError> {
     let model = match model_in(alloc, case)? {
         Found::Told(told) => return Ok(told),
         Found::Model(model) => model,

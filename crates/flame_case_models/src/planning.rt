@@ -2,8 +2,8 @@
 //! the order, the layers and the start states, as `plan [0 1] [0 1] [start]`, or the fault, as `cycle [0 1]` or
 //! `starts 0 [a b]`. Functions and agent types are numbered from 0.
 
-use crate::case::Case;
 use crate::modeling::{Found, model_in};
+use flame_case::Case;
 use flame_depend::{DependFault, Edge, edges, plan};
 use flame_rows::Fail;
 use flame_spec::Model;
@@ -63,7 +63,7 @@ fn print_plan(alloc: Global, out: &mut String, model: &Model) -> Result<(), Allo
     }
 }
 
-pub(crate) fn answer(alloc: Global, case: &Case) -> Result<String, AllocError> {
+pub fn answer_plan(alloc: Global, case: &Case) -> Result<String, AllocError> {
     match model_in(alloc, case)? {
         Found::Told(told) => Ok(told),
         Found::Model(model) => {

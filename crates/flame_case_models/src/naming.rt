@@ -1,13 +1,13 @@
 //! Cases of `names`: the section `model`; `fine`, or the first fault of the model's names, as
 //! `Duplicate x at /xmodel/environment/constants/1/name`.
 
-use crate::case::Case;
 use crate::modeling::{Found, model_in};
+use flame_case::Case;
 use flame_names::names;
 use flame_rows::Fail;
 use std::alloc::{AllocError, Global};
 
-pub(crate) fn answer(alloc: Global, case: &Case) -> Result<String, AllocError> {
+pub fn answer_names(alloc: Global, case: &Case) -> Result<String, AllocError> {
     let model = match model_in(alloc, case)? {
         Found::Told(told) => return Ok(told),
         Found::Model(model) => model,

@@ -5,20 +5,20 @@ use std::str;
 
 /// A section: its title, and its bytes.
 #[derive(Drop)]
-pub(crate) struct Section {
+pub struct Section {
     /// The title.
-    pub(crate) title: String,
+    pub title: String,
     /// The bytes.
-    pub(crate) bytes: Vec<u8>,
+    pub bytes: Vec<u8>,
 }
 
 /// A case.
 #[derive(Drop)]
-pub(crate) struct Case {
+pub struct Case {
     /// Its name.
-    pub(crate) name: String,
+    pub name: String,
     /// Its sections in order.
-    pub(crate) sections: Vec<Section>,
+    pub sections: Vec<Section>,
 }
 
 impl Case {
@@ -30,7 +30,7 @@ impl Case {
     }
 
     /// The bytes of the first section of this title; none where the case has no such section.
-    pub(crate) fn bytes(&self, title: &str) -> &[u8] {
+    pub fn bytes(&self, title: &str) -> &[u8] {
         for section in &self.sections {
             if section.title.as_str() == title {
                 return section.bytes.as_slice();
@@ -40,7 +40,7 @@ impl Case {
     }
 
     /// Whether it has a name, and says what is wanted.
-    pub(crate) fn is_whole(&self) -> bool {
+    pub fn is_whole(&self) -> bool {
         let wants = self
             .sections
             .iter()
@@ -49,12 +49,22 @@ impl Case {
     }
 
     /// The text of the first section of this title; empty where there is none, or where it is no UTF-8.
-    pub(crate) fn text(&self, title: &str) -> &str {
+    pub fn text(&self, title: &str) -> &str {
         str::from_utf8(self.bytes(title)).unwrap_or("")
     }
 
+    /// What stands behind the first word of this name that begins a line of the section `given`.
+    pub fn given(&self, name: &str) -> &str {
+        for line in self.text("given").split('\n') {
+            if let Some(rest) = line.strip_prefix(name) {
+                return rest.trim();
+            }
+        }
+        ""
+    }
+
     /// The lines of the first section of this title.
-    pub(crate) fn lines(&self, alloc: Global, title: &str) -> Result<Vec<String>, AllocError> {
+    pub fn lines(&self, alloc: Global, title: &str) -> Result<Vec<String>, AllocError> {
         let mut lines = Vec::new(alloc);
         if let Some(text) = self.text(title).strip_suffix("\n") {
             for line in text.split('\n') {
@@ -98,7 +108,7 @@ impl Case {
 }
 
 /// The cases of a file in order.
-pub(crate) fn read_cases(alloc: Global, text: &str) -> Result<Vec<Case>, AllocError> {
+pub fn read_cases(alloc: Global, text: &str) -> Result<Vec<Case>, AllocError> {
     let mut cases = Vec::new(alloc);
     let mut case = Case::new(alloc);
     for line in text.split('\n') {

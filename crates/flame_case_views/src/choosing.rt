@@ -5,11 +5,11 @@
 
 ghost use Rattle.std.specs.Prelude.{◌≡◌, ◌<◌, ◌^◌, length, All, IsTrue, IfOk};
 
-use crate::case::Case;
 use crate::deciding::row_in;
-use crate::modeling::{Found, model_in};
 use crate::readable::is_readable;
 use crate::viewing::print_row;
+use flame_case::Case;
+use flame_case_models::{Found, model_in};
 use flame_cond::Cond;
 use flame_pool::{choose, choose_here, take, turn_over};
 use flame_rows::{Bag, NoMemory, Seq};
@@ -25,22 +25,11 @@ struct Resting<'a> {
     iteration: i32,
 }
 
-/// What is behind the word, on its line.
-fn behind<'a>(text: &'a str, word: &str) -> &'a str {
-    for line in text.split('\n') {
-        if let Some(rest) = line.strip_prefix(word) {
-            return rest.trim();
-        }
-    }
-    ""
-}
-
 fn given(case: &Case) -> Resting<'_> {
-    let text = case.text("given");
     Resting {
-        agent: behind(text, "agent").parse::<usize>().unwrap_or(0),
-        state: behind(text, "state"),
-        iteration: behind(text, "iteration").parse::<i32>().unwrap_or(0),
+        agent: case.given("agent ").parse::<usize>().unwrap_or(0),
+        state: case.given("state "),
+        iteration: case.given("iteration ").parse::<i32>().unwrap_or(0),
     }
 }
 
@@ -205,7 +194,7 @@ fn print_all(
     )
 }
 
-pub(crate) fn answer(
+pub fn answer_choices(
     rt: &(impl Threads + Sync),
     alloc: Global,
     case: &Case,

@@ -2,7 +2,7 @@
 //! The answer is the model, or in cases of the kind `wide` the model file, a part of it a line; `fine` in its place in
 //! cases of the kind `shape`; and the fault of its shape, as `wanted List at /xmodel/agents`, in all of them.
 
-use crate::case::Case;
+use flame_case::Case;
 use flame_rows::{Fail, Text};
 use flame_spec::{
     AgentType, Condition, Function, Input, Model, Operand, TimeUnit, Variable, Wide, WideAgent,
@@ -14,7 +14,7 @@ use std::alloc::{AllocError, Global};
 
 /// What was read.
 #[derive(Drop)]
-pub(crate) enum Found {
+pub enum Found {
     /// The model.
     Model(Model),
     /// Why there is none, as it is answered.
@@ -31,7 +31,7 @@ fn print_shape(out: &mut String, shape: &Shape) -> Result<(), AllocError> {
 }
 
 /// The model of a case.
-pub(crate) fn model_in(alloc: Global, case: &Case) -> Result<Found, AllocError> {
+pub fn model_in(alloc: Global, case: &Case) -> Result<Found, AllocError> {
     let mut out = String::new(alloc);
     let Ok(value) = Value::from_str(alloc, case.text("model")) else {
         writeln!(out, "not JSON")?;
@@ -163,7 +163,7 @@ fn print_units(out: &mut String, units: &[TimeUnit]) -> Result<(), AllocError> {
     Ok(())
 }
 
-pub(crate) fn print_model(out: &mut String, model: &Model) -> Result<(), AllocError> {
+pub fn print_model(out: &mut String, model: &Model) -> Result<(), AllocError> {
     print_names(out, "constant", model.constants.items())?;
     print_names(out, "file", model.files.items())?;
     print_units(out, model.units.items())?;
@@ -178,7 +178,7 @@ pub(crate) fn print_model(out: &mut String, model: &Model) -> Result<(), AllocEr
 }
 
 /// The answer to a case of the kind `model`.
-pub(crate) fn answer(alloc: Global, case: &Case) -> Result<String, AllocError> {
+pub fn answer_model(alloc: Global, case: &Case) -> Result<String, AllocError> {
     match model_in(alloc, case)? {
         Found::Told(told) => Ok(told),
         Found::Model(model) => {
@@ -190,7 +190,7 @@ pub(crate) fn answer(alloc: Global, case: &Case) -> Result<String, AllocError> {
 }
 
 /// The answer to a case of the kind `shape`.
-pub(crate) fn answer_shape(alloc: Global, case: &Case) -> Result<String, AllocError> {
+pub fn answer_shape(alloc: Global, case: &Case) -> Result<String, AllocError> {
     match model_in(alloc, case)? {
         Found::Told(told) => Ok(told),
         Found::Model(_) => String::from_str(alloc, "fine\n"),
@@ -239,7 +239,7 @@ fn print_wide(out: &mut String, wide: &Wide) -> Result<(), AllocError> {
 
 /// What was read of a model file.
 #[derive(Drop)]
-pub(crate) enum FoundWide {
+pub enum FoundWide {
     /// The model file.
     Wide(Wide),
     /// Why there is none, as it is answered.
@@ -247,7 +247,7 @@ pub(crate) enum FoundWide {
 }
 
 /// The model file of a text.
-pub(crate) fn wide_from(alloc: Global, text: &str) -> Result<FoundWide, AllocError> {
+pub fn wide_from(alloc: Global, text: &str) -> Result<FoundWide, AllocError> {
     let mut out = String::new(alloc);
     let Ok(value) = Value::from_str(alloc, text) else {
         writeln!(out, "not JSON")?;
@@ -262,7 +262,7 @@ pub(crate) fn wide_from(alloc: Global, text: &str) -> Result<FoundWide, AllocErr
 }
 
 /// The answer to a case of the kind `wide`.
-pub(crate) fn answer_wide(alloc: Global, case: &Case) -> Result<String, AllocError> {
+pub fn answer_wide(alloc: Global, case: &Case) -> Result<String, AllocError> {
     match wide_from(alloc, case.text("model"))? {
         FoundWide::Told(told) => Ok(told),
         FoundWide::Wide(wide) => {

@@ -1,7 +1,7 @@
 //! Cases of `order`: the section `words` has a word a line; the order, a part of it a line, or the fault of usage, as
 //! `BadNumber at word 5` or `Missing POP`.
 
-use crate::case::Case;
+use flame_case::Case;
 use flame_rows::Fail;
 use flame_words::{How, Order, Usage, Way, order};
 use std::alloc::{AllocError, Global};
@@ -45,7 +45,7 @@ fn print_usage(out: &mut String, usage: &Usage) -> Result<(), AllocError> {
     writeln!(out)
 }
 
-pub(crate) fn answer(alloc: Global, case: &Case) -> Result<String, AllocError> {
+pub fn answer_order(alloc: Global, case: &Case) -> Result<String, AllocError> {
     let words = case.lines(alloc, "words")?;
     let mut out = String::new(alloc);
     match order(alloc, words.as_slice()) {

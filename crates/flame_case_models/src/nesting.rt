@@ -2,8 +2,8 @@
 //! are read. The answer is the flat model, a part of it a line, or the fault, as `UnknownType p in a.json`; where a file
 //! is no model file by itself, it is the fault of its shape.
 
-use crate::case::Case;
 use crate::modeling::{FoundWide, print_model, wide_from};
+use flame_case::Case;
 use flame_nest::{NestFault, flatten};
 use flame_rows::{Fail, Seq, Text};
 use flame_spec::Wide;
@@ -52,7 +52,7 @@ fn print_flat(alloc: Global, names: &Seq<Text>, wides: &Seq<Wide>) -> Result<Str
     Ok(out)
 }
 
-pub(crate) fn answer(alloc: Global, case: &Case) -> Result<String, AllocError> {
+pub fn answer_flat(alloc: Global, case: &Case) -> Result<String, AllocError> {
     let mut names = Vec::new(alloc);
     let mut wides = Vec::new(alloc);
     match files_in(alloc, case, &mut names, &mut wides)? {

@@ -2,10 +2,10 @@
 //! For each input of each function, both from 0 in document order, the answer has its view of the board, as `view 0 1`
 //! with the rows behind it.
 
-use crate::case::Case;
 use crate::deciding::{message_of, row_in};
-use crate::modeling::{Found, model_in};
 use crate::readable::{is_narrow, is_readable_filter};
+use flame_case::Case;
+use flame_case_models::{Found, model_in};
 use flame_cond::{Filter, SortBy};
 use flame_index::Frozen;
 use flame_rows::{Bag, NoMemory, Row};
@@ -106,7 +106,7 @@ fn board_in(alloc: Global, text: &str) -> Result<Frozen, AllocError> {
     }
 }
 
-pub(crate) fn answer(alloc: Global, case: &Case) -> Result<String, AllocError> {
+pub fn answer_views(alloc: Global, case: &Case) -> Result<String, AllocError> {
     let model = match model_in(alloc, case)? {
         Found::Told(told) => return Ok(told),
         Found::Model(model) => model,
