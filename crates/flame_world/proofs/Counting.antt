@@ -1,6 +1,6 @@
 -- How many agents there are.
-use Rattle.std.proofs.Common.{◌≡◌, ℕ, zero, suc, ◌+◌, ◌*◌, ◌<◌, ◌≤◌, Bool, true, false, cond, List, [], ◌∷◌, ◌++◌, length, map, Some, Ok, Err, Result, Option, None, refl, sym, ap, ◌∙◌, arith, subst, ◌⊎◌, inl, inr, zero-add}
-use Rattle.std.specs.Prelude.{ℤ, not, ◌==◌, ◌&&◌, slice_get, slice_index_or, IsTrue}
+use Rattle.std.proofs.Common.{◌≡◌, ℕ, zero, suc, ◌+◌, ◌*◌, ◌<◌, Bool, true, false, cond, List, [], ◌∷◌, ◌++◌, length, map, Some, Ok, Option, None, refl, sym, ap, ◌∙◌, arith, subst, ◌⊎◌, inl, inr, zero-add}
+use Rattle.std.specs.Prelude.{ℤ, not, ◌&&◌, slice_get, slice_index_or, IsTrue}
 use Rattle.std.specs.List.{filter, AllZip, zip, flat_map, list_all}
 use Rattle.std.proofs.lemmas.List.{length-append}
 use Rattle.std.proofs.lemmas.Bool.{eqb-true, false≢true}
@@ -8,17 +8,16 @@ use Rattle.std.specs.declared.cmp.Ordering.{Ordering}
 use Rattle.std.specs.Ordering.{is_gt}
 use Rattle.flame_rows.specs.Order.{row_order}
 use Rattle.flame_rows.specs.Sorted.{with_one, sorted_by}
-use Rattle.flame_rows.specs.Bags.{ascending, merge}
-use Rattle.flame_spec.specs.declared.models.Model.{Model}
+use Rattle.flame_rows.specs.Bags.{merge}
 use Rattle.flame_spec.specs.declared.models.AgentType.{AgentType}
 use Rattle.flame_spec.specs.Accepted.{has_one_start}
 use Rattle.flame_spec.specs.Choice.{choice, is_chosen}
 use Rattle.flame_spec.specs.Functions.{Place, functions}
 use Rattle.flame_spec.specs.States.{states, is_entered, start_states}
 use Rattle.flame_world.specs.declared.faults.SimFault.{SimFault}
-use Rattle.flame_world.specs.AgentRuns.{survivors, least_fault}
+use Rattle.flame_world.specs.AgentRuns.{survivors}
 use Rattle.flame_world.specs.Fields.{Field, begun, opening, state_place, pool_in, changed, changed_pool, gathered}
-use Rattle.flame_world.specs.Iterations.{Round, resting, taking, staying, outcome_in, moved, unless_faulted, step_at, step}
+use Rattle.flame_world.specs.Iterations.{Round, resting, taking, staying, outcome_in, moved, unless_faulted, step_at}
 use Rattle.flame_world.specs.CountLaws.{count_in, resting_in, HasPools, AllAgentsBegin, SurvivorsReplaceTakers, SurvivorsAndBirthsRemain}
 use Rattle.flame_world.proofs.Eachs.{zip_at, zip_changed}
 use Rattle.flame_world.proofs.NextStates.{next_state, function_at}
@@ -59,11 +58,11 @@ length-with_one order x (y ∷ ys) =
       | false ↦ refl
     ]
 
-length-sorted_by : {X : Type 0} (order : X → X → Ordering) (xs : List X) → length (sorted_by order xs) ≡ length xs
+pub length-sorted_by : {X : Type 0} (order : X → X → Ordering) (xs : List X) → length (sorted_by order xs) ≡ length xs
 length-sorted_by order [] = refl
 length-sorted_by order (x ∷ xs) = length-with_one order x (sorted_by order xs) ∙ ap suc (length-sorted_by order xs)
 
-length-merge : (bag rows : List (List ℤ)) → length (merge bag rows) ≡ length bag + length rows
+pub length-merge : (bag rows : List (List ℤ)) → length (merge bag rows) ≡ length bag + length rows
 length-merge bag rows = length-sorted_by row_order (bag ++ rows) ∙ length-append bag rows
 
 length-filter_both : {X : Type 0} (p : X → Bool) (xs : List X) → length (filter p xs) + length (filter (λ x. not (p x)) xs) ≡ length xs
@@ -168,7 +167,7 @@ pooled_changed : (types : List AgentType) (pools : List (List (List (List ℤ)))
 pooled_changed types pools agent state change pooled =
     zip_changed Pooled types pools agent (changed state change) pooled (λ type own there same. length-changed state change own ∙ same)
 
-moved_counts : (round : Round) (function : ℕ) (place : Place) (field : Field)
+pub moved_counts : (round : Round) (function : ℕ) (place : Place) (field : Field)
     → HasPools round.source.model field
     → slice_get (functions round.source.model) function ≡ Some place
     → (resting_in (moved round function place field) + length (taking round function place field)
@@ -201,7 +200,7 @@ moved_counts round function place field pooled at =
       pooled_changed model.agents left place.agent next join pooled_left,
     )
 
-ok_moved : (fault : Option SimFault) (field after : Field) → unless_faulted fault field ≡ Ok after → field ≡ after
+pub ok_moved : (fault : Option SimFault) (field after : Field) → unless_faulted fault field ≡ Ok after → field ≡ after
 ok_moved None field after ended = cc
 ok_moved (Some fault) field after ended = absurd cc
 

@@ -6,3 +6,5 @@ pub mod Eachs
 pub mod WorldsKept
 pub mod NextStates
 pub mod Counting
+pub mod Tallies
+pub mod NamedBoards

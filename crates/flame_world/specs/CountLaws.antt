@@ -1,13 +1,23 @@
 -- How many agents there are.
-use Rattle.std.specs.Prelude.{◌≡◌, ℕ, ◌+◌, ℤ, List, Some, Ok, length, slice_get, IsTrue}
-use Rattle.std.specs.List.{AllZip, flat_map, list_all}
+use Rattle.std.specs.Prelude.{◌≡◌, ℕ, ◌+◌, ◌-◌, ◌≤◌, ℤ, List, [], ◌∷◌, Some, Result, Ok, Err, length, slice_get}
+use Rattle.std.specs.Prelude.{is_none, IsTrue}
+use Rattle.std.specs.List.{AllZip, filter, flat_map, list_all}
+use Rattle.std.specs.Option.{option_map_or}
 use Rattle.flame_spec.specs.declared.models.Model.{Model}
+use Rattle.flame_spec.specs.declared.outcomes.Source.{Source}
 use Rattle.flame_spec.specs.Accepted.{has_one_start}
 use Rattle.flame_spec.specs.Functions.{Place, functions}
+use Rattle.flame_spec.specs.ModelOrder.{model_order}
 use Rattle.flame_spec.specs.States.{states}
-use Rattle.flame_world.specs.AgentRuns.{survivors}
+use Rattle.flame_world.specs.declared.faults.SimFault.{SimFault}
+use Rattle.flame_world.specs.declared.turns.Turn.TheVariants.{Done}
+use Rattle.flame_world.specs.declared.worlds.World.{World}
+use Rattle.flame_world.specs.declared.worlds.Boards.{Boards}
+use Rattle.flame_world.specs.AgentRuns.{kept, survivors, born_from}
 use Rattle.flame_world.specs.Fields.{Field, opening, gathered}
-use Rattle.flame_world.specs.Iterations.{Round, taking, outcome_in, step}
+use Rattle.flame_world.specs.Iterations.{Round, taking, outcome_in, step, round_of, iteration}
+
+-- ---- step by step
 
 -- the number of rows in some bags [own]
 abbrev pub count_in : List (List (List ℤ)) → ℕ
@@ -47,3 +57,48 @@ SurvivorsAndBirthsRemain =
     (field : Field)
     → length field.born ≡ length field.pools
     → count_in (gathered field) ≡ resting_in field + count_in field.born
+
+-- ---- a whole iteration
+
+-- how many of its takers the function of this place removes: those that keep no memory [FLAME User Manual]
+abbrev pub removed_at : Round → ℕ → Place → Field → ℕ
+removed_at round function place field =
+    length
+    (filter (λ memory. is_none (kept (outcome_in round function field memory))) (taking round function place field))
+
+-- how many agents its takers add [FLAME User Manual]
+abbrev pub added_at : Round → ℕ → Place → Field → ℕ
+added_at round function place field =
+    length (born_from (outcome_in round function field) (taking round function place field))
+
+-- what is counted after a step, and nothing after a fault [own]
+abbrev pub counted_after : Result Field SimFault → (Field → ℕ) → ℕ
+counted_after (Ok field) count = count field
+counted_after (Err fault) count = 0
+
+-- what is counted at each of these functions, which run one after another, all together [own]
+abbrev pub counted_over : (Round → ℕ → Place → Field → ℕ) → Round → List ℕ → Field → ℕ
+counted_over count round [] field = 0
+counted_over count round (function ∷ later) field =
+    option_map_or (λ place. count round function place field) (slice_get (functions round.source.model) function) 0
+    + counted_after (step round function field) (counted_over count round later)
+
+-- what is counted at all steps of the iteration of this number of a world [own]
+abbrev pub counted_in : (Round → ℕ → Place → Field → ℕ) → Source → World → ℤ → ℕ → ℕ
+counted_in count source world number fuel =
+    counted_over count (round_of source world number fuel) (model_order source.model)
+    (opening source.model world.agents)
+
+-- where each type has one start state and an iteration is done, the number of agents after it is that of the survivors
+-- of all steps, who are the agents of the world without those that a step removed, and of all births
+-- [FLAME User Manual]
+abbrev pub SurvivorsAndBirthsAreAll : Type 0
+SurvivorsAndBirthsAreAll =
+    (source : Source) (world after : World) (number : ℤ) (fuel : ℕ) (boards : Boards)
+    → IsTrue (list_all has_one_start source.model.agents)
+    → length world.agents ≡ length source.model.agents
+    → iteration source world number fuel ≡ Done after boards
+    → (counted_in removed_at source world number fuel ≤ count_in world.agents)
+    × (count_in after.agents
+    ≡ (count_in world.agents - counted_in removed_at source world number fuel)
+    + counted_in added_at source world number fuel)

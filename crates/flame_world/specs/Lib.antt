@@ -13,3 +13,4 @@ pub mod Shares
 pub mod IterationLaws
 pub mod WorldLaws
 pub mod CountLaws
+pub mod InputBoards

@@ -2,6 +2,8 @@
 
 ghost use Rattle.flame_world.specs.IterationLaws.{AgentsHaveNoOrder, EqualAgentsFareAlike, NobodyChangesNothing, NoFunctionsNoChange};
 ghost use Rattle.flame_world.specs.CountLaws.{AllAgentsBegin, SurvivorsReplaceTakers, SurvivorsAndBirthsRemain};
+ghost use Rattle.flame_world.specs.CountLaws.{SurvivorsAndBirthsAreAll};
+ghost use Rattle.flame_world.specs.InputBoards.{NamedBoardsAreEnough};
 ghost use Rattle.flame_world.specs.WorldLaws.{WorldsStayWorlds};
 
 /// An iteration depends on its agents as a multiset alone, and agents with equal memory fare alike.
@@ -28,4 +30,15 @@ pub fn numbers_of_agents()
     ensures begin { AllAgentsBegin }
     ensures run { SurvivorsReplaceTakers }
     ensures end { SurvivorsAndBirthsRemain }
+{}
+
+/// How many agents there are after a whole iteration that is done: those that survived all its steps, and all births.
+pub fn agents_after_iterations()
+    ensures whole { SurvivorsAndBirthsAreAll }
+{}
+
+/// Where a setting has the boards that a function's inputs name, an agent has the outcome that it has over the boards
+/// of all messages.
+pub fn boards_of_inputs()
+    ensures named { NamedBoardsAreEnough }
 {}
