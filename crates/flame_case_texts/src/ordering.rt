@@ -21,6 +21,7 @@ fn print_order(out: &mut String, order: &Order) -> Result<(), AllocError> {
         Order::Run(run) => {
             writeln!(out, "run\nmodel={}", run.model)?;
             writeln!(out, "pop={}\nout={}\nturns={}", run.pop, run.out, run.turns)?;
+            writeln!(out, "format={}", run.format)?;
             print_how(out, &run.how)
         }
         Order::Check(model) => writeln!(out, "check\nmodel={model}"),
@@ -30,6 +31,9 @@ fn print_order(out: &mut String, order: &Order) -> Result<(), AllocError> {
             writeln!(out, "trial\nseed={}", trial.seed)?;
             writeln!(out, "size={}\nturns={}", trial.size, trial.turns)?;
             print_how(out, &trial.how)
+        }
+        Order::Migrate(model, pop, written) => {
+            writeln!(out, "migrate\nmodel={model}\npop={pop}\nout={written}")
         }
     }
 }

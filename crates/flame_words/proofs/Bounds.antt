@@ -1,24 +1,26 @@
 -- The numbers of an order are within their limits.
-use Rattle.std.proofs.Common.{◌≡◌, ℕ, zero, suc, ◌<◌, ◌≤◌, List, [], ◌∷◌, ◌++◌, length, map, true, ◌&&◌, nat_le}
+use Rattle.std.proofs.Common.{◌≡◌, ℕ, zero, suc, ◌<◌, ◌≤◌, List, [], ◌∷◌, ◌++◌, length, map, true, false, cond, ◌&&◌, nat_le}
 use Rattle.std.proofs.Common.{Option, Some, None, Result, Ok, Err, IfOk, refl, sym, ◌∙◌, ap, subst, arith, inl, inr}
 use Rattle.std.specs.Option.{option_map, option_to_list, ok_or}
 use Rattle.std.specs.List.{slice_get, list_all}
+use Rattle.std.specs.Str.{bytes_eq}
+use Rattle.std.specs.Prelude.{codes}
 use Rattle.std.proofs.lemmas.Bool.{and_parts, leb-true}
 use Rattle.flame_words.specs.declared.orders.Order.{Order}
 use Rattle.flame_words.specs.declared.table.Command.{Command}
-use Rattle.flame_words.specs.declared.table.Command.TheVariants.{Run, Check, Graph, Code, Trial}
+use Rattle.flame_words.specs.declared.table.Command.TheVariants.{Run, Check, Graph, Code, Trial, Migrate}
 use Rattle.flame_words.specs.declared.table.Place.{Place}
 use Rattle.flame_words.specs.declared.table.Place.TheVariants.{Turns, Seed, Size, TrialTurns}
-use Rattle.flame_words.specs.declared.table.Flag.TheVariants.{Workers, Fuel}
+use Rattle.flame_words.specs.declared.table.Flag.TheVariants.{Workers, Fuel, Format}
 use Rattle.flame_words.specs.declared.table.Takes.TheVariants.{Number}
 use Rattle.flame_words.specs.declared.faults.Usage.{Usage}
 use Rattle.flame_words.specs.declared.faults.Usage.TheVariants.{UnknownCommand, Missing}
 use Rattle.flame_words.specs.CommandTable.{command_of, flag_of, flag_name, places, place_name, place_takes}
-use Rattle.flame_words.specs.WordValues.{is_number, number_value}
+use Rattle.flame_words.specs.WordValues.{is_number, number_value, format_of}
 use Rattle.flame_words.specs.WordRoles.{Role, roles, Given, positionals_among, givens_among}
 use Rattle.flame_words.specs.UsageFaults.{line_behind, faults_behind, missing, lacking_option, absent_place}
 use Rattle.flame_words.specs.CommandLines.{first_or, line_order, answer_of, answer_in}
-use Rattle.flame_words.specs.GivenOrders.{value_of, word_at, how_of}
+use Rattle.flame_words.specs.GivenOrders.{word_of, word_at, how_of}
 use Rattle.flame_words.specs.GivenOrders.{order_from}
 use Rattle.flame_words.specs.CommandLines.{order_of}
 use Rattle.flame_words.specs.OrderLimits.{HowIsWithin, IsWithin}
@@ -52,9 +54,16 @@ how_within : (command : Command) (givens : List Given)
     → list_all (given_suits command) givens ≡ true
     → HowIsWithin (how_of givens)
 how_within command givens has_workers has_fuel suit =
-    let workers = number_within 1 64 (value_of givens Workers) (option_suits command givens Workers suit has_workers) in
-    let fuel = number_within 0 1000000000 (value_of givens Fuel) (option_suits command givens Fuel suit has_fuel) in
+    let workers = number_within 1 64 (word_of givens Workers) (option_suits command givens Workers suit has_workers) in
+    let fuel = number_within 0 1000000000 (word_of givens Fuel) (option_suits command givens Fuel suit has_fuel) in
     record { some_worker = workers.0; few_workers = workers.1; fuel = fuel.1 }
+
+format_within : (word : List ℕ) → (1 ≤ format_of word) × (format_of word ≤ 2)
+format_within word =
+    elim (bytes_eq word (codes "2")) as (λ is. (1 ≤ cond is 2 1) × (cond is 2 1 ≤ 2)) [
+      | true ↦ (omega arith, omega arith)
+      | false ↦ (omega arith, omega arith)
+    ]
 
 -- words that are complete give numbers within their limits
 order_within : (command : Command) (words : List (List ℕ)) (givens : List Given)
@@ -65,11 +74,14 @@ order_within : (command : Command) (words : List (List ℕ)) (givens : List Give
 order_within Run words givens suit enough given =
     record {
       turns = place_within Run words 3 1000000 Turns suit refl refl (omega arith);
+      some_format = (format_within (word_of givens Format)).0;
+      known_format = (format_within (word_of givens Format)).1;
       how = how_within Run givens refl refl given;
     }
 order_within Check words givens suit enough given = tt
 order_within Graph words givens suit enough given = tt
 order_within Code words givens suit enough given = tt
+order_within Migrate words givens suit enough given = tt
 order_within Trial words givens suit enough given =
     record {
       seed = place_within Trial words 0 4294967295 Seed suit refl refl (omega arith);

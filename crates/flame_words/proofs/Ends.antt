@@ -1,4 +1,4 @@
--- How the reading of a line ends: at its end, or at its first fault, which is one of the first twelve words.
+-- How the reading of a line ends: at its end, or at its first fault, which is one of the first fourteen words.
 use Rattle.std.proofs.Common.{◌≡◌, ℕ, ◌+◌, ◌≤◌, ◌⊎◌, List, [], ◌∷◌, ◌++◌, length, Some}
 use Rattle.std.proofs.Common.{None}
 use Rattle.std.proofs.Common.{Option, refl, sym, ◌∙◌, ap, arith, inl, inr}
@@ -28,13 +28,13 @@ pub record Finishes (command : Command) (all : List (List ℕ)) : Type 0 where
   pub command_is : last.command ≡ command
   pub follows : Follows all last number []
 
--- one of the first twelve words has the first fault
+-- one of the first fourteen words has the first fault
 pub record Stops (command : Command) (all : List (List ℕ)) : Type 0 where
   pub usage : Usage
   pub number : ℕ
   pub first : slice_get (faults_behind command [] (roles all)) 0 ≡ Some usage
   pub named : word_number usage ≡ Some number
-  pub early : number ≤ 12
+  pub early : number ≤ 14
 
 ends_from :
     (command : Command) (all : List (List ℕ)) (rest : List (List ℕ)) (seen : Seen) (number : ℕ)
@@ -68,7 +68,7 @@ first_is_early :
     (faults more : List Usage) (order : Order) (usage : Usage) (number : ℕ)
     → slice_get faults 0 ≡ Some usage
     → word_number usage ≡ Some number
-    → number ≤ 12
+    → number ≤ 14
     → IsErrAnd (first_or (faults ++ more) order) (λ fault. IsSomeAnd (word_number fault) (λ number. number ≤ 30))
 first_is_early [] more order usage number first named early = cc
 first_is_early (fault ∷ faults) more order usage number first named early =

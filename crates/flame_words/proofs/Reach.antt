@@ -5,7 +5,7 @@ use Rattle.std.proofs.Common.{length-append}
 use Rattle.std.specs.Option.{option_map, option_to_list}
 use Rattle.std.proofs.lemmas.List.{append-nil, length-map}
 use Rattle.flame_words.specs.declared.table.Command.{Command}
-use Rattle.flame_words.specs.declared.table.Command.TheVariants.{Run, Check, Graph, Code, Trial}
+use Rattle.flame_words.specs.declared.table.Command.TheVariants.{Run, Check, Graph, Code, Trial, Migrate}
 use Rattle.flame_words.specs.CommandTable.{flag_name, options, places}
 use Rattle.flame_words.specs.WordRoles.{roles}
 use Rattle.flame_words.specs.WordRoles.{options_among, positionals_among}
@@ -33,18 +33,19 @@ read_to_end all seen number f =
       givens_suit = f.givens_suit;
     }
 
-table_size : (command : Command) → length (places command) + 2 * length (options command) ≤ 10
+table_size : (command : Command) → length (places command) + 2 * length (options command) ≤ 12
 table_size Run = omega arith
 table_size Check = omega arith
 table_size Graph = omega arith
 table_size Code = omega arith
 table_size Trial = omega arith
+table_size Migrate = omega arith
 
 -- words that were read without a fault are few
 pub few_read :
     (all : List (List ℕ)) (seen : Seen) (number : ℕ) (rest : List (List ℕ))
     → Follows all seen number rest
-    → number ≤ 11
+    → number ≤ 13
 few_read all seen number rest f =
     let parts = length-roles f.earlier in
     let words = words_suit-length (places seen.command) seen.words f.words_suit_places in

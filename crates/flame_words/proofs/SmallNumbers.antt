@@ -11,13 +11,13 @@ use Rattle.flame_words.specs.declared.table.Command.TheVariants.{Run, Trial}
 use Rattle.flame_words.specs.declared.table.Place.{Place}
 use Rattle.flame_words.specs.declared.table.Place.TheVariants.{Turns, Seed, Size, TrialTurns}
 use Rattle.flame_words.specs.declared.table.Flag.{Flag}
-use Rattle.flame_words.specs.declared.table.Flag.TheVariants.{Workers, Fuel, Sync}
+use Rattle.flame_words.specs.declared.table.Flag.TheVariants.{Workers, Fuel, Sync, Format}
 use Rattle.flame_words.specs.declared.table.Takes.TheVariants.{Number}
-use Rattle.flame_words.specs.CommandTable.{places, place_takes, flag_of, flag_name, flag_takes, default}
+use Rattle.flame_words.specs.CommandTable.{places, place_takes, flag_of, flag_name, flag_takes}
 use Rattle.flame_words.specs.WordValues.{is_number, number_value}
 use Rattle.flame_words.specs.WordRoles.{Given}
-use Rattle.flame_words.specs.GivenOrders.{word_at, value_of}
-use Rattle.flame_words.specs.TakenWords.{suits, words_suit, given_suits, IsSmallNumber, OptionsSuit}
+use Rattle.flame_words.specs.GivenOrders.{word_at, word_of}
+use Rattle.flame_words.specs.TakenWords.{suits, words_suit, given_suits, IsSmallNumber, NumbersSuit}
 use Rattle.flame_words.specs.WordSteps.{Seen, IsComplete}
 
 -- a positional word can be taken as its place asks
@@ -84,17 +84,18 @@ trial_size seen complete trial = trial_place seen 1 10000 Size complete trial re
 pub trial_turns : (seen : Seen) → IsComplete seen → seen.command ≡ Trial → IsSmallNumber (word_at seen.words 2)
 trial_turns seen complete trial = trial_place seen 2 20 TrialTurns complete trial refl refl (omega arith) (omega arith)
 
-default_suits : (flag : Flag) → suits (flag_takes flag) (default flag) ≡ true
+default_suits : (flag : Flag) → suits (flag_takes flag) (word_of [] flag) ≡ true
 default_suits Workers = refl
 default_suits Fuel = refl
 default_suits Sync = refl
+default_suits Format = refl
 
 -- an option of the command has a value that it can have
 pub option_suits :
     (command : Command) (givens : List Given) (flag : Flag)
     → list_all (given_suits command) givens ≡ true
     → flag_of command (flag_name flag) ≡ Some flag
-    → suits (flag_takes flag) (value_of givens flag) ≡ true
+    → suits (flag_takes flag) (word_of givens flag) ≡ true
 option_suits command [] flag suit known = default_suits flag
 option_suits command (given ∷ givens) flag suit known =
     let parts = and_parts (given_suits command given) (list_all (given_suits command) givens) suit in
@@ -106,29 +107,29 @@ option_suits command (given ∷ givens) flag suit known =
       | inr elsewhere ↦ rw elsewhere (option_suits command givens flag parts.1 known)
     ]
 
-pub has_options_run : (flag : Flag) → flag_of Run (flag_name flag) ≡ Some flag
-has_options_run Workers = refl
-has_options_run Fuel = refl
-has_options_run Sync = refl
+pub run_options : (seen : Seen) → IsComplete seen → seen.command ≡ Run → NumbersSuit seen.givens
+run_options seen complete run = record {
+  workers =
+      option_suits seen.command seen.givens Workers complete.givens_suit
+      (ap (λ command. flag_of command (flag_name Workers)) run);
+  fuel =
+      option_suits seen.command seen.givens Fuel complete.givens_suit
+      (ap (λ command. flag_of command (flag_name Fuel)) run);
+}
 
-pub has_options_trial : (flag : Flag) → flag_of Trial (flag_name flag) ≡ Some flag
-has_options_trial Workers = refl
-has_options_trial Fuel = refl
-has_options_trial Sync = refl
-
-pub run_options : (seen : Seen) → IsComplete seen → seen.command ≡ Run → OptionsSuit seen.givens
-run_options seen complete run flag =
-    option_suits seen.command seen.givens flag complete.givens_suit
-    (ap (λ command. flag_of command (flag_name flag)) run ∙ has_options_run flag)
-
-pub trial_options : (seen : Seen) → IsComplete seen → seen.command ≡ Trial → OptionsSuit seen.givens
-trial_options seen complete trial flag =
-    option_suits seen.command seen.givens flag complete.givens_suit
-    (ap (λ command. flag_of command (flag_name flag)) trial ∙ has_options_trial flag)
+pub trial_options : (seen : Seen) → IsComplete seen → seen.command ≡ Trial → NumbersSuit seen.givens
+trial_options seen complete trial = record {
+  workers =
+      option_suits seen.command seen.givens Workers complete.givens_suit
+      (ap (λ command. flag_of command (flag_name Workers)) trial);
+  fuel =
+      option_suits seen.command seen.givens Fuel complete.givens_suit
+      (ap (λ command. flag_of command (flag_name Fuel)) trial);
+}
 
 -- the options whose values are numbers
-pub workers_small : (givens : List Given) → OptionsSuit givens → IsSmallNumber (value_of givens Workers)
-workers_small givens suit = small_number 1 64 (value_of givens Workers) (omega arith) (suit Workers)
+pub workers_small : (givens : List Given) → NumbersSuit givens → IsSmallNumber (word_of givens Workers)
+workers_small givens suit = small_number 1 64 (word_of givens Workers) (omega arith) suit.workers
 
-pub fuel_small : (givens : List Given) → OptionsSuit givens → IsSmallNumber (value_of givens Fuel)
-fuel_small givens suit = small_number 0 1000000000 (value_of givens Fuel) (omega arith) (suit Fuel)
+pub fuel_small : (givens : List Given) → NumbersSuit givens → IsSmallNumber (word_of givens Fuel)
+fuel_small givens suit = small_number 0 1000000000 (word_of givens Fuel) (omega arith) suit.fuel

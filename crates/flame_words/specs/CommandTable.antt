@@ -1,21 +1,21 @@
 -- The table of commands: how each is spelled, its positional words in order, and its options.
-use Rattle.std.specs.Prelude.{ℕ, List, [], ◌∷◌, codes, Bool, Option}
+use Rattle.std.specs.Prelude.{ℕ, List, [], ◌∷◌, codes, Bool, Option, Some}
 use Rattle.std.specs.List.{find, list_any}
 use Rattle.std.specs.Str.{bytes_eq}
 use Rattle.flame_words.specs.declared.table.Command.{Command}
-use Rattle.flame_words.specs.declared.table.Command.TheVariants.{Run, Check, Graph, Code, Trial}
+use Rattle.flame_words.specs.declared.table.Command.TheVariants.{Run, Check, Graph, Code, Trial, Migrate}
 use Rattle.flame_words.specs.declared.table.Place.{Place}
 use Rattle.flame_words.specs.declared.table.Place.TheVariants.{Model, Population, Out, Turns, Seed, Size, TrialTurns}
 use Rattle.flame_words.specs.declared.table.Flag.{Flag}
-use Rattle.flame_words.specs.declared.table.Flag.TheVariants.{Workers, Fuel, Sync}
+use Rattle.flame_words.specs.declared.table.Flag.TheVariants.{Workers, Fuel, Sync, Format}
 use Rattle.flame_words.specs.declared.table.Choice.{Choice}
-use Rattle.flame_words.specs.declared.table.Choice.TheVariants.{Ways}
+use Rattle.flame_words.specs.declared.table.Choice.TheVariants.{Ways, Formats}
 use Rattle.flame_words.specs.declared.table.Takes.{Takes}
 use Rattle.flame_words.specs.declared.table.Takes.TheVariants.{Text, Number, OneOf}
 
 -- the commands, in the order of their table [own]
 abbrev pub commands : List Command
-commands = Run ∷ Check ∷ Graph ∷ Code ∷ Trial ∷ []
+commands = Run ∷ Check ∷ Graph ∷ Code ∷ Trial ∷ Migrate ∷ []
 
 -- how a command is spelled [own]
 abbrev pub spelling : Command → List ℕ
@@ -24,6 +24,7 @@ spelling Check = codes "check"
 spelling Graph = codes "graph"
 spelling Code = codes "code"
 spelling Trial = codes "trial"
+spelling Migrate = codes "migrate"
 
 -- the positional words of a command, in order [own]
 abbrev pub places : Command → List Place
@@ -32,14 +33,16 @@ places Check = Model ∷ []
 places Graph = Model ∷ []
 places Code = Model ∷ []
 places Trial = Seed ∷ Size ∷ TrialTurns ∷ []
+places Migrate = Model ∷ Population ∷ Out ∷ []
 
 -- the options of a command [own]
 abbrev pub options : Command → List Flag
-options Run = Workers ∷ Fuel ∷ Sync ∷ []
+options Run = Workers ∷ Fuel ∷ Sync ∷ Format ∷ []
 options Check = []
 options Graph = []
 options Code = []
 options Trial = Workers ∷ Fuel ∷ Sync ∷ []
+options Migrate = []
 
 -- what a positional word is called where it is missing [own]
 abbrev pub place_name : Place → List ℕ
@@ -66,22 +69,26 @@ abbrev pub flag_name : Flag → List ℕ
 flag_name Workers = codes "--workers"
 flag_name Fuel = codes "--fuel"
 flag_name Sync = codes "--sync"
+flag_name Format = codes "--format"
 
 -- what an option's value is taken as [own]
 abbrev pub flag_takes : Flag → Takes
 flag_takes Workers = Number 1 64
 flag_takes Fuel = Number 0 1000000000
 flag_takes Sync = OneOf Ways
+flag_takes Format = OneOf Formats
 
--- the value that an option has where none is given [own]
-abbrev pub default : Flag → List ℕ
-default Workers = codes "1"
-default Fuel = codes "1000000"
-default Sync = codes "layers"
+-- the value that an option has where none is given, if it has one [own]
+abbrev pub default : Flag → Option (List ℕ)
+default Workers = Some (codes "1")
+default Fuel = Some (codes "1000000")
+default Sync = Some (codes "layers")
+default Format = Some (codes "1")
 
 -- the words of which one is taken [own]
 abbrev pub choices : Choice → List (List ℕ)
 choices Ways = codes "layers" ∷ codes "flow" ∷ []
+choices Formats = codes "1" ∷ codes "2" ∷ []
 
 -- the command that is spelled so [own]
 abbrev pub command_of : List ℕ → Option Command

@@ -1,7 +1,7 @@
 -- The limits within which the numbers of an order lie.
 use Rattle.std.specs.Prelude.{◌≤◌}
 use Rattle.flame_words.specs.declared.orders.Order.{Order}
-use Rattle.flame_words.specs.declared.orders.Order.TheVariants.{Run, Check, Graph, Code, Trial}
+use Rattle.flame_words.specs.declared.orders.Order.TheVariants.{Run, Check, Graph, Code, Trial, Migrate}
 use Rattle.flame_words.specs.declared.orders.RunOrder.{RunOrder}
 use Rattle.flame_words.specs.declared.orders.TrialOrder.{TrialOrder}
 use Rattle.flame_words.specs.declared.orders.How.{How}
@@ -12,9 +12,11 @@ pub record HowIsWithin (how : How) : Type 0 where
   pub few_workers : how.workers ≤ 64
   pub fuel : how.fuel ≤ 1000000000
 
--- at most 1,000,000 iterations [own]
+-- at most 1,000,000 iterations, and format 1 or 2 [own]
 pub record RunIsWithin (run : RunOrder) : Type 0 where
   pub turns : run.turns ≤ 1000000
+  pub some_format : 1 ≤ run.format
+  pub known_format : run.format ≤ 2
   pub how : HowIsWithin run.how
 
 -- a seed of 32 bits, at most 10,000 agents, and at most 20 iterations [own]
@@ -31,3 +33,4 @@ IsWithin (Check model) = Unit {0}
 IsWithin (Graph model) = Unit {0}
 IsWithin (Code model) = Unit {0}
 IsWithin (Trial trial) = TrialIsWithin trial
+IsWithin (Migrate model pop out) = Unit {0}

@@ -2,14 +2,14 @@
 use Rattle.std.specs.Prelude.{◌≡◌, ℕ, ◌<◌, ◌^◌, IsTrue, List, [], ◌∷◌, Bool, true, false, ◌&&◌, nat_le}
 use Rattle.std.specs.Option.{option_map_or}
 use Rattle.flame_words.specs.declared.table.Command.{Command}
-use Rattle.flame_words.specs.declared.table.Flag.{Flag}
+use Rattle.flame_words.specs.declared.table.Flag.TheVariants.{Workers, Fuel}
 use Rattle.flame_words.specs.declared.table.Place.{Place}
 use Rattle.flame_words.specs.declared.table.Takes.{Takes}
 use Rattle.flame_words.specs.declared.table.Takes.TheVariants.{Text, Number, OneOf}
 use Rattle.flame_words.specs.CommandTable.{flag_of, flag_takes, place_takes, is_among}
 use Rattle.flame_words.specs.WordValues.{is_number, number_value}
 use Rattle.flame_words.specs.WordRoles.{Given}
-use Rattle.flame_words.specs.GivenOrders.{value_of}
+use Rattle.flame_words.specs.GivenOrders.{word_of}
 
 -- the word can be taken so [own]
 abbrev pub suits : Takes → List ℕ → Bool
@@ -34,6 +34,7 @@ pub record IsSmallNumber (word : List ℕ) : Type 0 where
   pub number : IsTrue (is_number word)
   pub small : number_value word < 2 ^ 32
 
--- each option has a value that it can have [own]
-abbrev pub OptionsSuit : List Given → Type 0
-OptionsSuit givens = (flag : Flag) → suits (flag_takes flag) (value_of givens flag) ≡ true
+-- the options that are numbers have values that they can have [own]
+pub record NumbersSuit (givens : List Given) : Type 0 where
+  pub workers : suits (flag_takes Workers) (word_of givens Workers) ≡ true
+  pub fuel : suits (flag_takes Fuel) (word_of givens Fuel) ≡ true

@@ -29,6 +29,10 @@ number_value digits = value_behind 0 digits
 abbrev pub way_of : List ℕ → Way
 way_of word = if bytes_eq word (codes "flow") then Flow else Layers
 
+-- the format of files that a word names; a word that names none has a fault [own]
+abbrev pub format_of : List ℕ → ℕ
+format_of word = if bytes_eq word (codes "2") then 2 else 1
+
 -- why the word of this number, counted from 1, cannot be taken so [own]
 abbrev pub fault_as : Takes → ℕ → List ℕ → Option Usage
 fault_as Text number word = None

@@ -1,15 +1,15 @@
 //! Making the order of the words that were read.
 
 ghost use Rattle.std.specs.Prelude.{◌≡◌, ◌<◌, ◌≤◌, length, IfOk};
-ghost use Rattle.flame_words.specs.GivenOrders.{value_of, how_of, word_at, run_of, trial_of, order_from};
+ghost use Rattle.flame_words.specs.GivenOrders.{how_of, word_at, run_of, trial_of, order_from};
 ghost use Rattle.flame_words.specs.WordValues.{number_value};
-ghost use Rattle.flame_words.specs.TakenWords.{IsSmallNumber, OptionsSuit};
+ghost use Rattle.flame_words.specs.TakenWords.{IsSmallNumber, NumbersSuit};
 ghost use Rattle.flame_words.specs.WordSteps.{seen_of, IsComplete};
 
 use crate::orders::{How, Order, RunOrder, TrialOrder};
 use crate::reading::Reading;
 use crate::table::{Command, Flag};
-use crate::value::{number_value, way_of};
+use crate::value::{format_of, number_value, way_of};
 use flame_rows::{NoMemory, Text};
 use std::alloc::Global;
 
@@ -25,6 +25,7 @@ pub(crate) fn order_from(alloc: Global, reading: &Reading<'_>) -> Result<Order, 
         Command::Graph => Ok(Order::Graph(text_at(alloc, reading, 0)?)),
         Command::Code => Ok(Order::Code(text_at(alloc, reading, 0)?)),
         Command::Trial => Ok(Order::Trial(trial_of(reading))),
+        Command::Migrate => migrate_of(alloc, reading),
     }
 }
 
@@ -38,6 +39,7 @@ fn run_of(alloc: Global, reading: &Reading<'_>) -> Result<RunOrder, NoMemory>
         pop: text_at(alloc, reading, 1)?,
         out: text_at(alloc, reading, 2)?,
         turns: number_at(reading, 3),
+        format: format_of(reading.word_of(Flag::Format)),
         how: how_of(reading),
     })
 }
@@ -55,15 +57,28 @@ fn trial_of(reading: &Reading<'_>) -> TrialOrder
     }
 }
 
+fn migrate_of(alloc: Global, reading: &Reading<'_>) -> Result<Order, NoMemory>
+    requires complete { IsComplete (seen_of reading.now) }
+    requires command { reading.now.command ≡ Command.Migrate }
+    ensures { IfOk result (λ order. order
+        ≡ order_from Command.Migrate (seen_of reading.now).words (seen_of reading.now).givens) }
+{
+    Ok(Order::Migrate(
+        text_at(alloc, reading, 0)?,
+        text_at(alloc, reading, 1)?,
+        text_at(alloc, reading, 2)?,
+    ))
+}
+
 /// How the options say that iterations are run.
 fn how_of(reading: &Reading<'_>) -> How
-    requires { OptionsSuit (seen_of reading.now).givens }
+    requires { NumbersSuit (seen_of reading.now).givens }
     ensures { result ≡ how_of (seen_of reading.now).givens }
 {
     How {
-        workers: number(reading.value(Flag::Workers)),
-        fuel: number(reading.value(Flag::Fuel)),
-        way: way_of(reading.value(Flag::Sync)),
+        workers: number(reading.word_of(Flag::Workers)),
+        fuel: number(reading.word_of(Flag::Fuel)),
+        way: way_of(reading.word_of(Flag::Sync)),
     }
 }
 

@@ -15,6 +15,9 @@ pub enum Order {
     Code(Text),
     /// Run the model that the program carries.
     Trial(TrialOrder),
+    /// Write the population of a model in the newest format: the names of the model file, of the population file, and of
+    /// the file that is written.
+    Migrate(Text, Text, Text),
 }
 
 /// Run a model on a population.
@@ -28,6 +31,8 @@ pub struct RunOrder {
     pub out: Text,
     /// How many iterations, 0 to 1,000,000.
     pub turns: u32,
+    /// The format of the written files, 1 or 2.
+    pub format: u32,
     /// How they are run.
     pub how: How,
 }

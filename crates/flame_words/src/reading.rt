@@ -29,7 +29,7 @@ pub(crate) struct Reading<'a> {
 
 impl<'a> Reading<'a> {
     ghost use Rattle.flame_words.specs.CommandTable.{flag_name};
-    ghost use Rattle.flame_words.specs.GivenOrders.{word_at, value_of};
+    ghost use Rattle.flame_words.specs.GivenOrders.{word_at, word_of, value_of};
     ghost use Rattle.flame_words.specs.WordSteps.{seen_of, nothing_behind, fault_at, option_fault, place_fault};
     ghost use Rattle.flame_words.specs.WordSteps.{read_on};
     ghost use Rattle.flame_words.specs.WordSteps.{missing_at, FailsBy};
@@ -124,14 +124,24 @@ impl<'a> Reading<'a> {
         self.words[at]
     }
 
-    /// The value of the option, its default where none was given.
+    /// The value of the option: the one that was given, or else its default, if it has one.
     #[tactic(auto, using(crate::proofs::Lists::find_mapped))]
-    pub fn value(&self, option: Flag) -> &'a str
-        ensures { result.now ≡ value_of (seen_of self.now).givens option }
+    fn value(&self, option: Flag) -> Option<&'a str>
+        ensures { option_map (λ word. word.now) result ≡ value_of (seen_of self.now).givens option }
     {
         match self.setting(option) {
-            Some(set) => set.value,
+            Some(set) => Some(set.value),
             None => option.default(),
+        }
+    }
+
+    /// The value of an option that has a default.
+    pub fn word_of(&self, option: Flag) -> &'a str
+        ensures { result.now ≡ word_of (seen_of self.now).givens option }
+    {
+        match self.value(option) {
+            Some(word) => word,
+            None => "",
         }
     }
 

@@ -1,7 +1,7 @@
 //! The table of commands: how each is spelled, which words it takes in which order, and which options it has. A further
 //! command, option or choice is an entry here; whoever reads words reads them by this table alone.
 
-ghost use Rattle.std.specs.Prelude.{◌≡◌, ◌==◌, IfSome};
+ghost use Rattle.std.specs.Prelude.{◌≡◌, option_map};
 ghost use Rattle.std.specs.List.{find, list_any};
 ghost use Rattle.std.specs.Str.{bytes_eq};
 ghost use Rattle.flame_words.specs.CommandTable.{command_of, spelling, places, options, place_name, place_takes};
@@ -16,6 +16,7 @@ pub(crate) enum Command {
     Graph,
     Code,
     Trial,
+    Migrate,
 }
 
 /// A positional word of a command.
@@ -36,6 +37,7 @@ pub(crate) enum Flag {
     Workers,
     Fuel,
     Sync,
+    Format,
 }
 
 /// What a word is taken as.
@@ -53,15 +55,17 @@ pub(crate) enum Takes {
 #[derive(Clone, Copy, Debug)]
 pub(crate) enum Choice {
     Ways,
+    Formats,
 }
 
 /// All commands.
-const COMMANDS: [Command; 5] = [
+const COMMANDS: [Command; 6] = [
     Command::Run,
     Command::Check,
     Command::Graph,
     Command::Code,
     Command::Trial,
+    Command::Migrate,
 ];
 
 impl Command {
@@ -82,6 +86,7 @@ impl Command {
             Command::Graph => "graph",
             Command::Code => "code",
             Command::Trial => "trial",
+            Command::Migrate => "migrate",
         }
     }
 
@@ -95,6 +100,7 @@ impl Command {
             Command::Graph => &[Place::Model],
             Command::Code => &[Place::Model],
             Command::Trial => &[Place::Seed, Place::Size, Place::TrialTurns],
+            Command::Migrate => &[Place::Model, Place::Population, Place::Out],
         }
     }
 
@@ -103,11 +109,12 @@ impl Command {
         ensures { result.now ≡ options self }
     {
         match self {
-            Command::Run => &[Flag::Workers, Flag::Fuel, Flag::Sync],
+            Command::Run => &[Flag::Workers, Flag::Fuel, Flag::Sync, Flag::Format],
             Command::Check => &[],
             Command::Graph => &[],
             Command::Code => &[],
             Command::Trial => &[Flag::Workers, Flag::Fuel, Flag::Sync],
+            Command::Migrate => &[],
         }
     }
 
@@ -160,6 +167,7 @@ impl Flag {
             Flag::Workers => "--workers",
             Flag::Fuel => "--fuel",
             Flag::Sync => "--sync",
+            Flag::Format => "--format",
         }
     }
 
@@ -171,17 +179,19 @@ impl Flag {
             Flag::Workers => Takes::Number(1, 64),
             Flag::Fuel => Takes::Number(0, 1_000_000_000),
             Flag::Sync => Takes::OneOf(Choice::Ways),
+            Flag::Format => Takes::OneOf(Choice::Formats),
         }
     }
 
-    /// The value that it has where none is given.
-    pub fn default(self) -> &'static str
-        ensures { result.now ≡ default self }
+    /// The value that it has where none is given, if it has one.
+    pub fn default(self) -> Option<&'static str>
+        ensures { option_map (λ word. word.now) result ≡ default self }
     {
         match self {
-            Flag::Workers => "1",
-            Flag::Fuel => "1000000",
-            Flag::Sync => "layers",
+            Flag::Workers => Some("1"),
+            Flag::Fuel => Some("1000000"),
+            Flag::Sync => Some("layers"),
+            Flag::Format => Some("1"),
         }
     }
 }
@@ -193,6 +203,7 @@ impl Choice {
     {
         match self {
             Choice::Ways => word == "layers" || word == "flow",
+            Choice::Formats => word == "1" || word == "2",
         }
     }
 }

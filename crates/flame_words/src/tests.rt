@@ -15,16 +15,16 @@ fn order_of_line(alloc: Global, line: &str) -> Result<Order, Fail<Usage>> {
 
 #[test]
 fn each_call_once(rt: HostRuntime) {
-    let order = order_of_line(rt.alloc(), "run --workers 4 m p --sync flow o 5");
+    let order = order_of_line(rt.alloc(), "run --workers 4 m p --format 2 o 5");
     match &order {
         Ok(Order::Run(run)) => {
             assert_eq!(rt; run.model.as_str(), "m");
             assert_eq!(rt; run.pop.as_str(), "p");
             assert_eq!(rt; run.out.as_str(), "o");
-            assert_eq!(rt; run.turns, 5);
+            assert_eq!(rt; (run.turns, run.format), (5, 2));
             assert_eq!(rt;
                 (run.how.workers, run.how.fuel, run.how.way),
-                (4, 1000000, Way::Flow)
+                (4, 1000000, Way::Layers)
             );
         }
         _ => assert!(rt; false, "no order"),

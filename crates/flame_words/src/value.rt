@@ -4,7 +4,7 @@ ghost use Rattle.std.specs.Prelude.{◌≡◌, ◌<◌, ◌^◌, IsTrue};
 ghost use Rattle.std.specs.List.{list_all};
 ghost use Rattle.std.specs.Char.{is_ascii_digit};
 ghost use Rattle.std.specs.Option.{SomeIff};
-ghost use Rattle.flame_words.specs.WordValues.{is_number, number_value, way_of, fault_as};
+ghost use Rattle.flame_words.specs.WordValues.{is_number, number_value, way_of, format_of, fault_as};
 
 use crate::faults::Usage;
 use crate::orders::Way;
@@ -81,4 +81,11 @@ pub(crate) fn way_of(word: &str) -> Way
     } else {
         Way::Layers
     }
+}
+
+/// The format of files that the word names.
+pub(crate) fn format_of(word: &str) -> u32
+    ensures { result ≡ format_of word.now }
+{
+    if word == "2" { 2 } else { 1 }
 }

@@ -4,8 +4,8 @@ use Rattle.flame_words.proofs.make.how_of.Goals as goal
 
 pub number-requires : goal.number-requires
 number-requires c =
-    rw c.value.ensures (workers_small (seen_of c.args.reading.now).givens c.requires)
+    rw c.word_of.ensures (workers_small (seen_of c.args.reading.now).givens c.requires)
 
 pub number-requires-2 : goal.number-requires-2
 number-requires-2 c =
-    rw c.value-2.ensures (fuel_small (seen_of c.args.reading.now).givens c.requires)
+    rw c.word_of-2.ensures (fuel_small (seen_of c.args.reading.now).givens c.requires)
