@@ -1,0 +1,5 @@
+pub mod Backwards
+pub mod Columns
+pub mod Kept
+pub mod Firsts
+pub mod Places

@@ -1,0 +1,9 @@
+use Rattle.std.proofs.Common.{◌≡◌, ◌++◌, map, drop}
+use Rattle.flame_spec.specs.Functions.{at_type}
+use Rattle.flame_lookup.specs.WordsFound.{place_found}
+use Rattle.flame_lookup.proofs.functions.add_functions.Given as goal
+
+abbrev pub invariant-loop-function : goal.invariant-loop-function
+invariant-loop-function l =
+    map place_found l.places.items ++ map (at_type l.number l.agent) (drop l.function-index l.agent.functions)
+    ≡ map place_found l.fn.places.items ++ map (at_type l.number l.agent) l.agent.functions

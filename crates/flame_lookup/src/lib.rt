@@ -1,0 +1,17 @@
+//! What the words of function files stand for, looked up in hashed tables.
+#![tactic(auto)]
+
+mod forms;
+mod found;
+mod functions;
+mod lists;
+mod running;
+mod sources;
+mod table;
+#[cfg(test)]
+mod tests;
+mod words;
+
+pub use found::{Act, CFunction, Found, Helper, Meant, Transition};
+pub use sources::Tables;
+pub use words::Words;
