@@ -1,6 +1,6 @@
 -- The first item that passes a test.
-use Rattle.std.proofs.Common.{◌≡◌, ℕ, zero, suc, ◌+◌, ◌<◌, ◌≤◌, List, [], ◌∷◌, ◌++◌, length, take, get_or, map, reverse, refl, sym, ap, ◌∙◌, Bool, true, false, ◌||◌, cond, Option, Some, None, option_map, arith, nat_lt}
-use Rattle.std.specs.Prelude.{find, slice_get, is_some, not, ◌&&◌}
+use Rattle.std.proofs.Common.{◌≡◌, ℕ, zero, suc, ◌+◌, ◌<◌, ◌≤◌, List, [], ◌∷◌, length, take, get_or, map, reverse, refl, sym, ap, ◌∙◌, Bool, true, false, ◌||◌, cond, Option, Some, None, option_map, arith, nat_lt}
+use Rattle.std.specs.Prelude.{find, slice_get, is_some}
 use Rattle.std.specs.List.{list_any}
 use Rattle.std.specs.Str.{bytes_eq}
 use Rattle.std.proofs.lemmas.Bool.Decides.{nat_tests}
@@ -9,7 +9,7 @@ use Rattle.std.proofs.lemmas.List.Sorted.{list_any-IsPermutation, IsPermutation-
 use Rattle.std.proofs.lemmas.Option.{slice_get-map, slice_get_read}
 use Rattle.std.proofs.lemmas.Slice.Eq.{bytes_eq-Decides}
 use Rattle.flame_spec.specs.KnownNames.{is_among}
-use Rattle.flame_spec.specs.Lists.{numbered_from, numbers_from}
+use Rattle.flame_spec.specs.Lists.{numbered_from}
 
 -- it does not matter which text comes first
 pub bytes_eq_comm : (xs ys : List ℕ) → bytes_eq xs ys ≡ bytes_eq ys xs

@@ -2,7 +2,6 @@ use Rattle.std.proofs.Common.{◌≡◌, ◌∙◌, ap, sym, option_map, Some}
 use Rattle.std.specs.Prelude.{slice_get}
 use Rattle.std.proofs.lemmas.Option.{slice_get_within}
 use Rattle.flame_spec.specs.declared.models.MessageType.{MessageType}
-use Rattle.flame_spec.specs.declared.models.Variable.{Variable}
 use Rattle.flame_spec.specs.Columns.{variable_named}
 use Rattle.flame_spec.specs.ExpressionFaults.{member_of}
 use Rattle.flame_spec.specs.LookUps.{message_read}
