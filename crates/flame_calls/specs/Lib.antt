@@ -1,0 +1,8 @@
+-- The promise: which faults calls of helpers have, in order.
+pub mod FaultsOfCalls
+-- The words that only bodies and proofs use.
+pub mod CallMarks
+pub mod CallLists
+pub mod ReadyHelpers
+pub mod Climbs
+pub mod CallPaths
