@@ -1,0 +1,10 @@
+use Rattle.std.proofs.Common.{subst}
+use Rattle.flame_code.specs.Machine.{deliver}
+use Rattle.flame_machine.specs.Frames.{config}
+use Rattle.flame_machine.specs.Steps.{Stepped}
+use Rattle.flame_machine.proofs.turns.next_row.Goals as goal
+
+pub returns-then-advance-clause-does : goal.returns-then-advance-clause-does
+returns-then-advance-clause-does g c added feeds =
+    subst (λ there. Stepped (deliver there c.args.line c.args.to (config c.args.frame.now added feeds)) c.pay.new.frame added feeds c.pay.result)
+    c.if-advance.ensures.there (c.pay.ensures.does added feeds)

@@ -1,0 +1,64 @@
+-- How the program's runs begin and end.
+use Rattle.std.specs.Prelude.{◌≡◌, ℕ, ◌≤◌, ◌==◌, ℤ, List, length, true}
+use Rattle.std.specs.List.{list_all}
+use Rattle.flame_code.specs.Feeds.{Fed}
+use Rattle.flame_code.specs.HelperCodes.{HelperCodes, calls_fit}
+use Rattle.flame_code.specs.Routines.{Routine, locals_of}
+use Rattle.flame_code.specs.Machine.{Given, Config, End, returned, faulted}
+use Rattle.flame_code.specs.Meanings.{Runs, entry}
+use Rattle.flame_code.specs.Stands.{Stands}
+use Rattle.flame_machine.specs.declared.endings.Finish.{Finish}
+use Rattle.flame_machine.specs.declared.endings.Finish.TheVariants as finish
+use Rattle.flame_machine.specs.declared.endings.Called.{Called}
+use Rattle.flame_machine.specs.declared.endings.Called.TheVariants as called
+use Rattle.flame_machine.specs.Frames.{Framed, Additions, config}
+use Rattle.flame_machine.specs.Steps.{seen}
+
+-- every helper sees as many constants as there are [own]
+abbrev pub SeeConstants : Given → HelperCodes → Type 0
+SeeConstants g helpers = list_all (λ helper. helper.widths.constants == length g.constants) helpers.routines ≡ true
+
+-- the code's calls name helpers, and it and every helper see the constants [own]
+pub record Suits (helpers : HelperCodes) (g : Given) (r : Routine) : Type 0 where
+  pub calls : calls_fit helpers.parameters r ≡ true
+  pub constants : length g.constants ≡ r.widths.constants
+  pub alike : SeeConstants g helpers
+
+-- the run stands where a path leads, and has all locals, room for its stack, and its inputs [own]
+pub record Ready (r : Routine) (frame : Framed) (added : Additions) (feeds : List Fed) : Type 0 where
+  pub stands : Stands r (config frame added (seen r.widths feeds))
+  pub locals : locals_of r.instrs ≤ length frame.locals
+  pub room : length r.instrs ≤ frame.room
+  pub inputs : length r.widths.inputs ≤ length feeds
+
+-- how a run ends that finished so, with what it added and the inputs that it leaves [own]
+abbrev pub end_of : Finish → Additions → List Fed → End
+end_of (finish.Returned v frame) added feeds = returned v (config frame added feeds)
+end_of (finish.Faulted fault) added feeds = faulted fault
+
+-- it leaves no more fuel than this [own]
+abbrev pub FinishFell : Finish → ℕ → Type 0
+FinishFell (finish.Returned v frame) fuel = frame.fuel ≤ fuel
+FinishFell (finish.Faulted fault) fuel = Unit {0}
+
+-- what a helper that finished so gives back [own]
+abbrev pub called_of : Finish → Called
+called_of (finish.Returned v frame) = called.Returned v frame.fuel
+called_of (finish.Faulted fault) = called.Faulted fault
+
+-- a call leaves no more fuel than this [own]
+abbrev pub CallFell : Called → ℕ → Type 0
+CallFell (called.Returned v left) fuel = left ≤ fuel
+CallFell (called.Faulted fault) fuel = Unit {0}
+
+-- the helper's run with these arguments and this fuel returns the value and leaves so much fuel [own]
+pub record Returns (g : Given) (helpers : List Routine) (helper : Routine) (args : List ℤ) (paid : ℕ) (v : ℤ) (left : ℕ)
+    : Type 0 where
+  pub end : Config
+  pub fuel : end.fuel ≡ left
+  pub runs : Runs g helpers helper (entry args paid) (returned v end)
+
+-- the helper's run with these arguments and this fuel ends so [own]
+abbrev pub CallEnds : Given → List Routine → Routine → List ℤ → ℕ → Called → Type 0
+CallEnds g helpers helper args fuel (called.Returned v left) = Returns g helpers helper args fuel v left
+CallEnds g helpers helper args fuel (called.Faulted fault) = Runs g helpers helper (entry args fuel) (faulted fault)

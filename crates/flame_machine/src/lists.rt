@@ -1,0 +1,74 @@
+//! A feed over rows in memory.
+
+ghost use Rattle.std.specs.Prelude.{◌≡◌, ◌<◌, [], ◌∷◌, ◌++◌, length, IsSome, Some, OnOk, OnErr};
+ghost use Rattle.flame_code.specs.Feeds.{at_start, has_next, at_next, field, not_begun};
+
+use flame_code::Feed;
+use flame_rows::{NoMemory, Row};
+use std::alloc::Global;
+use std::marker::Model;
+
+/// The rows of an input and how many of them have come.
+#[derive(Debug, Drop)]
+struct Cursor<'a> {
+    rows: &'a [Row],
+    come: usize,
+}
+
+/// Lists of rows in memory, one for each input of a function, in their order, each read from its first row to its last.
+#[derive(Debug, Drop)]
+pub struct Lists<'a> {
+    cursors: Vec<Cursor<'a>>,
+}
+
+impl<'a> Model for Lists<'a> {
+    ghost use Rattle.std.specs.Prelude.{List};
+    ghost use Rattle.flame_code.specs.Feeds.{Fed};
+    ghost use Rattle.flame_machine.specs.Cursors.{feeds_of};
+
+    ghost Value = { List Fed };
+
+    ghost view = { λ a. feeds_of a.cursors.items };
+}
+
+impl<'a> Lists<'a> {
+    /// No list yet: what helpers read, and functions without inputs.
+    pub fn new(alloc: Global) -> Lists<'a>
+        ensures { result ≡ [] }
+    {
+        Lists {
+            cursors: Vec::new(alloc),
+        }
+    }
+
+    /// Adds the rows of the next input, of which none has come.
+    pub fn push(&mut self, rows: &'a [Row]) -> Result<(), NoMemory>
+        ensures ok { OnOk result (self.new ≡ self.old ++ not_begun rows.entry.now ∷ []) }
+        ensures err { OnErr result (self.new ≡ self.old) }
+    {
+        self.cursors.push(Cursor { rows, come: 0 })?;
+        Ok(())
+    }
+}
+
+impl<'a> Feed for Lists<'a> {
+    ghost feeds = { λ lists. lists };
+
+    fn begin(&mut self, input: u32) {
+        self.cursors[input as usize].come = 0;
+    }
+
+    fn advance(&mut self, input: u32) -> bool {
+        let cursor = &mut self.cursors[input as usize];
+        if cursor.come < cursor.rows.len() {
+            cursor.come += 1;
+            return true;
+        }
+        false
+    }
+
+    fn value(&self, input: u32, variable: u32) -> i32 {
+        let cursor = &self.cursors[input as usize];
+        cursor.rows[cursor.come - 1].values()[variable as usize]
+    }
+}

@@ -1,0 +1,220 @@
+//! Runs of codes.
+
+ghost use Rattle.std.specs.Prelude.{◌≡◌, ◌+◌, ◌*◌, ◌<◌, ◌≤◌, ◌^◌, length, drop, List, slice_get, Some, true, IfOk};
+ghost use Rattle.flame_code.specs.Feeds.{Fed};
+ghost use Rattle.flame_code.specs.HelperCodes.{AreHelpers, sees_nothing, fits as fitting};
+ghost use Rattle.flame_code.specs.InputRows.{rows_of};
+ghost use Rattle.flame_code.specs.Machine.{step};
+ghost use Rattle.flame_code.specs.Meanings.{Runs, entry, FitsEntry, Means};
+ghost use Rattle.flame_code.specs.Routines.{Routine};
+ghost use Rattle.flame_code.specs.Validity.{IsValid};
+ghost use Rattle.flame_machine.specs.Frames.{config, nothing_added};
+ghost use Rattle.flame_machine.specs.Running.{SeeConstants, Suits, Ready, end_of, called_of, FinishFell, CallFell, CallEnds};
+ghost use Rattle.flame_machine.specs.Steps.{seen, Stepped};
+
+use crate::additions::Added;
+use crate::endings::{Called, Finish, outcome};
+use crate::frames::Frame;
+use crate::givens::Given;
+use crate::pools::{Pool, filled};
+use crate::turns::{Turned, apply};
+use flame_code::{Code, Feed, Helpers, Instr};
+use flame_rows::{NoMemory, Row};
+use flame_spec::Outcome;
+use std::alloc::Global;
+
+#[inline(always)]
+fn instr_at(instrs: &[Instr], place: usize) -> &Instr
+    requires { place < length instrs.now }
+    ensures { slice_get instrs.now place ≡ Some result.now }
+{
+    &instrs[place]
+}
+
+/// The instruction at the frame's place.
+#[inline(always)]
+fn turn<F: Feed>(
+    code: &Code,
+    instrs: &[Instr],
+    frame: &mut Frame,
+    added: &mut Added,
+    feed: &mut F,
+    given: &Given,
+) -> Turned
+    requires same { instrs.now ≡ code.now.instrs }
+    requires valid { IsValid code.now }
+    requires few { length code.now.instrs < 2 ^ 32 }
+    requires ready { Ready code.now frame.old added.old (F.feeds feed.old) }
+    requires constants { length given.now.constants ≡ code.now.widths.constants }
+    ensures does { Stepped (step given.now code.now
+        (config frame.old added.old (seen code.now.widths (F.feeds feed.old))))
+        frame.new added.new (seen code.now.widths (F.feeds feed.new)) result }
+    ensures locals { length frame.new.locals ≡ length frame.old.locals }
+    ensures room { frame.new.room ≡ frame.old.room }
+    ensures rows { rows_of (F.feeds feed.new) ≡ rows_of (F.feeds feed.old) }
+    ensures others { drop (length code.now.widths.inputs) (F.feeds feed.new) ≡
+        drop (length code.now.widths.inputs) (F.feeds feed.old) }
+{
+    let instr = instr_at(instrs, frame.place());
+    apply(frame, added, feed, given, code.widths(), instr)
+}
+
+/// What a helper that finished so gives back. Its lists are kept for the next one.
+fn given_back(pool: &mut Pool, finish: Finish) -> Result<Called, NoMemory>
+    ensures { IfOk result (λ called. called ≡ called_of finish) }
+{
+    match finish {
+        Finish::Returned(value, frame) => {
+            let fuel = frame.fuel();
+            let (cells, locals, _) = frame.end();
+            pool.put_back(cells)?;
+            pool.put_back(locals)?;
+            Ok(Called::Returned(value, fuel))
+        }
+        Finish::Faulted(fault) => Ok(Called::Faulted(fault)),
+    }
+}
+
+/// Runs the code from where the frame stands. It calls itself through `call` for each helper that is open, so at most as
+/// deep as helpers are high.
+#[cycle(go)]
+fn go<F: Feed>(
+    pool: &mut Pool,
+    code: &Code,
+    helpers: &Helpers,
+    given: &Given,
+    added: &mut Added,
+    feed: &mut F,
+    frame: Frame,
+) -> Result<Finish, NoMemory>
+    requires among { AreHelpers helpers.now }
+    requires suits { Suits helpers.now given.now code.now }
+    requires ready { Ready code.now frame added.old (F.feeds feed.old) }
+    ensures runs { IfOk result (λ finish. Runs given.now helpers.now.routines code.now
+        (config frame added.old (seen code.now.widths (F.feeds feed.old)))
+        (end_of finish added.new (seen code.now.widths (F.feeds feed.new)))) }
+    ensures fell { IfOk result (λ finish. FinishFell finish frame.fuel) }
+    ensures rows { rows_of (F.feeds feed.new) ≡ rows_of (F.feeds feed.old) }
+    ensures others { drop (length code.now.widths.inputs) (F.feeds feed.new) ≡
+        drop (length code.now.widths.inputs) (F.feeds feed.old) }
+{
+    let instrs = code.instrs();
+    let mut frame = frame;
+    'steps: loop {
+        match turn(code, instrs, &mut frame, added, feed, given) {
+            Turned::On => {}
+            Turned::Ended(value) => return Ok(Finish::Returned(value, frame)),
+            Turned::Faulted(fault) => return Ok(Finish::Faulted(fault)),
+            Turned::Calls(helper, count) => {
+                let mut args = pool.empty();
+                frame.copy_row(count as usize, &mut args)?;
+                frame.drop_row(count as usize);
+                match call(pool, helpers, given, feed, helper, args, frame.fuel())? {
+                    Called::Returned(value, fuel) => {
+                        frame.set_fuel(fuel);
+                        frame.push(value);
+                    }
+                    Called::Faulted(fault) => return Ok(Finish::Faulted(fault)),
+                }
+            }
+            Turned::Full => return Err(NoMemory),
+        }
+    }
+}
+
+/// The code of a helper, which sees no inputs and all constants.
+fn helper_of<'a>(helpers: &'a Helpers, given: &Given, helper: u32) -> &'a Code
+    requires there { helper < length helpers.now.routines }
+    requires alike { SeeConstants given.now helpers.now }
+    ensures found { slice_get helpers.now.routines helper ≡ Some result.now }
+    ensures among { AreHelpers helpers.now }
+    ensures suits { Suits helpers.now given.now result.now }
+    ensures blind { sees_nothing result.now ≡ true }
+{
+    helpers.code(helper)
+}
+
+/// The frame of a helper with these arguments, at its begin.
+fn opened(pool: &mut Pool, code: &Code, args: Vec<i32>, fuel: u32) -> Result<Frame, NoMemory>
+    requires { sees_nothing code.now ≡ true }
+    ensures fuel { IfOk result (λ frame. frame.fuel ≡ fuel) }
+    ensures ready { IfOk result (λ frame. (feeds : List Fed) → Ready code.now frame nothing_added feeds) }
+    ensures begins { IfOk result (λ frame. (feeds : List Fed) →
+        config frame nothing_added (seen code.now.widths feeds) ≡ entry args.items fuel) }
+{
+    let locals = filled(args, code.locals())?;
+    let cells = pool.cells(code.instrs().len())?;
+    Ok(Frame::begin(cells, locals, pool.nothing(), fuel))
+}
+
+/// Runs a helper. It reads no input, so the feed stays as it was.
+#[cycle(go)]
+fn call<F: Feed>(
+    pool: &mut Pool,
+    helpers: &Helpers,
+    given: &Given,
+    feed: &mut F,
+    helper: u32,
+    args: Vec<i32>,
+    fuel: u32,
+) -> Result<Called, NoMemory>
+    requires there { helper < length helpers.now.routines }
+    requires alike { SeeConstants given.now helpers.now }
+    ensures ends { IfOk result (λ called. (inner : Routine) → slice_get helpers.now.routines helper ≡ Some inner
+        → CallEnds given.now helpers.now.routines inner args.items fuel called) }
+    ensures fell { IfOk result (λ called. CallFell called fuel) }
+    ensures feeds { F.feeds feed.new ≡ F.feeds feed.old }
+{
+    let code = helper_of(helpers, given, helper);
+    let frame = opened(pool, code, args, fuel)?;
+    let mut added = pool.added();
+    let finish = go(pool, code, helpers, given, &mut added, feed, frame)?;
+    let called = given_back(pool, finish)?;
+    Ok(called)
+}
+
+/// What the code means with these helpers, from this memory, these inputs and constants, in this iteration and with this
+/// fuel. One step for each instruction; only `Pay`, `Call` and a row that `Next` delivers spend fuel.
+///
+/// The memory, the constants and the rows of the feed have the widths that the code sees, and the feed has a list of rows
+/// for each of its inputs. The rows stay as they were, and how many have come is what the run left. `NoMemory` comes only
+/// where memory was not found.
+pub fn run<F: Feed>(
+    alloc: Global,
+    code: &Code,
+    helpers: &Helpers,
+    memory: &Row,
+    feed: &mut F,
+    constants: &Row,
+    iteration: i32,
+    fuel: u32,
+) -> Result<Outcome, NoMemory>
+    requires entry { FitsEntry code.now (record {
+      memory = memory.now;
+      feeds = F.feeds feed.old;
+      constants = constants.now;
+      iteration = iteration;
+      fuel = fuel;
+    }) }
+    requires helping { fitting helpers.now code.now ≡ true }
+    ensures means { IfOk result (λ o. Means helpers.now.routines code.now (record {
+      memory = memory.now;
+      feeds = F.feeds feed.old;
+      constants = constants.now;
+      iteration = iteration;
+      fuel = fuel;
+    }) o) }
+    ensures rows { rows_of (F.feeds feed.new) ≡ rows_of (F.feeds feed.old) }
+{
+    let mut pool = Pool::new(alloc);
+    let _count = helpers.len();
+    let locals = filled(pool.empty(), code.locals())?;
+    let cells = pool.cells(code.instrs().len())?;
+    let numbers = Vec::from_slice(alloc, memory.values())?;
+    let frame = Frame::begin(cells, locals, numbers, fuel);
+    let mut added = Added::new(alloc);
+    let given = Given::of(constants, iteration);
+    let finish = go(&mut pool, code, helpers, &given, &mut added, feed, frame)?;
+    let end = outcome(finish, added);
+    Ok(end)
+}
