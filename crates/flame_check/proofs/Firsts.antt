@@ -1,0 +1,40 @@
+-- First faults of lists that are laid end to end.
+use Rattle.std.proofs.Common.{◌≡◌, List, [], ◌∷◌, ◌++◌, Some, sym, subst}
+use Rattle.flame_rows.specs.declared.fails.Fail.{Fail}
+use Rattle.flame_rows.specs.declared.fails.Fail.TheVariants.{Fault, NoMemory}
+use Rattle.flame_spec.specs.declared.faults.CheckFault.{CheckFault}
+use Rattle.flame_spec.specs.FirstFaults.{FailsFirst}
+use Rattle.flame_spec.specs.Lists.{first}
+
+first_stays : (xs ys : List CheckFault) (fault : CheckFault) → first xs ≡ Some fault → first (xs ++ ys) ≡ Some fault
+first_stays [] ys fault h = absurd (cc)
+first_stays (x ∷ xs) ys fault h = h
+
+-- the first of a list is the first of it with more behind it
+pub first_more : (xs ys : List CheckFault) (fail : Fail CheckFault) → FailsFirst xs fail → FailsFirst (xs ++ ys) fail
+first_more xs ys (Fault fault) h = first_stays xs ys fault h
+first_more xs ys NoMemory h = tt
+
+-- the first behind a list without faults is the first of both
+pub first_behind :
+    (xs ys : List CheckFault) (fail : Fail CheckFault)
+    → xs ≡ []
+    → FailsFirst ys fail
+    → FailsFirst (xs ++ ys) fail
+first_behind xs ys fail none h = subst (λ l. FailsFirst (l ++ ys) fail) (sym none) h
+
+-- the same of a list that is these two laid end to end
+pub first_more_as :
+    (all xs ys : List CheckFault) (fail : Fail CheckFault)
+    → all ≡ xs ++ ys
+    → FailsFirst xs fail
+    → FailsFirst all fail
+first_more_as all xs ys fail is h = subst (λ l. FailsFirst l fail) (sym is) (first_more xs ys fail h)
+
+pub first_behind_as :
+    (all xs ys : List CheckFault) (fail : Fail CheckFault)
+    → all ≡ xs ++ ys
+    → xs ≡ []
+    → FailsFirst ys fail
+    → FailsFirst all fail
+first_behind_as all xs ys fail is none h = subst (λ l. FailsFirst l fail) (sym is) (first_behind xs ys fail none h)

@@ -1,0 +1,6 @@
+pub mod Writing
+pub mod Blocks
+pub mod Forms
+pub mod RowSizes
+pub mod Sized
+pub mod SizedBlocks

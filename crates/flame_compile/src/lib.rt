@@ -1,0 +1,15 @@
+//! The code of bodies.
+#![tactic(auto)]
+
+mod block_size;
+mod emitter;
+mod expression;
+pub mod laws;
+mod places;
+mod size;
+mod statement;
+mod stored;
+#[cfg(test)]
+mod tests;
+
+pub use emitter::emit;
