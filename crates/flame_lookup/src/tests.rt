@@ -1,4 +1,4 @@
-//! Each call once, over one of each kind of word; cases are data of the crates that check.
+//! Most calls once, over one of each kind of word.
 
 use crate::{Tables, Words};
 use flame_rows::{NoMemory, Seq, Text};
