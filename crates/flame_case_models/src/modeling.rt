@@ -163,7 +163,7 @@ fn print_units(out: &mut String, units: &[TimeUnit]) -> Result<(), AllocError> {
     Ok(())
 }
 
-pub fn print_model(out: &mut String, model: &Model) -> Result<(), AllocError> {
+pub(crate) fn print_model(out: &mut String, model: &Model) -> Result<(), AllocError> {
     print_names(out, "constant", model.constants.items())?;
     print_names(out, "file", model.files.items())?;
     print_units(out, model.units.items())?;
@@ -239,7 +239,7 @@ fn print_wide(out: &mut String, wide: &Wide) -> Result<(), AllocError> {
 
 /// What was read of a model file.
 #[derive(Drop)]
-pub enum FoundWide {
+pub(crate) enum FoundWide {
     /// The model file.
     Wide(Wide),
     /// Why there is none, as it is answered.
@@ -247,7 +247,7 @@ pub enum FoundWide {
 }
 
 /// The model file of a text.
-pub fn wide_from(alloc: Global, text: &str) -> Result<FoundWide, AllocError> {
+pub(crate) fn wide_from(alloc: Global, text: &str) -> Result<FoundWide, AllocError> {
     let mut out = String::new(alloc);
     let Ok(value) = Value::from_str(alloc, text) else {
         writeln!(out, "not JSON")?;

@@ -7,6 +7,7 @@ use flame_names::names;
 use flame_rows::Fail;
 use std::alloc::{AllocError, Global};
 
+/// The answer to a case of the kind `names`: `fine`, or the fault.
 pub fn answer_names(alloc: Global, case: &Case) -> Result<String, AllocError> {
     let model = match model_in(alloc, case)? {
         Found::Told(told) => return Ok(told),

@@ -52,6 +52,7 @@ fn print_flat(alloc: Global, names: &Seq<Text>, wides: &Seq<Wide>) -> Result<Str
     Ok(out)
 }
 
+/// The answer to a case of the kind `nest`: the flat model, or the fault.
 pub fn answer_flat(alloc: Global, case: &Case) -> Result<String, AllocError> {
     let mut names = Vec::new(alloc);
     let mut wides = Vec::new(alloc);

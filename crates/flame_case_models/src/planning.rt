@@ -63,6 +63,7 @@ fn print_plan(alloc: Global, out: &mut String, model: &Model) -> Result<(), Allo
     }
 }
 
+/// The answer to a case of the kind `plan`: the edges, and the plan or the fault.
 pub fn answer_plan(alloc: Global, case: &Case) -> Result<String, AllocError> {
     match model_in(alloc, case)? {
         Found::Told(told) => Ok(told),

@@ -18,6 +18,7 @@ fn print_token(out: &mut String, token: &Token) -> Result<(), AllocError> {
     writeln!(out, " at {} line {}", token.at, token.line)
 }
 
+/// The answer to a case of the kind `lex`: a token a line, or the fault.
 pub fn answer_tokens(alloc: Global, case: &Case) -> Result<String, AllocError> {
     let mut out = String::new(alloc);
     let bytes = case.bytes("text");

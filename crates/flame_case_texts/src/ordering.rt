@@ -49,6 +49,7 @@ fn print_usage(out: &mut String, usage: &Usage) -> Result<(), AllocError> {
     writeln!(out)
 }
 
+/// The answer to a case of the kind `words`: the order, or the fault of usage.
 pub fn answer_order(alloc: Global, case: &Case) -> Result<String, AllocError> {
     let words = case.lines(alloc, "words")?;
     let mut out = String::new(alloc);

@@ -194,6 +194,7 @@ fn print_all(
     )
 }
 
+/// The answer to a case of the kind `choice`: what each agent chooses, and the pools that come of it.
 pub fn answer_choices(
     rt: &(impl Threads + Sync),
     alloc: Global,

@@ -156,6 +156,7 @@ fn print_all(
     Ok(())
 }
 
+/// The answer to a case of the kind `condition`: what each condition, filter and key gives.
 pub fn answer_conditions(alloc: Global, case: &Case) -> Result<String, AllocError> {
     let model = match model_in(alloc, case)? {
         Found::Told(told) => return Ok(told),

@@ -106,6 +106,7 @@ fn board_in(alloc: Global, text: &str) -> Result<Frozen, AllocError> {
     }
 }
 
+/// The answer to a case of the kind `view`: the rows of each input's view.
 pub fn answer_views(alloc: Global, case: &Case) -> Result<String, AllocError> {
     let model = match model_in(alloc, case)? {
         Found::Told(told) => return Ok(told),
