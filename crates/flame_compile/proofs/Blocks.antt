@@ -1,6 +1,6 @@
 -- The statements that jump, by what was written of them one by one.
 use Rattle.std.proofs.Common.{◌≡◌, ℕ, ◌+◌, List, [], length, refl, ap, ◌∙◌}
-use Rattle.flame_check.specs.declared.slots.SlotStmt.{SlotStmt}
+use Rattle.flame_body.specs.declared.slots.SlotStmt.{SlotStmt}
 use Rattle.flame_code.specs.declared.instrs.Instr.{Instr}
 use Rattle.flame_code.specs.declared.instrs.Instr.TheVariants.{Jump, JumpZero, JumpNotZero, Pay, Enter, Next, Leave}
 use Rattle.flame_compile.specs.Pieces.{Piece, one, written, Block, going}

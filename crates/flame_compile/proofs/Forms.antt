@@ -2,18 +2,18 @@
 use Rattle.std.proofs.Common.{◌≡◌, ℕ, ◌+◌, List, map, rules}
 use Rattle.std.specs.Prelude.{ℤ, [], length, Some}
 use Rattle.flame_spec.specs.declared.trees.Sign.{Sign}
-use Rattle.flame_check.specs.declared.slots.Cells.{Cells}
-use Rattle.flame_check.specs.declared.slots.Slot.{Slot}
-use Rattle.flame_check.specs.declared.slots.SlotDeed.{SlotDeed}
-use Rattle.flame_check.specs.declared.slots.Span.{Span}
-use Rattle.flame_check.specs.declared.slots.SlotExpr.{SlotExpr, Number, Name, Field, Get, At, FieldAt, Unary, Chain, All, Any, the_lemmas}
-use Rattle.flame_check.specs.declared.slots.SlotLink.{SlotLink}
-use Rattle.flame_check.specs.declared.slots.SlotSubscript.{SlotSubscript}
-use Rattle.flame_check.specs.declared.slots.SlotItem.{SlotItem}
-use Rattle.flame_check.specs.declared.slots.SlotAssign.{SlotAssign}
-use Rattle.flame_check.specs.declared.slots.SlotStmt.{SlotStmt, Empty, Declare, Assign, Call, Block, If, While, For, Do, Loop, Return, Break, Continue, the_lemmas as stmt_lemmas}
-use Rattle.flame_check.specs.declared.slots.SlotArm.{SlotArm}
-use Rattle.flame_check.specs.declared.slots.SlotHead.{SlotHead}
+use Rattle.flame_body.specs.declared.slots.Cells.{Cells}
+use Rattle.flame_body.specs.declared.slots.Slot.{Slot}
+use Rattle.flame_body.specs.declared.slots.SlotDeed.{SlotDeed}
+use Rattle.flame_body.specs.declared.slots.Span.{Span}
+use Rattle.flame_body.specs.declared.slots.SlotExpr.{SlotExpr, Number, Name, Field, Get, At, FieldAt, Unary, Chain, All, Any, the_lemmas}
+use Rattle.flame_body.specs.declared.slots.SlotLink.{SlotLink}
+use Rattle.flame_body.specs.declared.slots.SlotSubscript.{SlotSubscript}
+use Rattle.flame_body.specs.declared.slots.SlotItem.{SlotItem}
+use Rattle.flame_body.specs.declared.slots.SlotAssign.{SlotAssign}
+use Rattle.flame_body.specs.declared.slots.SlotStmt.{SlotStmt, Empty, Declare, Assign, Call, Block, If, While, For, Do, Loop, Return, Break, Continue, the_lemmas as stmt_lemmas}
+use Rattle.flame_body.specs.declared.slots.SlotArm.{SlotArm}
+use Rattle.flame_body.specs.declared.slots.SlotHead.{SlotHead}
 use Rattle.flame_code.specs.declared.instrs.Instr.TheVariants as instr
 use Rattle.flame_compile.specs.Pieces.{Piece, row, one, both, in_order, placed, plain}
 use Rattle.flame_compile.specs.Emit.{signs_code, column_of, columns, load, tested_size, all_code, any_code, expression, link, arguments, item, assignment, deed}

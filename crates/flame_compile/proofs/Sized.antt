@@ -1,11 +1,11 @@
 -- Every piece is as long as its size says, wherever it begins.
 use Rattle.std.proofs.Common.{◌≡◌, ℕ, ◌+◌, List, [], ◌∷◌, length, map, refl, sym, subst, length-append, arith, Some}
 use Rattle.std.specs.Prelude.{pos}
-use Rattle.flame_check.specs.declared.slots.SlotExpr.{SlotExpr, Number, Name, Field, Get, At, FieldAt, Unary, Chain, All, Any, roll-SlotExpr, ind-SlotExpr, map-SlotExpr}
-use Rattle.flame_check.specs.declared.slots.SlotExpr.TheVariants.{rolls-Number, rolls-Name, rolls-Field, rolls-Get, rolls-At, rolls-FieldAt, rolls-Unary, rolls-Chain, rolls-All, rolls-Any}
-use Rattle.flame_check.specs.declared.slots.SlotExpr.TheOpen.{SlotExpr-F}
-use Rattle.flame_check.specs.declared.slots.SlotLink.{SlotLink}
-use Rattle.flame_check.specs.declared.slots.SlotSubscript.{SlotSubscript}
+use Rattle.flame_body.specs.declared.slots.SlotExpr.{SlotExpr, Number, Name, Field, Get, At, FieldAt, Unary, Chain, All, Any, roll-SlotExpr, ind-SlotExpr, map-SlotExpr}
+use Rattle.flame_body.specs.declared.slots.SlotExpr.TheVariants.{rolls-Number, rolls-Name, rolls-Field, rolls-Get, rolls-At, rolls-FieldAt, rolls-Unary, rolls-Chain, rolls-All, rolls-Any}
+use Rattle.flame_body.specs.declared.slots.SlotExpr.TheOpen.{SlotExpr-F}
+use Rattle.flame_body.specs.declared.slots.SlotLink.{SlotLink}
+use Rattle.flame_body.specs.declared.slots.SlotSubscript.{SlotSubscript}
 use Rattle.flame_code.specs.declared.instrs.Instr.{Instr}
 use Rattle.flame_code.specs.declared.instrs.Instr.TheVariants.{Push, Jump, JumpZero, JumpNotZero}
 use Rattle.flame_code.specs.declared.instrs.Instr.TheVariants as instr

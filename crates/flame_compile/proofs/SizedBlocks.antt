@@ -2,21 +2,21 @@
 use Rattle.std.proofs.Common.{◌≡◌, ℕ, ◌+◌, List, [], ◌∷◌, length, map, refl, sym, subst, length-append, arith, Option, Some, None}
 use Rattle.std.specs.Prelude.{pos}
 use Rattle.flame_ops.specs.declared.integers.Op.{Op}
-use Rattle.flame_check.specs.declared.slots.SlotArm.{SlotArm}
-use Rattle.flame_check.specs.declared.slots.SlotAssign.{SlotAssign}
-use Rattle.flame_check.specs.declared.slots.SlotDeed.{SlotDeed}
-use Rattle.flame_check.specs.declared.slots.SlotDeed.TheVariants.{Sets, Sends, Bears, Calls}
-use Rattle.flame_check.specs.declared.slots.SlotExpr.{SlotExpr}
-use Rattle.flame_check.specs.declared.slots.SlotHead.{SlotHead}
-use Rattle.flame_check.specs.declared.slots.SlotItem.{SlotItem}
-use Rattle.flame_check.specs.declared.slots.SlotTarget.{SlotTarget}
-use Rattle.flame_check.specs.declared.slots.SlotTarget.TheVariants as set
-use Rattle.flame_check.specs.declared.slots.SlotValue.{SlotValue}
-use Rattle.flame_check.specs.declared.slots.SlotValue.TheVariants as stored
-use Rattle.flame_check.specs.declared.slots.SlotStmt.{SlotStmt, Empty, Declare, Assign, If, While, For, Do, Loop, Break, Continue, roll-SlotStmt, ind-SlotStmt, map-SlotStmt}
-use Rattle.flame_check.specs.declared.slots.SlotStmt as stmt
-use Rattle.flame_check.specs.declared.slots.SlotStmt.TheVariants.{rolls-Empty, rolls-Declare, rolls-Assign, rolls-Call, rolls-Block, rolls-If, rolls-While, rolls-For, rolls-Do, rolls-Loop, rolls-Return, rolls-Break, rolls-Continue}
-use Rattle.flame_check.specs.declared.slots.SlotStmt.TheOpen.{SlotStmt-F}
+use Rattle.flame_body.specs.declared.slots.SlotArm.{SlotArm}
+use Rattle.flame_body.specs.declared.slots.SlotAssign.{SlotAssign}
+use Rattle.flame_body.specs.declared.slots.SlotDeed.{SlotDeed}
+use Rattle.flame_body.specs.declared.slots.SlotDeed.TheVariants.{Sets, Sends, Bears, Calls}
+use Rattle.flame_body.specs.declared.slots.SlotExpr.{SlotExpr}
+use Rattle.flame_body.specs.declared.slots.SlotHead.{SlotHead}
+use Rattle.flame_body.specs.declared.slots.SlotItem.{SlotItem}
+use Rattle.flame_body.specs.declared.slots.SlotTarget.{SlotTarget}
+use Rattle.flame_body.specs.declared.slots.SlotTarget.TheVariants as set
+use Rattle.flame_body.specs.declared.slots.SlotValue.{SlotValue}
+use Rattle.flame_body.specs.declared.slots.SlotValue.TheVariants as stored
+use Rattle.flame_body.specs.declared.slots.SlotStmt.{SlotStmt, Empty, Declare, Assign, If, While, For, Do, Loop, Break, Continue, roll-SlotStmt, ind-SlotStmt, map-SlotStmt}
+use Rattle.flame_body.specs.declared.slots.SlotStmt as stmt
+use Rattle.flame_body.specs.declared.slots.SlotStmt.TheVariants.{rolls-Empty, rolls-Declare, rolls-Assign, rolls-Call, rolls-Block, rolls-If, rolls-While, rolls-For, rolls-Do, rolls-Loop, rolls-Return, rolls-Break, rolls-Continue}
+use Rattle.flame_body.specs.declared.slots.SlotStmt.TheOpen.{SlotStmt-F}
 use Rattle.flame_code.specs.declared.instrs.Instr.{Instr}
 use Rattle.flame_code.specs.declared.instrs.Instr.TheVariants.{Push, SetLoc, Call, Jump, JumpZero, JumpNotZero, Pay, Enter, Next, Leave, Return}
 use Rattle.flame_compile.specs.Pieces.{Piece, row, one, both, in_order, Block, going, plain}

@@ -7,24 +7,24 @@ use Rattle.flame_spec.specs.declared.trees.Sign.{Sign}
 use Rattle.flame_spec.specs.declared.trees.SignKind.{SignKind}
 use Rattle.flame_spec.specs.declared.trees.SignKind.TheVariants.{Minus, Plus, Bang}
 use Rattle.flame_spec.specs.Columns.{width_by}
-use Rattle.flame_check.specs.declared.slots.Slot.{Slot}
-use Rattle.flame_check.specs.declared.slots.Slot.TheVariants.{Local, Memory, Constant, Iteration}
-use Rattle.flame_check.specs.declared.slots.SlotDeed.{SlotDeed}
-use Rattle.flame_check.specs.declared.slots.SlotDeed.TheVariants.{Sets, Sends, Bears, Calls}
-use Rattle.flame_check.specs.declared.slots.Span.{Span}
-use Rattle.flame_check.specs.declared.slots.SlotExpr.{SlotExpr, fold-SlotExpr}
-use Rattle.flame_check.specs.declared.slots.SlotExpr.TheOpen.{SlotExpr-F, SlotLink-F, SlotSubscript-F}
-use Rattle.flame_check.specs.declared.slots.SlotLink.{SlotLink}
-use Rattle.flame_check.specs.declared.slots.SlotValue.{SlotValue}
-use Rattle.flame_check.specs.declared.slots.SlotValue.TheVariants as stored
-use Rattle.flame_check.specs.declared.slots.SlotItem.{SlotItem}
-use Rattle.flame_check.specs.declared.slots.SlotTarget.{SlotTarget}
-use Rattle.flame_check.specs.declared.slots.SlotTarget.TheVariants as set
-use Rattle.flame_check.specs.declared.slots.SlotAssign.{SlotAssign}
-use Rattle.flame_check.specs.declared.slots.SlotStmt.{SlotStmt, fold-SlotStmt}
-use Rattle.flame_check.specs.declared.slots.SlotStmt.TheOpen.{SlotStmt-F, SlotArm-F, SlotHead-F}
-use Rattle.flame_check.specs.declared.slots.SlotArm.{SlotArm}
-use Rattle.flame_check.specs.declared.slots.SlotHead.{SlotHead}
+use Rattle.flame_body.specs.declared.slots.Slot.{Slot}
+use Rattle.flame_body.specs.declared.slots.Slot.TheVariants.{Local, Memory, Constant, Iteration}
+use Rattle.flame_body.specs.declared.slots.SlotDeed.{SlotDeed}
+use Rattle.flame_body.specs.declared.slots.SlotDeed.TheVariants.{Sets, Sends, Bears, Calls}
+use Rattle.flame_body.specs.declared.slots.Span.{Span}
+use Rattle.flame_body.specs.declared.slots.SlotExpr.{SlotExpr, fold-SlotExpr}
+use Rattle.flame_body.specs.declared.slots.SlotExpr.TheOpen.{SlotExpr-F, SlotLink-F, SlotSubscript-F}
+use Rattle.flame_body.specs.declared.slots.SlotLink.{SlotLink}
+use Rattle.flame_body.specs.declared.slots.SlotValue.{SlotValue}
+use Rattle.flame_body.specs.declared.slots.SlotValue.TheVariants as stored
+use Rattle.flame_body.specs.declared.slots.SlotItem.{SlotItem}
+use Rattle.flame_body.specs.declared.slots.SlotTarget.{SlotTarget}
+use Rattle.flame_body.specs.declared.slots.SlotTarget.TheVariants as set
+use Rattle.flame_body.specs.declared.slots.SlotAssign.{SlotAssign}
+use Rattle.flame_body.specs.declared.slots.SlotStmt.{SlotStmt, fold-SlotStmt}
+use Rattle.flame_body.specs.declared.slots.SlotStmt.TheOpen.{SlotStmt-F, SlotArm-F, SlotHead-F}
+use Rattle.flame_body.specs.declared.slots.SlotArm.{SlotArm}
+use Rattle.flame_body.specs.declared.slots.SlotHead.{SlotHead}
 use Rattle.flame_code.specs.declared.instrs.Instr.{Instr}
 use Rattle.flame_code.specs.declared.instrs.Instr.TheVariants.{Push, Dup, Drop, Loc, SetLoc, Mem, SetMem, MemAt, SetMemAt}
 use Rattle.flame_code.specs.declared.instrs.Instr.TheVariants.{Const, Iter, Field, FieldAt, Neg, Not, Add, Sub, Mul, Div, Rem}

@@ -1,7 +1,7 @@
 -- That pieces are as long as their sizes say: so the sums of sizes are the places where the parts of a form stand.
 use Rattle.std.specs.Prelude.{◌≡◌, ℕ, List, length}
-use Rattle.flame_check.specs.declared.slots.SlotExpr.{SlotExpr}
-use Rattle.flame_check.specs.declared.slots.SlotStmt.{SlotStmt}
+use Rattle.flame_body.specs.declared.slots.SlotExpr.{SlotExpr}
+use Rattle.flame_body.specs.declared.slots.SlotStmt.{SlotStmt}
 use Rattle.flame_compile.specs.Pieces.{Piece, Block}
 use Rattle.flame_compile.specs.Emit.{expression, statements}
 

@@ -6,7 +6,7 @@ ghost use Rattle.flame_compile.specs.Emit.{arm_size as arm_sized, arms_size as a
 use crate::places::{sum, sum3};
 use crate::size::{arguments_size, expression_size};
 use crate::stored::{assignment_size, deed_size, items_size};
-use flame_check::{SlotArm, SlotAssign, SlotExpr, SlotStmt};
+use flame_body::{SlotArm, SlotAssign, SlotExpr, SlotStmt};
 use flame_rows::NoMemory;
 
 /// The instructions of a test of a `for`.

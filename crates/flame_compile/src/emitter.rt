@@ -6,7 +6,7 @@ ghost use Rattle.flame_compile.specs.Emit.{emitted};
 use crate::block_size::block_size;
 use crate::places::{here, put};
 use crate::statement::write_block;
-use flame_check::Body;
+use flame_body::Body;
 use flame_code::Instr;
 use flame_rows::{NoMemory, Seq};
 use std::alloc::Global;

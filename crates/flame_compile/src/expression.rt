@@ -1,13 +1,13 @@
 //! The code of expressions.
 
 ghost use Rattle.std.specs.Prelude.{◌≡◌, map, IfOk};
-ghost use Rattle.flame_check.specs.declared.slots.SlotExpr.{All as all_of, Any as any_of};
+ghost use Rattle.flame_body.specs.declared.slots.SlotExpr.{All as all_of, Any as any_of};
 ghost use Rattle.flame_compile.specs.Pieces.{row, in_order, written};
 ghost use Rattle.flame_compile.specs.Emit.{operator as operating, sign_code, signs_code, column_of, each_column, columns, load, tested, expression, link, arguments};
 
 use crate::places::{here, put, sum};
 use crate::size::{tested_size, width};
-use flame_check::{Slot, SlotExpr, SlotLink, Span};
+use flame_body::{Slot, SlotExpr, SlotLink, Span};
 use flame_code::Instr;
 use flame_ops::Op;
 use flame_rows::NoMemory;

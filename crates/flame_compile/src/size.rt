@@ -6,7 +6,7 @@ ghost use Rattle.flame_compile.specs.Pieces.{in_order};
 ghost use Rattle.flame_compile.specs.Emit.{signs_code, load as loading, tested_size as testing_size, expression, link, arguments};
 
 use crate::places::sum;
-use flame_check::{Slot, SlotExpr, SlotLink, Span};
+use flame_body::{Slot, SlotExpr, SlotLink, Span};
 use flame_rows::NoMemory;
 use flame_spec::{Sign, SignKind};
 

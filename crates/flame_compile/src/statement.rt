@@ -10,7 +10,7 @@ use crate::expression::{write_arguments, write_expression};
 use crate::places::{here, put, sum, sum3};
 use crate::size::expression_size;
 use crate::stored::{count, write_assignment, write_deed, write_items};
-use flame_check::{SlotArm, SlotAssign, SlotDeed, SlotExpr, SlotStmt};
+use flame_body::{SlotArm, SlotAssign, SlotDeed, SlotExpr, SlotStmt};
 use flame_code::Instr;
 use flame_rows::NoMemory;
 

@@ -8,7 +8,7 @@ ghost use Rattle.flame_compile.specs.Emit.{value as valued, initial as begun, it
 use crate::expression::{operator, write_arguments, write_expression};
 use crate::places::{put, sum, sum3};
 use crate::size::{arguments_size, expression_size};
-use flame_check::{Cells, SlotAssign, SlotDeed, SlotExpr, SlotItem, SlotTarget, SlotValue};
+use flame_body::{Cells, SlotAssign, SlotDeed, SlotExpr, SlotItem, SlotTarget, SlotValue};
 use flame_code::Instr;
 use flame_ops::Op;
 use flame_rows::NoMemory;

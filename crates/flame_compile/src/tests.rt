@@ -1,7 +1,7 @@
 //! A loop worked by hand.
 
 use crate::statement::write_block;
-use flame_check::{SlotExpr, SlotLink, SlotStmt};
+use flame_body::{SlotExpr, SlotLink, SlotStmt};
 use flame_code::Instr;
 use flame_ops::Op;
 use flame_rows::{Part, Seq};

@@ -1,7 +1,7 @@
 use Rattle.std.proofs.Common.{◌+◌, ◌∙◌, ap, sym, refl, arith, drop, map, List}
 use Rattle.std.specs.Prelude.{pos}
-use Rattle.flame_check.specs.declared.slots.SlotExpr.{SlotExpr}
-use Rattle.flame_check.specs.declared.slots.SlotLink.{SlotLink}
+use Rattle.flame_body.specs.declared.slots.SlotExpr.{SlotExpr}
+use Rattle.flame_body.specs.declared.slots.SlotLink.{SlotLink}
 use Rattle.flame_code.specs.declared.instrs.Instr.TheVariants.{JumpZero, JumpNotZero, MemAt, FieldAt}
 use Rattle.flame_compile.specs.Pieces.{Piece, row, one, both, in_order, written}
 use Rattle.flame_compile.specs.Emit.{signs_code, tested, expression, link}

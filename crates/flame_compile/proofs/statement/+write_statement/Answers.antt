@@ -1,6 +1,6 @@
 use Rattle.std.proofs.Common.{◌≡◌, ◌+◌, ◌∙◌, ap, sym, refl, arith, drop, map, List}
-use Rattle.flame_check.specs.declared.slots.SlotArm.{SlotArm}
-use Rattle.flame_check.specs.declared.slots.SlotStmt.{SlotStmt}
+use Rattle.flame_body.specs.declared.slots.SlotArm.{SlotArm}
+use Rattle.flame_body.specs.declared.slots.SlotStmt.{SlotStmt}
 use Rattle.flame_compile.specs.Pieces.{Piece, going, written}
 use Rattle.flame_compile.specs.Emit.{expression, arm, head, arm_piece, arms_code, if_block, while_block, for_block, do_block, statement, statements}
 use Rattle.flame_compile.proofs.Blocks.{arm_written, if_written, while_written, for_written, do_written, loop_written}

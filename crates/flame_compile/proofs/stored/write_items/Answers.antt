@@ -1,5 +1,5 @@
 use Rattle.std.proofs.Common.{◌+◌, ◌∙◌, ap, sym, refl, arith, drop, map, List}
-use Rattle.flame_check.specs.declared.slots.SlotItem.{SlotItem}
+use Rattle.flame_body.specs.declared.slots.SlotItem.{SlotItem}
 use Rattle.flame_code.specs.declared.instrs.Instr.TheVariants.{SetLoc}
 use Rattle.flame_compile.specs.Pieces.{Piece, one, in_order, written}
 use Rattle.flame_compile.specs.Emit.{initial, item}

@@ -1,0 +1,33 @@
+-- What holds of numbered trees: an expression without check faults fits.
+use Rattle.std.specs.Prelude.{◌≡◌, ℕ, List, [], true, None, Some, is_some}
+use Rattle.flame_spec.specs.declared.models.Input.{Input}
+use Rattle.flame_spec.specs.declared.models.MessageType.{MessageType}
+use Rattle.flame_spec.specs.ExpressionFaults.{expression_faults}
+use Rattle.flame_spec.specs.Scopes.{Context, Sight, given_at, is_local, is_open_over}
+use Rattle.flame_spec.specs.Trees.{Expression}
+use Rattle.flame_lookup.specs.Sources.{input_in}
+use Rattle.flame_body.specs.FunctionBodies.{widths_in}
+use Rattle.flame_body.specs.NumberedTrees.{numbered}
+use Rattle.flame_body.specs.BodyFits.{Around, is_inside, fits}
+
+-- what a place has round it is that of what it sees: the widths are those of its function; no local has a name that the
+-- model gives a meaning to; and each open loop over a message is over an input, and inside it [own]
+pub record Suits (context : Context) (sight : Sight) (around : Around) : Type 0 where
+  pub widths : around.widths ≡ widths_in context.model context.runs
+  pub fresh : (word : List ℕ) → is_local sight word ≡ true → given_at context word ≡ None
+  pub inputs : (message : MessageType) → is_open_over sight message ≡ true
+      → is_some (input_in context.runs message) ≡ true
+  pub inside : (message : MessageType) (n : ℕ) (input : Input) → is_open_over sight message ≡ true
+      → input_in context.runs message ≡ Some (n, input) → is_inside n around ≡ true
+
+-- the same place; its file is for check faults alone [own]
+abbrev pub unfiled : Context → Context
+unfiled context = record context { file = 0 }
+
+-- an expression without check faults fits, with numbers in place of names [own]
+abbrev pub ExpressionsFit : Type 0
+ExpressionsFit =
+    (context : Context) (sight : Sight) (around : Around) (e : Expression)
+    → Suits context sight around
+    → expression_faults context sight e ≡ []
+    → fits around (numbered (unfiled context) sight e) ≡ true
