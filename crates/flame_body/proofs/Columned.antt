@@ -1,5 +1,6 @@
 -- Variables stand within rows, and what is numbered stands at its number.
-use Rattle.std.proofs.Common.{◌≡◌, ℕ, suc, ◌+◌, ◌≤◌, List, [], ◌∷◌, ◌++◌, map, Some, Bool, true, false, cond, refl, sym, ap, ◌∙◌, arith}
+use Rattle.std.proofs.Common.{◌≡◌, ℕ, suc, ◌+◌, ◌≤◌, List, [], ◌∷◌, ◌++◌, map, Some, Bool, true, false, cond, refl, sym}
+use Rattle.std.proofs.Common.{ap, ◌∙◌, arith}
 use Rattle.std.specs.Prelude.{slice_get, slice_index_or, option_map, not}
 use Rattle.std.specs.Str.{bytes_eq}
 use Rattle.std.proofs.lemmas.Option.{slice_get-map, get_or_from_slice_get}
@@ -31,6 +32,10 @@ not-found false context kind line word h = refl
 pub holds-then : (b : Bool) → not b ≡ false → b ≡ true
 holds-then true h = refl
 holds-then false h = absurd (cc)
+
+-- what is false proves all
+pub never : {X : Type 0} → false ≡ true → X
+never h = absurd (cc)
 
 -- ---- what is found
 
@@ -125,16 +130,19 @@ variables-of behind word i (y ∷ ys) n m h =
         → bytes_eq m.name y.name ≡ e
         → (Rest → variables_in ys m.name ≡ m.variables)
         → (Rest → bytes_eq (m.name ++ behind) word ≡ true)
-        → cond b (Some (i, y)) (numbered_from (λ message. bytes_eq (message.name ++ behind) word) (i + 1) ys) ≡ Some (n, m)
+        → cond b (Some (i, y)) (numbered_from (λ message. bytes_eq (message.name ++ behind) word) (i + 1) ys)
+        ≡ Some (n, m)
         → cond e y.variables (variables_in ys m.name) ≡ m.variables
     by_test true written true equal more passes g =
         let same : y ≡ m = same-found (i, y) (n, m) g in ap (λ message. message.variables) same
     by_test true written false other more passes g =
         let same : y ≡ m = same-found (i, y) (n, m) g in
-        let equal : bytes_eq m.name y.name ≡ true = (bytes_eq-Decides m.name y.name).1 (ap (λ message. message.name) (sym same)) in
+        let equal : bytes_eq m.name y.name ≡ true =
+        (bytes_eq-Decides m.name y.name).1 (ap (λ message. message.name) (sym same)) in
         absurd (cc)
     by_test false written true equal more passes g =
         let same : m.name ≡ y.name = (bytes_eq-Decides m.name y.name).0 equal in
-        let found : bytes_eq (y.name ++ behind) word ≡ true = ap (λ name. bytes_eq (name ++ behind) word) (sym same) ∙ passes g in
+        let found : bytes_eq (y.name ++ behind) word ≡ true =
+        ap (λ name. bytes_eq (name ++ behind) word) (sym same) ∙ passes g in
         absurd (cc)
     by_test false written false other more passes g = more g

@@ -7,16 +7,20 @@ use Rattle.flame_body.specs.declared.slots.Cells.{Cells}
 use Rattle.flame_body.specs.declared.slots.Slot.{Slot}
 use Rattle.flame_body.specs.declared.slots.SlotDeed.{SlotDeed}
 use Rattle.flame_body.specs.declared.slots.Span.{Span}
-use Rattle.flame_body.specs.declared.slots.SlotExpr.{SlotExpr, Number, Name, Field, Get, At, FieldAt, Unary, Chain, All, Any, the_lemmas}
+use Rattle.flame_body.specs.declared.slots.SlotExpr.{SlotExpr, Number, Name, Field, Get, At, FieldAt, Unary, Chain, All}
+use Rattle.flame_body.specs.declared.slots.SlotExpr.{Any, the_lemmas}
 use Rattle.flame_body.specs.declared.slots.SlotLink.{SlotLink}
 use Rattle.flame_body.specs.declared.slots.SlotSubscript.{SlotSubscript}
 use Rattle.flame_body.specs.declared.slots.SlotItem.{SlotItem}
 use Rattle.flame_body.specs.declared.slots.SlotAssign.{SlotAssign}
-use Rattle.flame_body.specs.declared.slots.SlotStmt.{SlotStmt, Empty, Declare, Assign, Call, Block, If, While, For, Do, Loop, Return, Break, Continue, the_lemmas as stmt_lemmas}
+use Rattle.flame_body.specs.declared.slots.SlotStmt.{SlotStmt, Empty, Declare, Assign, Call, Block, If, While, For, Do}
+use Rattle.flame_body.specs.declared.slots.SlotStmt.{Loop, Return, Break, Continue, the_lemmas as stmt_lemmas}
 use Rattle.flame_body.specs.declared.slots.SlotArm.{SlotArm}
 use Rattle.flame_body.specs.declared.slots.SlotHead.{SlotHead}
-use Rattle.flame_body.specs.BodyFits.{Around, fit, fits, fit_of_value, fit_of_bare, fit_of_slot, are_within, are_field_cells, is_field, one_value}
-use Rattle.flame_body.specs.BodyFits.{values_fit, optional_fits, initial_fits, assignment_fits, step_fits, deed_fits, all_fit, statement_fits}
+use Rattle.flame_body.specs.BodyFits.{Around, fit, fits, fit_of_value, fit_of_bare, fit_of_slot, are_within}
+use Rattle.flame_body.specs.BodyFits.{are_field_cells, is_field, one_value}
+use Rattle.flame_body.specs.BodyFits.{values_fit, optional_fits, initial_fits, assignment_fits, step_fits, deed_fits}
+use Rattle.flame_body.specs.BodyFits.{all_fit, statement_fits}
 use Rattle.flame_body.specs.BodyFits.{in_plain_loop, in_input_loop, is_inside}
 
 pub fit-Number : (around : Around) (n : ℤ) → fit around (Number n) ≡ one_value
@@ -30,7 +34,9 @@ pub fit-Field :
     → fit around (Field input span) ≡ fit_of_bare (is_field around input span) span.length
 fit-Field around input span = search (rules, the_lemmas)
 
-pub fit-Get : (around : Around) (column : ℕ) → fit around (Get column) ≡ fit_of_value (nat_lt column around.widths.memory)
+pub fit-Get :
+    (around : Around) (column : ℕ)
+    → fit around (Get column) ≡ fit_of_value (nat_lt column around.widths.memory)
 fit-Get around column = search (rules, the_lemmas)
 
 pub fit-At :
@@ -43,18 +49,25 @@ pub fit-FieldAt :
     → fit around (FieldAt input cells s) ≡ fit_of_value (are_field_cells around input cells && fits around s.index)
 fit-FieldAt around input cells s = search (rules, the_lemmas)
 
-pub fit-Unary : (around : Around) (signs : List Sign) (e : SlotExpr) → fit around (Unary signs e) ≡ fit_of_value (fits around e)
+pub fit-Unary :
+    (around : Around) (signs : List Sign) (e : SlotExpr)
+    → fit around (Unary signs e) ≡ fit_of_value (fits around e)
 fit-Unary around signs e = search (rules, the_lemmas)
 
 pub fit-Chain :
     (around : Around) (e : SlotExpr) (links : List SlotLink)
-    → fit around (Chain e links) ≡ fit_of_value (fits around e && list_all (λ link. link) (map (λ link. fits around link.right) links))
+    → fit around (Chain e links)
+    ≡ fit_of_value (fits around e && list_all (λ link. link) (map (λ link. fits around link.right) links))
 fit-Chain around e links = search (rules, the_lemmas)
 
-pub fit-All : (around : Around) (parts : List SlotExpr) → fit around (All parts) ≡ fit_of_value (values_fit around parts)
+pub fit-All :
+    (around : Around) (parts : List SlotExpr)
+    → fit around (All parts) ≡ fit_of_value (values_fit around parts)
 fit-All around parts = search (rules, the_lemmas)
 
-pub fit-Any : (around : Around) (parts : List SlotExpr) → fit around (Any parts) ≡ fit_of_value (values_fit around parts)
+pub fit-Any :
+    (around : Around) (parts : List SlotExpr)
+    → fit around (Any parts) ≡ fit_of_value (values_fit around parts)
 fit-Any around parts = search (rules, the_lemmas)
 
 pub fits-Empty : (around : Around) → statement_fits Empty around ≡ true

@@ -1,5 +1,6 @@
 -- An expression without faults fits, with numbers in place of names.
-use Rattle.std.proofs.Common.{◌≡◌, ℕ, ◌+◌, ◌≤◌, List, [], ◌++◌, map, Option, Some, None, true, false, refl, sym, ap, ◌∙◌, arith}
+use Rattle.std.proofs.Common.{◌≡◌, ℕ, ◌+◌, ◌≤◌, List, [], ◌++◌, map, Option, Some, None, true, false, refl, sym, ap}
+use Rattle.std.proofs.Common.{◌∙◌, arith}
 use Rattle.std.specs.Prelude.{slice_index_or, is_some, nat_lt, not, codes}
 use Rattle.std.specs.List.{list_all}
 use Rattle.std.specs.Str.{bytes_eq}
@@ -9,8 +10,10 @@ use Rattle.flame_spec.specs.declared.models.MessageType.{MessageType}
 use Rattle.flame_spec.specs.declared.models.Model.{Model}
 use Rattle.flame_spec.specs.declared.models.Variable.{Variable}
 use Rattle.flame_spec.specs.Columns.{width, width_by, width_of, is_array, variable_named}
-use Rattle.flame_spec.specs.ExpressionFaults.{gives_array, names_array, unknown_faults, indexed_faults, getter_faults, is_found_array}
-use Rattle.flame_spec.specs.ExpressionFaults.{member_faults, row_faults, row_faults_of, member_of, member_read, field_at_faults, fault_where}
+use Rattle.flame_spec.specs.ExpressionFaults.{gives_array, names_array, unknown_faults, indexed_faults, getter_faults}
+use Rattle.flame_spec.specs.ExpressionFaults.{is_found_array}
+use Rattle.flame_spec.specs.ExpressionFaults.{member_faults, row_faults, row_faults_of, member_of, member_read}
+use Rattle.flame_spec.specs.ExpressionFaults.{field_at_faults, fault_where}
 use Rattle.flame_spec.specs.ExpressionFaults.{expression_faults, parts_faults, links_faults}
 use Rattle.flame_spec.specs.Functions.{Place}
 use Rattle.flame_spec.specs.KnownNames.{variables_in}
@@ -20,14 +23,19 @@ use Rattle.flame_spec.specs.Trees.{Expression, number, name, field, get, at, fie
 use Rattle.flame_spec.specs.Trees.{Expressions, no_parts, part, Links, no_links, link}
 use Rattle.flame_lookup.specs.Sources.{input_in}
 use Rattle.flame_body.specs.declared.slots.SlotLink.{SlotLink}
-use Rattle.flame_body.specs.WordSlots.{slot_at, cells_at, cells_found, cells_given, elements_by, span_found, field_span, field_cells, got_column, input_found, input_read, number_found}
+use Rattle.flame_body.specs.WordSlots.{slot_at, cells_at, cells_found, cells_given, elements_by, span_found, field_span}
+use Rattle.flame_body.specs.WordSlots.{field_cells, got_column, input_found, input_read, number_found}
 use Rattle.flame_body.specs.NumberedTrees.{numbered, numbered_parts, numbered_links}
 use Rattle.flame_body.specs.FunctionBodies.{widths_in, input_width}
-use Rattle.flame_body.specs.BodyFits.{Around, fits, values_fit, is_value, is_inside, are_within, is_field, are_field_cells, width_of_input, fit_of_bare}
-use Rattle.flame_body.proofs.Columned.{none-left, none-right, not-found, holds-then, column-there, numbered-at, mapped-at, variables-of}
-use Rattle.flame_body.proofs.FitForms.{fit-Number, fit-Name, fit-Field, fit-Get, fit-At, fit-FieldAt, fit-Unary, fit-Chain, fit-All, fit-Any}
+use Rattle.flame_body.specs.BodyFits.{Around, fits, values_fit, is_value, is_inside, are_within, is_field}
+use Rattle.flame_body.specs.BodyFits.{are_field_cells, width_of_input, fit_of_bare}
+use Rattle.flame_body.proofs.Columned.{none-left, none-right, not-found, holds-then, column-there, numbered-at}
+use Rattle.flame_body.proofs.Columned.{mapped-at, variables-of}
+use Rattle.flame_body.proofs.FitForms.{fit-Number, fit-Name, fit-Field, fit-Get, fit-At, fit-FieldAt, fit-Unary}
+use Rattle.flame_body.proofs.FitForms.{fit-Chain, fit-All, fit-Any}
 use Rattle.flame_body.specs.FitLaws.{Suits, unfiled}
-use Rattle.flame_body.proofs.FittedWords.{memory-width, no-length, bare-value, value-value, both, le-true, lt-true, given-within, name-fits}
+use Rattle.flame_body.proofs.FittedWords.{memory-width, no-length, bare-value, value-value, both, le-true, lt-true}
+use Rattle.flame_body.proofs.FittedWords.{given-within, name-fits}
 
 -- ---- arrays and getters
 
@@ -160,9 +168,11 @@ field-fits :
     → RowFound context sight word variable
     → member_read context word variable ≡ found
     → is_found_array found ≡ false
-    → is_value (fit_of_bare (is_field around (input_read context word) (span_found found)) (span_found found).length) ≡ true
+    → is_value (fit_of_bare (is_field around (input_read context word) (span_found found)) (span_found found).length)
+    ≡ true
 field-fits context sight around line word variable None suits row is plain =
-    let member : variable_named row.message.1.variables variable ≡ None = sym (ap (λ m. member_of m variable) row.found) ∙ is in
+    let member : variable_named row.message.1.variables variable ≡ None =
+    sym (ap (λ m. member_of m variable) row.found) ∙ is in
     let there = row.member in
     absurd (cc)
 field-fits context sight around line word variable (Some (c, v)) suits row is plain =
@@ -202,22 +212,26 @@ mutual
       ap is_value (fit-Field around (input_read context word) (field_span context word variable))
       ∙ field-fits context sight around line word variable (member_read context word variable) suits
       (row-found context sight line word variable (none-left rows arrays none)) refl
-      (not-found (is_found_array (member_read context word variable)) context _ line variable (none-right rows arrays none))
+      (not-found (is_found_array (member_read context word variable)) context _ line variable
+      (none-right rows arrays none))
   expression-fits context sight around (get line word) suits none =
       let found = memory_got (memory_at context) word in
       let arrays = fault_where (is_found_array found) context _ line word in
       ap is_value (fit-Get around (got_column context word))
       ∙ value-value _ (getter-fits context around line word found suits.widths refl
       (none-left (getter_faults context found line word) arrays none)
-      (not-found (is_found_array found) context _ line word (none-right (getter_faults context found line word) arrays none)))
+      (not-found (is_found_array found) context _ line word
+      (none-right (getter_faults context found line word) arrays none)))
   expression-fits context sight around (at line word index_line index) suits none =
       let front = unknown_faults context sight line word ++ indexed_faults context line word in
       let inner = expression_faults context sight index in
-      ap is_value (fit-At around (cells_at context word) (record { line = index_line; index = numbered (unfiled context) sight index }))
+      ap is_value (fit-At around (cells_at context word)
+      (record { line = index_line; index = numbered (unfiled context) sight index }))
       ∙ value-value _ (both _ _
       (cells-fit context around word (given_at context word) suits.widths refl
       (holds-then (names_array context word) (not-found (not (names_array context word)) context _ line word
-      (none-right (unknown_faults context sight line word) (indexed_faults context line word) (none-left front inner none)))))
+      (none-right (unknown_faults context sight line word) (indexed_faults context line word)
+      (none-left front inner none)))))
       (expression-fits context sight around index suits (none-right front inner none)))
   expression-fits context sight around (field_at line word variable index_line index) suits none =
       let found = member_read context word variable in
@@ -268,7 +282,8 @@ mutual
       (context : Context) (sight : Sight) (around : Around) (links : Links)
       → Suits context sight around
       → links_faults context sight links ≡ []
-      → list_all (λ l. l) (map (λ (l : SlotLink). fits around l.right) (numbered_links (unfiled context) sight links)) ≡ true
+      → list_all (λ l. l) (map (λ (l : SlotLink). fits around l.right) (numbered_links (unfiled context) sight links))
+      ≡ true
   links-fit context sight around no_links suits none = refl
   links-fit context sight around (link op line e links) suits none =
       both _ _

@@ -1,25 +1,25 @@
 -- What words stand for fits, where they have no faults.
-use Rattle.std.proofs.Common.{◌≡◌, ℕ, ◌+◌, ◌<◌, ◌≤◌, List, [], ◌∷◌, ◌++◌, length, Option, Some, None, Bool, true, false, cond, refl, sym, ap, ◌∙◌, arith}
+use Rattle.std.proofs.Common.{◌≡◌, ℕ, ◌+◌, ◌<◌, ◌≤◌, List, [], ◌∷◌, ◌++◌, length, Option, Some, None, Bool, true, false}
+use Rattle.std.proofs.Common.{cond, refl, sym, ap, ◌∙◌, arith}
 use Rattle.std.specs.Prelude.{is_some, nat_lt, nat_le, not, ◌&&◌, ◌||◌}
 use Rattle.std.specs.Str.{bytes_eq}
 use Rattle.std.proofs.lemmas.Bool.Decides.{nat_tests}
 use Rattle.std.proofs.lemmas.Option.{slice_get_within}
 use Rattle.flame_ops.specs.Ascii.{capitals}
-use Rattle.flame_spec.specs.declared.models.Input.{Input}
-use Rattle.flame_spec.specs.declared.models.MessageType.{MessageType}
 use Rattle.flame_spec.specs.declared.models.Model.{Model}
 use Rattle.flame_spec.specs.declared.models.Variable.{Variable}
 use Rattle.flame_spec.specs.declared.outcomes.Widths.{Widths}
 use Rattle.flame_spec.specs.Columns.{width, width_by, width_of}
 use Rattle.flame_spec.specs.ExpressionFaults.{gives_array, names_array, unknown_faults, bare_faults}
 use Rattle.flame_spec.specs.Functions.{Place}
-use Rattle.flame_spec.specs.LookUps.{Given, in_memory, constant, iteration, given, given_by, given_beside, memory_named, constant_named, is_iteration}
-use Rattle.flame_spec.specs.Scopes.{Context, Sight, names_seen, memory_in, memory_at, given_at, is_local, is_visible, is_name_of, is_open_over}
-use Rattle.flame_lookup.specs.Sources.{input_in}
+use Rattle.flame_spec.specs.LookUps.{Given, in_memory, constant, iteration, given, given_by, given_beside, memory_named}
+use Rattle.flame_spec.specs.LookUps.{constant_named, is_iteration}
+use Rattle.flame_spec.specs.Scopes.{Context, Sight, names_seen, memory_in, memory_at, given_at, is_local, is_visible}
+use Rattle.flame_spec.specs.Scopes.{is_name_of}
 use Rattle.flame_body.specs.WordSlots.{local_number, slot_given, slot_or_given, slot_at}
 use Rattle.flame_body.specs.FunctionBodies.{widths_in}
 use Rattle.flame_body.specs.FitLaws.{Suits}
-use Rattle.flame_body.specs.BodyFits.{Around, is_inside, is_value, fit_of_slot, fit_of_bare, fit_of_value}
+use Rattle.flame_body.specs.BodyFits.{Around, is_value, fit_of_slot, fit_of_bare, fit_of_value}
 use Rattle.flame_body.proofs.Columned.{none-left, none-right, not-found, holds-then, column-there, numbered-at}
 use Rattle.flame_body.proofs.NamesSeen.{among-laid, among-number}
 

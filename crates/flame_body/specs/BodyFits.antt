@@ -160,8 +160,8 @@ row_fits around rows number arguments =
     nat_lt number (length rows)
     && is_length (slice_index_or rows number 0) (numbers_of (map (fit around) arguments))
 
--- what a call does fits its arguments: a store has one value, a message and a birth have as many as their rows are wide,
--- and arguments of a helper are single values [own]
+-- what a call does fits its arguments: a store has one value, a message and a birth have as many as their rows are
+-- wide, and arguments of a helper are single values [own]
 abbrev pub deed_fits : Around → SlotDeed → List SlotExpr → Bool
 deed_fits around (Sets column) arguments =
     nat_lt column around.widths.memory && (length arguments == 1) && values_fit around arguments

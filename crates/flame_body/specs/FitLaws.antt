@@ -1,14 +1,19 @@
--- What holds of numbered trees: an expression without check faults fits.
-use Rattle.std.specs.Prelude.{◌≡◌, ℕ, List, [], true, None, Some, is_some}
+-- What holds of numbered trees: without check faults an expression and the body of a C function fit, and calls have the
+-- arguments that their helpers take.
+use Rattle.std.specs.Prelude.{◌≡◌, ℕ, List, [], map, length, true, None, Some, is_some}
 use Rattle.flame_spec.specs.declared.models.Input.{Input}
 use Rattle.flame_spec.specs.declared.models.MessageType.{MessageType}
+use Rattle.flame_spec.specs.CheckFaults.{definition_faults}
+use Rattle.flame_spec.specs.Definitions.{Definition}
 use Rattle.flame_spec.specs.ExpressionFaults.{expression_faults}
-use Rattle.flame_spec.specs.Scopes.{Context, Sight, given_at, is_local, is_open_over}
+use Rattle.flame_spec.specs.Scopes.{Context, Sight, at_entry, after_parameters, given_at, is_local, is_open_over}
 use Rattle.flame_spec.specs.Trees.{Expression}
 use Rattle.flame_lookup.specs.Sources.{input_in}
+use Rattle.flame_body.specs.declared.slots.SlotStmt.{SlotStmt}
 use Rattle.flame_body.specs.FunctionBodies.{widths_in}
-use Rattle.flame_body.specs.NumberedTrees.{numbered}
-use Rattle.flame_body.specs.BodyFits.{Around, is_inside, fits}
+use Rattle.flame_body.specs.NumberedTrees.{numbered, numbered_statements}
+use Rattle.flame_body.specs.BodyCalls.{calls_fit}
+use Rattle.flame_body.specs.BodyFits.{Around, is_inside, fits, tree_fits}
 
 -- what a place has round it is that of what it sees: the widths are those of its function; no local has a name that the
 -- model gives a meaning to; and each open loop over a message is over an input, and inside it [own]
@@ -31,3 +36,24 @@ ExpressionsFit =
     → Suits context sight around
     → expression_faults context sight e ≡ []
     → fits around (numbered (unfiled context) sight e) ≡ true
+
+-- the body of a C function with numbers in place of names, which begins with its parameters as locals [C, 6.9.1]
+abbrev pub numbered_definition : Context → Definition → List SlotStmt
+numbered_definition context d =
+    numbered_statements (unfiled context) (after_parameters at_entry d.parameters) d.body
+
+-- a C function without check faults fits the widths of the function that it is checked for, with numbers in place of
+-- names [own]
+abbrev pub DefinitionsFit : Type 0
+DefinitionsFit =
+    (context : Context) (d : Definition)
+    → definition_faults context d ≡ []
+    → tree_fits (widths_in context.model context.runs) (numbered_definition context d) ≡ true
+
+-- in a C function without check faults each call of a helper has as many arguments as the helper has parameters
+-- [C, 6.5.2.2]
+abbrev pub CallsFit : Type 0
+CallsFit =
+    (context : Context) (d : Definition)
+    → definition_faults context d ≡ []
+    → calls_fit (map (λ h. length h.parameters) context.helpers) (numbered_definition context d) ≡ true

@@ -8,7 +8,8 @@ use Rattle.flame_spec.specs.StatementFaults.{opened}
 use Rattle.flame_spec.specs.Trees.{Expression, number, name, field, get, at, field_at, signed, chain, all_of, any_of}
 use Rattle.flame_spec.specs.Trees.{Expressions, no_parts, part, Links, no_links, link}
 use Rattle.flame_spec.specs.Trees.{Stored, plain, called, Indexed, Declared, Assigned}
-use Rattle.flame_spec.specs.Trees.{Statement, empty, declare, assign, call, block, branch, while, for, do_while, loop_over}
+use Rattle.flame_spec.specs.Trees.{Statement, empty, declare, assign, call, block, branch, while, for, do_while}
+use Rattle.flame_spec.specs.Trees.{loop_over}
 use Rattle.flame_spec.specs.Trees.{return, break, continue, Statements, no_more, also, Arms, no_arms, arm}
 use Rattle.flame_body.specs.declared.slots.SlotExpr.{SlotExpr, Number, Name, Field, Get, At, FieldAt, Unary, Chain, All}
 use Rattle.flame_body.specs.declared.slots.SlotExpr.{Any}
@@ -82,8 +83,8 @@ numbered_assignment context sight a = record {
   value = numbered_stored context sight a.value;
 }
 
--- a local that a declaration declares: its number is how many names are seen before it. Its value sees no more names, and
--- no fewer [C, 6.2.1; own]
+-- a local that a declaration declares: its number is how many names are seen before it. Its value sees no more names,
+-- and no fewer [C, 6.2.1; own]
 abbrev pub numbered_item : Context → Sight → Declared → SlotItem
 numbered_item context sight item = record {
   local = length (names_seen sight);

@@ -9,8 +9,8 @@ use flame_spec::Widths;
 use std::marker::Model;
 
 /// The body of a function of the model, or of a helper, with numbers in place of its names. It fits the widths of the
-/// rows that it sees: each column, constant, input, message and agent type that it names is within them; a message and a
-/// birth have as many values as their rows are wide; a store has one value; arrays without an index are arguments of
+/// rows that it sees: each column, constant, input, message and agent type that it names is within them; a message and
+/// a birth have as many values as their rows are wide; a store has one value; arrays without an index are arguments of
 /// messages and births alone; a variable of a message is read in a loop of its input; no loop stands in another of the
 /// same input; `break` and `continue` stand in a loop.
 #[derive(Debug, Drop)]

@@ -26,8 +26,8 @@ pub struct Cells {
 /// What a name stands for.
 #[derive(Clone, Copy, Debug, PartialEq, Eq)]
 pub enum Slot {
-    /// A local, by how many locals were declared before it in all scopes that are open where it is declared, hidden ones
-    /// too.
+    /// A local, by how many locals were declared before it in all scopes that are open where it is declared, hidden
+    /// ones too.
     Local(u32),
     /// A memory variable.
     Memory(Span),
