@@ -2,5 +2,8 @@
 pub mod LocalLaws
 pub mod SightLaws
 pub mod Scoping
+-- Lists in loops, and arguments.
+pub mod Rests
+pub mod ArgumentLaws
 -- First faults.
 pub mod Firsts

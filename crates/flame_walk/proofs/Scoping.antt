@@ -39,6 +39,24 @@ all-round s (also st body) =
     let one = after-round s st in
     record { outer = more.outer ∙ one.outer; own = more.own ∙ one.own; loops = more.loops ∙ one.loops }
 
+-- round what is seen at the end of a scope there is what was seen before it
+pub scope-round :
+    (s : Sight) (body : Statements) (t : Sight)
+    → t ≡ after_all (in_scope s) body
+    → t.outer ≡ s.scope ∷ s.outer
+scope-round s body t is = ap (λ x. x.outer) is ∙ (all-round (in_scope s) body).outer
+
+-- the same of the body of a loop
+pub loop-round :
+    (s : Sight) (over : Loop) (body : Statements) (t : Sight)
+    → t ≡ after_all (in_loop over s) body
+    → (t.outer ≡ s.scope ∷ s.outer) × (t.loops ≡ over ∷ s.loops)
+loop-round s over body t is =
+    let round = all-round (in_loop over s) body in (
+      ap (λ x. x.outer) is ∙ round.outer,
+      ap (λ x. x.loops) is ∙ round.loops,
+    )
+
 -- once the scope is left
 pub scope-left :
     (s : Sight) (body : Statements) (t u : Sight)

@@ -1,7 +1,7 @@
 //! Expressions.
 
-ghost use Rattle.std.specs.Prelude.{◌≡◌, [], IfErr, IfOk, OnOk};
-ghost use Rattle.flame_spec.specs.ExpressionFaults.{expression_faults, parts_faults, links_faults};
+ghost use Rattle.std.specs.Prelude.{◌≡◌, [], IfErr, IfOk, OnOk, option_map};
+ghost use Rattle.flame_spec.specs.ExpressionFaults.{expression_faults, parts_faults, links_faults, optional_faults};
 ghost use Rattle.flame_spec.specs.FirstFaults.{FailsFirst};
 ghost use Rattle.flame_spec.specs.Seen.{expression as seen, expressions, indexed, links as links_seen};
 ghost use Rattle.flame_lookup.specs.Sources.{context_at};
@@ -9,8 +9,8 @@ ghost use Rattle.flame_body.specs.NumberedTrees.{numbered, numbered_parts, numbe
 ghost use Rattle.flame_walk.specs.WordPlaces.{words_at};
 
 use crate::name::{array, field, field_array, got, input_read, single};
-use flame_body::{SlotExpr, SlotLink, SlotSubscript};
 use crate::spot::Spot;
+use flame_body::{SlotExpr, SlotLink, SlotSubscript};
 use flame_lookup::Words;
 use flame_rows::{Fail, NoMemory, Part, Seq};
 use flame_spec::{CheckFault, Expr, Link, Sign, Subscript};
@@ -153,4 +153,27 @@ fn links(
         })?;
     }
     Ok(Seq::of(slots))
+}
+
+/// An expression that may be missing.
+pub(crate) fn optional(
+    alloc: Global,
+    words: &Words<'_, '_>,
+    spot: &Spot<'_>,
+    e: &Option<Expr>,
+) -> Result<Option<SlotExpr>, Fail<CheckFault>>
+    ensures clean { OnOk result
+        (optional_faults (context_at words.now) spot.now (option_map seen e.now) ≡ []) }
+    ensures stands { IfOk result (λ slots.
+        slots ≡ option_map (numbered (words_at words.now) spot.now) (option_map seen e.now)) }
+    ensures first { IfErr result
+        (FailsFirst (optional_faults (context_at words.now) spot.now (option_map seen e.now))) }
+{
+    match e {
+        None => Ok(None),
+        Some(e) => {
+            let e = expression(alloc, words, spot, e)?;
+            Ok(Some(e))
+        }
+    }
 }

@@ -1,10 +1,17 @@
 //! The walk of a C function: its body with numbers in place of names, or its first fault.
 #![tactic(auto)]
 
+mod call;
 mod expression;
 mod fault;
+mod function;
 mod locals;
+mod loops;
 mod name;
 mod spot;
 mod statement;
 mod stored;
+#[cfg(test)]
+mod tests;
+
+pub use function::definition;

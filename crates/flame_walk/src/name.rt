@@ -1,17 +1,19 @@
 //! What names stand for.
 
 ghost use Rattle.std.specs.Prelude.{◌≡◌, ◌++◌, [], IfErr, IfOk, OnOk, option_map};
-ghost use Rattle.flame_spec.specs.ExpressionFaults.{unknown_faults, bare_faults, indexed_faults, names_array, get_faults};
+ghost use Rattle.flame_spec.specs.ExpressionFaults.{unknown_faults, bare_faults, indexed_faults, names_array, get_faults, getter_faults};
 ghost use Rattle.flame_spec.specs.ExpressionFaults.{row_faults, field_faults, field_at_faults, is_found_array};
 ghost use Rattle.flame_spec.specs.FirstFaults.{FailsFirst};
+ghost use Rattle.flame_spec.specs.LookUps.{memory_got};
+ghost use Rattle.flame_spec.specs.Scopes.{memory_at};
 ghost use Rattle.flame_lookup.specs.Sources.{context_at};
 ghost use Rattle.flame_lookup.specs.WordsFound.{item_found};
 ghost use Rattle.flame_body.specs.WordSlots.{slot_at, cells_at, span_found, cells_found, field_span, field_cells, got_column, input_read};
 ghost use Rattle.flame_walk.specs.WordPlaces.{words_at};
 
 use crate::fault::{fault, refuse};
-use flame_body::{Cells, Slot, Span};
 use crate::spot::Spot;
+use flame_body::{Cells, Slot, Span};
 use flame_lookup::{Found, Meant, Words};
 use flame_rows::Fail;
 use flame_spec::{CheckFault, CheckKind, Variable};
@@ -178,6 +180,31 @@ pub(crate) fn array(
     Ok(cells(words, word))
 }
 
+/// The form `get_x()`, where x may be an array: the column of the memory variable.
+pub(crate) fn getter(
+    alloc: Global,
+    words: &Words<'_, '_>,
+    line: u32,
+    word: &str,
+) -> Result<u32, Fail<CheckFault>>
+    ensures clean { OnOk result (getter_faults (context_at words.now)
+        (memory_got (memory_at (context_at words.now)) word.now) line word.now ≡ []) }
+    ensures stands { IfOk result (λ column. column ≡ got_column (words_at words.now) word.now) }
+    ensures first { IfErr result (FailsFirst (getter_faults (context_at words.now)
+        (memory_got (memory_at (context_at words.now)) word.now) line word.now)) }
+{
+    let found = words.got(word);
+    refuse(
+        alloc,
+        words,
+        found.is_none(),
+        CheckKind::UnknownCall,
+        line,
+        word,
+    )?;
+    Ok(span_of(found).column)
+}
+
 /// The form `get_x()`: the column of the memory variable.
 pub(crate) fn got(
     alloc: Global,
@@ -189,24 +216,16 @@ pub(crate) fn got(
     ensures stands { IfOk result (λ column. column ≡ got_column (words_at words.now) word.now) }
     ensures first { IfErr result (FailsFirst (get_faults (context_at words.now) line word.now)) }
 {
-    let found = words.got(word);
+    let column = getter(alloc, words, line, word)?;
     refuse(
         alloc,
         words,
-        found.is_none(),
-        CheckKind::UnknownCall,
-        line,
-        word,
-    )?;
-    refuse(
-        alloc,
-        words,
-        is_array(found),
+        is_array(words.got(word)),
         CheckKind::NeedsIndex,
         line,
         word,
     )?;
-    Ok(span_of(found).column)
+    Ok(column)
 }
 
 /// The number of the input whose row the word reads.
