@@ -4,3 +4,9 @@ pub mod Forms
 pub mod RowSizes
 pub mod Sized
 pub mod SizedBlocks
+-- The code of a body that fits is valid.
+pub mod Labelled
+pub mod LabelledExpressions
+pub mod LabelledStores
+pub mod LabelledStatements
+pub mod LabelledBodies

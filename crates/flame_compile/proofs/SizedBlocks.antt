@@ -83,11 +83,11 @@ deed_sized (Sends message) n = λ p. refl
 deed_sized (Bears agent) n = λ p. refl
 deed_sized (Calls line helper) n = λ p. refl
 
-test_sized : (test : Option SlotExpr) → IsSized (test_or_1 test)
+pub test_sized : (test : Option SlotExpr) → IsSized (test_or_1 test)
 test_sized None = one_sized (Push (pos 1))
 test_sized (Some e) = expression_sized e
 
-step_sized : (step : Option SlotAssign) → IsSized (step_or_none step)
+pub step_sized : (step : Option SlotAssign) → IsSized (step_or_none step)
 step_sized None = row_sized []
 step_sized (Some a) = assignment_sized a
 
@@ -116,7 +116,7 @@ body_sized (s ∷ ss) leave again p =
       body_sized ss leave again (p + length front),
     )
 
-arm_sized : (a : Arm) → IsSized a.test → IsSizedBlock a.body → (leave again n e p : ℕ)
+pub arm_sized : (a : Arm) → IsSized a.test → IsSizedBlock a.body → (leave again n e p : ℕ)
     → length ((arm_code a leave again n e).code p) ≡ arm_size a
 arm_sized a ht hb leave again n e p =
     let body = going leave again a.body in

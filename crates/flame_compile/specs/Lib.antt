@@ -3,3 +3,4 @@
 pub mod Pieces
 pub mod Emit
 pub mod Sizes
+pub mod ValidCodes

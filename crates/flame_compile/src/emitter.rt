@@ -1,4 +1,4 @@
-//! The code of bodies.
+//! The instructions of a body.
 
 ghost use Rattle.std.specs.Prelude.{◌≡◌, ◌<◌, ◌^◌, length, IfOk};
 ghost use Rattle.flame_compile.specs.Emit.{emitted};
@@ -6,17 +6,17 @@ ghost use Rattle.flame_compile.specs.Emit.{emitted};
 use crate::block_size::block_size;
 use crate::places::{here, put};
 use crate::statement::write_block;
-use flame_body::Body;
+use flame_body::SlotStmt;
 use flame_code::Instr;
 use flame_rows::{NoMemory, Seq};
 use std::alloc::Global;
 
-/// The instructions of a body, fewer than 2^32. There is NoMemory where they would be more, or where no memory is found.
-pub fn emit(alloc: Global, body: &Body) -> Result<Seq<Instr>, NoMemory>
-    ensures code { IfOk result (λ code. code ≡ emitted body.now.tree) }
+/// The instructions of these statements and of the end of the function, fewer than 2^32. There is NoMemory where they
+/// would be more, or where no memory is found.
+pub(crate) fn emit(alloc: Global, tree: &[SlotStmt]) -> Result<Seq<Instr>, NoMemory>
+    ensures code { IfOk result (λ code. code ≡ emitted tree.now) }
     ensures few { IfOk result (λ code. length code < 2 ^ 32) }
 {
-    let tree = body.tree().items();
     let end = block_size(tree)?;
     let mut out = Vec::new(alloc);
     write_block(&mut out, tree, end, end)?;

@@ -2,6 +2,7 @@
 #![tactic(auto)]
 
 mod block_size;
+mod compiler;
 mod emitter;
 mod expression;
 pub mod laws;
@@ -12,4 +13,4 @@ mod stored;
 #[cfg(test)]
 mod tests;
 
-pub use emitter::emit;
+pub use compiler::compile;
