@@ -4,5 +4,6 @@ mod Pops
 mod Inputs
 mod Arms
 mod Zeros
+mod Fitted
 mod Standing
 mod Going

@@ -3,12 +3,16 @@
 
 mod additions;
 mod endings;
+mod fitting;
 mod frames;
 mod givens;
 mod lists;
 mod pools;
 mod running;
+#[cfg(test)]
+mod tests;
 mod turns;
 
+pub use fitting::{fits_entry, helpers_of};
 pub use lists::Lists;
 pub use running::run;
