@@ -2,6 +2,8 @@
 
 use crate::{outcomes, running};
 use flame_case::Case;
+use flame_case_checks::answer_check;
+use flame_case_codes::answer_machine;
 use flame_case_models::{
     answer_flat, answer_model, answer_names, answer_plan, answer_shape, answer_wide,
 };
@@ -32,6 +34,8 @@ pub(crate) enum Kind {
     Names,
     /// `flame_sense::evaluate`
     Outcome,
+    /// `flame_machine::run`
+    Machine,
     /// `flame_depend::edges` and `flame_depend::plan`
     Plan,
     /// The conditions, filters and keys of `flame_cond`
@@ -44,6 +48,8 @@ pub(crate) enum Kind {
     Expression,
     /// `flame_parse::parse`
     Parse,
+    /// `flame_check::check`
+    Check,
 }
 
 /// The call that the file's folder names.
@@ -58,12 +64,14 @@ pub(crate) fn kind_of(file: &str) -> Option<Kind> {
         "nest" => Some(Kind::Nest),
         "names" => Some(Kind::Names),
         "outcome" => Some(Kind::Outcome),
+        "machine" => Some(Kind::Machine),
         "plan" => Some(Kind::Plan),
         "condition" => Some(Kind::Condition),
         "view" => Some(Kind::View),
         "choice" => Some(Kind::Choice),
         "expression" => Some(Kind::Expression),
         "parse" => Some(Kind::Parse),
+        "check" => Some(Kind::Check),
         _ => None,
     }
 }
@@ -85,11 +93,13 @@ pub(crate) fn answer(
         Kind::Nest => answer_flat(alloc, case),
         Kind::Names => answer_names(alloc, case),
         Kind::Outcome => outcomes::answer(alloc, case),
+        Kind::Machine => answer_machine(alloc, case),
         Kind::Plan => answer_plan(alloc, case),
         Kind::Condition => answer_conditions(alloc, case),
         Kind::View => answer_views(alloc, case),
         Kind::Choice => answer_choices(rt, alloc, case),
         Kind::Expression => answer_expression(alloc, case),
         Kind::Parse => answer_trees(alloc, case),
+        Kind::Check => answer_check(alloc, case),
     }
 }

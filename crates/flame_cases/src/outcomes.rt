@@ -4,29 +4,16 @@
 //! `born 1 [2]` in the order of adding, then `left 5`; or the fault, as `Overflow at line 1`.
 
 use flame_case::{Case, boards_in, numbers_in};
+use flame_case_codes::print_outcome;
 use flame_case_models::{Found, model_in};
 use flame_case_texts::units_in;
 use flame_rows::Row;
 use flame_sense::evaluate;
-use flame_spec::{Effect, Outcome, Source};
+use flame_spec::Source;
 use std::alloc::{AllocError, Global};
 
-fn print_effect(out: &mut String, effect: &Effect) -> Result<(), AllocError> {
-    match &effect.memory {
-        Some(row) => writeln!(out, "memory {:?}", row.values())?,
-        None => writeln!(out, "removed")?,
-    }
-    for sent in effect.sent.items() {
-        writeln!(out, "sent {} {:?}", sent.message, sent.row.values())?;
-    }
-    for born in effect.born.items() {
-        writeln!(out, "born {} {:?}", born.agent, born.row.values())?;
-    }
-    writeln!(out, "left {}", effect.fuel)
-}
-
 /// The outcome of the given function of the source.
-fn print_outcome(
+fn print_evaluated(
     alloc: Global,
     out: &mut String,
     case: &Case,
@@ -41,12 +28,7 @@ fn print_outcome(
     match evaluate(
         alloc, source, function, &memory, &boards, &constants, iteration, fuel,
     ) {
-        Ok(Outcome::Ended(effect)) => print_effect(out, &effect),
-        Ok(Outcome::Faulted(fault)) => {
-            let cause = fault.cause;
-            let line = fault.line;
-            writeln!(out, "{cause:?} at line {line}")
-        }
+        Ok(outcome) => print_outcome(out, &outcome),
         Err(_) => Err(AllocError),
     }
 }
@@ -63,6 +45,6 @@ pub(crate) fn answer(alloc: Global, case: &Case) -> Result<String, AllocError> {
         return Ok(out);
     }
     let source = Source { model, units };
-    print_outcome(alloc, &mut out, case, &source)?;
+    print_evaluated(alloc, &mut out, case, &source)?;
     Ok(out)
 }

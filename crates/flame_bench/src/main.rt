@@ -1,0 +1,136 @@
+//! Runs three codes with a loop, so that the machine can be timed beside a plain interpreter.
+//!
+//! A word is the number of turns of the first loop; the others turn a tenth as often. It prints what each code leaves, the
+//! processor time that it took and the instructions a second. Without a word the first loop turns 1000 times, and no time
+//! is printed. The status is 2 where a code is not valid, memory is not found or a clock cannot be read.
+#![tactic(auto)]
+
+mod codes;
+
+use codes::{Loop, WIDTH, calls, elements, helpers, sum};
+use flame_code::Helpers;
+use flame_machine::{Lists, fits_entry, run};
+use flame_rows::Row;
+use flame_spec::Outcome;
+use std::alloc::{AllocError, Global};
+use std::process::ExitCode;
+use std::rt::Env;
+use std::time::{CpuClock, Duration};
+use std::{env, io};
+
+/// The turns where no word says how many.
+const TURNS: i32 = 1000;
+
+/// The instructions that a code runs outside of its loop.
+const OUTSIDE: u64 = 15;
+
+/// What the code leaves, where the helpers fit it.
+fn outcome_of(
+    alloc: Global,
+    timed: &Loop,
+    helpers: &Helpers,
+) -> Result<Option<Outcome>, AllocError> {
+    let memory = Row::of(vec![in alloc; 0; WIDTH as usize]?);
+    let constants = Row::of(Vec::new(alloc));
+    let mut feed = Lists::new(alloc);
+    let code = &timed.code;
+    if !helpers.fits(code) {
+        return Ok(None);
+    }
+    if !fits_entry(code, &memory, &feed, &constants) {
+        return Ok(None);
+    }
+    match run(
+        alloc,
+        code,
+        helpers,
+        &memory,
+        &mut feed,
+        &constants,
+        1,
+        u32::MAX,
+    ) {
+        Ok(outcome) => Ok(Some(outcome)),
+        Err(_) => Err(AllocError),
+    }
+}
+
+fn print_outcome(rt: &impl Print, outcome: &Outcome) -> io::Result<()> {
+    match outcome {
+        Outcome::Ended(effect) => {
+            match &effect.memory {
+                Some(row) => print!(rt; "memory {:?}", row.values())?,
+                None => print!(rt; "removed")?,
+            }
+            print!(rt; " left {}", effect.fuel)
+        }
+        Outcome::Faulted(fault) => {
+            let cause = fault.cause;
+            print!(rt; "{cause:?} at line {}", fault.line)
+        }
+    }
+}
+
+/// The time that a loop took, and the millions of instructions that it ran a second.
+fn print_speed(rt: &impl Print, timed: &Loop, taken: Duration) -> io::Result<()> {
+    let turns = timed.turns.unsigned_abs() as u64;
+    let instructions = turns.saturating_mul(timed.in_turn).saturating_add(OUTSIDE);
+    let microseconds = taken.as_micros().max(1);
+    let speed = instructions as u128 / microseconds;
+    print!(rt;
+        "; {} milliseconds, {speed} million instructions a second",
+        taken.as_millis()
+    )
+}
+
+/// Runs a loop. Tells whether it could be run.
+fn measure(
+    rt: &(impl Print + CpuClock + AllocGlobal),
+    timed: &Option<Loop>,
+    helpers: &Helpers,
+    with_time: bool,
+) -> io::Result<bool> {
+    let Some(timed) = timed else {
+        return Ok(false);
+    };
+    let begun = rt.process_cpu_time()?;
+    let Some(outcome) = outcome_of(rt.alloc(), timed, helpers)? else {
+        return Ok(false);
+    };
+    let taken = rt.process_cpu_time()?.saturating_sub(begun);
+    let name = timed.name;
+    print!(rt; "{name}: ")?;
+    print_outcome(rt, &outcome)?;
+    if with_time {
+        print_speed(rt, timed, taken)?;
+    }
+    println!(rt; "")?;
+    Ok(true)
+}
+
+/// Runs all loops. Tells whether all could be run.
+fn measure_all(rt: &(impl Print + CpuClock + Env + AllocGlobal)) -> io::Result<bool> {
+    let alloc = rt.alloc();
+    let word = env::args(rt)?.nth(1);
+    let turns = match &word {
+        Some(word) => word.parse::<i32>().unwrap_or(TURNS),
+        None => TURNS,
+    };
+    let fewer = turns / 10;
+    let Some(helpers) = helpers(alloc)? else {
+        return Ok(false);
+    };
+    let with_time = word.is_some();
+    Ok(
+        measure(rt, &sum(alloc, turns)?, &helpers, with_time)?
+            && measure(rt, &calls(alloc, fewer)?, &helpers, with_time)?
+            && measure(rt, &elements(alloc, fewer)?, &helpers, with_time)?,
+    )
+}
+
+fn main(rt: HostRuntime) -> ExitCode {
+    match measure_all(&rt) {
+        Ok(true) => ExitCode::SUCCESS,
+        _ => ExitCode::from(2),
+    }
+}

@@ -1,0 +1,174 @@
+//! Cases of `run`: the section `code` is a listing, and each section `helper 1 2` that of a helper with its number of
+//! parameters and its height. `given` has lines `memory [1, 2]`, `constants [1000]`, `iteration 7` and `fuel 5`; `inputs
+//! [2]`, `messages [1]` and `agents [3]`, the widths of what the code sees; and `rows [[1, 2], [3, 4]]` for each input. The
+//! answer is the outcome, or what does not fit.
+
+use crate::listing::code_in;
+use crate::printing::print_outcome;
+use flame_case::{Case, numbers_in};
+use flame_code::{Code, Helpers};
+use flame_machine::{Lists, fits_entry, helpers_of, run};
+use flame_rows::{Row, Seq};
+use flame_spec::Widths;
+use std::alloc::{AllocError, Global};
+use std::str;
+
+/// What a case begins with.
+#[derive(Drop)]
+struct Scene {
+    memory: Row,
+    constants: Row,
+    inputs: Vec<Vec<Row>>,
+    iteration: i32,
+    fuel: u32,
+}
+
+/// The rows between brackets, in order.
+fn rows_in(alloc: Global, text: &str) -> Result<Vec<Row>, AllocError> {
+    let mut rows = Vec::new(alloc);
+    for part in text.split(']') {
+        let row = numbers_in(alloc, part)?;
+        if !row.is_empty() {
+            rows.push(Row::of(row))?;
+        }
+    }
+    Ok(rows)
+}
+
+/// The rows of each input.
+fn inputs_in(alloc: Global, case: &Case) -> Result<Vec<Vec<Row>>, AllocError> {
+    let mut inputs = Vec::new(alloc);
+    for line in case.text("given").split('\n') {
+        if let Some(rest) = line.strip_prefix("rows ") {
+            inputs.push(rows_in(alloc, rest)?)?;
+        }
+    }
+    Ok(inputs)
+}
+
+/// The widths between brackets.
+fn widths_in(alloc: Global, text: &str) -> Result<Seq<u32>, AllocError> {
+    let mut widths = Vec::new(alloc);
+    for number in numbers_in(alloc, text)?.as_slice() {
+        widths.push(number.unsigned_abs())?;
+    }
+    Ok(Seq::of(widths))
+}
+
+/// The number behind a word, or this many without one.
+fn count_in(case: &Case, word: &str, default: usize) -> u32 {
+    match case.given(word).parse::<u32>() {
+        Ok(number) => number,
+        Err(_) => u32::try_from(default).unwrap_or(0),
+    }
+}
+
+fn scene_in(alloc: Global, case: &Case) -> Result<Scene, AllocError> {
+    Ok(Scene {
+        memory: Row::of(numbers_in(alloc, case.given("memory "))?),
+        constants: Row::of(numbers_in(alloc, case.given("constants "))?),
+        inputs: inputs_in(alloc, case)?,
+        iteration: case.given("iteration ").parse::<i32>().unwrap_or(0),
+        fuel: case.given("fuel ").parse::<u32>().unwrap_or(0),
+    })
+}
+
+/// What the code sees. Without a line `columns 3` it sees as many columns as the memory has.
+fn seen(alloc: Global, case: &Case, scene: &Scene) -> Result<Widths, AllocError> {
+    Ok(Widths {
+        memory: count_in(case, "columns ", scene.memory.values().len()),
+        constants: count_in(case, "known ", scene.constants.values().len()),
+        inputs: widths_in(alloc, case.given("inputs "))?,
+        messages: widths_in(alloc, case.given("messages "))?,
+        agents: widths_in(alloc, case.given("agents "))?,
+    })
+}
+
+/// What helpers see.
+fn seen_by_helpers(alloc: Global, constants: u32) -> Widths {
+    Widths {
+        memory: 0,
+        constants,
+        inputs: Seq::of(Vec::new(alloc)),
+        messages: Seq::of(Vec::new(alloc)),
+        agents: Seq::of(Vec::new(alloc)),
+    }
+}
+
+/// The helpers of a case, where they are valid and helpers of one another.
+fn helpers_in(alloc: Global, case: &Case, constants: u32) -> Result<Option<Helpers>, AllocError> {
+    let mut codes = Vec::new(alloc);
+    let mut parameters = Vec::new(alloc);
+    let mut heights = Vec::new(alloc);
+    for section in &case.sections {
+        if let Some((count, height)) = section
+            .title
+            .strip_prefix("helper ")
+            .and_then(|rest| rest.split_once(' '))
+        {
+            let text = str::from_utf8(section.bytes.as_slice()).unwrap_or("");
+            let Some(code) = code_in(alloc, text, seen_by_helpers(alloc, constants))? else {
+                return Ok(None);
+            };
+            codes.push(code)?;
+            parameters.push(count.parse::<u32>().unwrap_or(0))?;
+            heights.push(height.parse::<u32>().unwrap_or(0))?;
+        }
+    }
+    Ok(helpers_of(Seq::of(codes), Seq::of(parameters), heights.as_slice()))
+}
+
+/// What the code leaves, or what does not fit it.
+fn print_run(
+    alloc: Global,
+    out: &mut String,
+    scene: &Scene,
+    code: &Code,
+    helpers: &Helpers,
+) -> Result<(), AllocError> {
+    let mut feed = Lists::new(alloc);
+    for rows in &scene.inputs {
+        if feed.push(rows.as_slice()).is_err() {
+            return Err(AllocError);
+        }
+    }
+    let memory = &scene.memory;
+    let constants = &scene.constants;
+    if !helpers.fits(code) {
+        return writeln!(out, "helpers do not fit");
+    }
+    if !fits_entry(code, memory, &feed, constants) {
+        return writeln!(out, "rows do not fit");
+    }
+    match run(
+        alloc,
+        code,
+        helpers,
+        memory,
+        &mut feed,
+        constants,
+        scene.iteration,
+        scene.fuel,
+    ) {
+        Ok(outcome) => print_outcome(out, &outcome),
+        Err(_) => Err(AllocError),
+    }
+}
+
+/// The answer to a case of the kind `machine`: what the run of a code gives.
+pub fn answer_machine(alloc: Global, case: &Case) -> Result<String, AllocError> {
+    let scene = scene_in(alloc, case)?;
+    let widths = seen(alloc, case, &scene)?;
+    let constants = widths.constants;
+    let mut out = String::new(alloc);
+    let Some(code) = code_in(alloc, case.text("code"), widths)? else {
+        writeln!(out, "no valid code")?;
+        return Ok(out);
+    };
+    let Some(helpers) = helpers_in(alloc, case, constants)? else {
+        writeln!(out, "no valid helpers")?;
+        return Ok(out);
+    };
+    print_run(alloc, &mut out, &scene, &code, &helpers)?;
+    Ok(out)
+}
