@@ -1,5 +1,5 @@
 -- What a scope leaves: what was seen before it.
-use Rattle.std.proofs.Common.{◌≡◌, ℕ, List, [], ◌∷◌, refl, ap, ◌∙◌, sym}
+use Rattle.std.proofs.Common.{◌≡◌, List, [], ◌∷◌, refl, ap, ◌∙◌}
 use Rattle.flame_spec.specs.Scopes.{Sight, Loop, in_scope, in_loop, after_items, after, after_all, after_name}
 use Rattle.flame_spec.specs.Trees.{Declared}
 use Rattle.flame_spec.specs.Trees.{Statement, empty, declare, assign, call, block, branch, while, for, do_while, loop_over, return, break, continue}

@@ -42,22 +42,18 @@ fn statement<'a>(
 {
     match s {
         Stmt::Empty => Ok(SlotStmt::Empty),
-        Stmt::Declare(declared) => {
-            let items = items(alloc, words, spot, declared.items())?;
-            Ok(SlotStmt::Declare(items))
-        }
-        Stmt::Assign(a) => {
-            let a = assignment(alloc, words, spot, a)?;
-            Ok(SlotStmt::Assign(a))
-        }
+        Stmt::Declare(declared) => Ok(SlotStmt::Declare(items(
+            alloc,
+            words,
+            spot,
+            declared.items(),
+        )?)),
+        Stmt::Assign(a) => Ok(SlotStmt::Assign(assignment(alloc, words, spot, a)?)),
         Stmt::Call(line, word, es) => {
             let word = word.as_str();
             Ok(call(alloc, words, spot, *line, word, es.items())?)
         }
-        Stmt::Block(body) => {
-            let body = block(alloc, words, spot, body.items())?;
-            Ok(SlotStmt::Block(body))
-        }
+        Stmt::Block(body) => Ok(SlotStmt::Block(block(alloc, words, spot, body.items())?)),
         Stmt::If(tests, otherwise) => {
             let tests = arms(alloc, words, spot, tests.items())?;
             let otherwise = block(alloc, words, spot, otherwise.items())?;
@@ -89,10 +85,7 @@ fn statement<'a>(
                 end,
             )?)
         }
-        Stmt::Return(e) => {
-            let e = expression(alloc, words, spot, e)?;
-            Ok(SlotStmt::Return(e))
-        }
+        Stmt::Return(e) => Ok(SlotStmt::Return(expression(alloc, words, spot, e)?)),
         Stmt::Break(line) => {
             jump(alloc, words, spot, *line, "break")?;
             Ok(SlotStmt::Break)
