@@ -45,7 +45,8 @@ tree_is :
 tree_is model units number place d standing clean runs is =
     ap (λ (s : Standing). numbered_statements (words_at s) (after_parameters at_entry d.parameters) d.body) is
     ∙ ap
-    (λ (ps : List Parameter). numbered_statements (words_of model units (Some place)) (after_parameters at_entry ps) d.body)
+    (λ (parameters : List Parameter).
+    numbered_statements (words_of model units (Some place)) (after_parameters at_entry parameters) d.body)
     (bare model units number place d clean runs)
     ∙ ap
     (λ (body : Statements). numbered_statements (words_of model units (Some place)) at_entry body)

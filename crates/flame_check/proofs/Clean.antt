@@ -7,11 +7,15 @@ use Rattle.flame_spec.specs.declared.models.Function.{Function}
 use Rattle.flame_spec.specs.declared.models.Model.{Model}
 use Rattle.flame_spec.specs.declared.trees.Parameter.{Parameter}
 use Rattle.flame_spec.specs.declared.trees.Unit as file
-use Rattle.flame_spec.specs.CheckFaults.{bodies_faults, body_faults, check_faults, context, definition_faults, is_run_by, missing_faults, twice_faults, with_parameters_faults, with_parameters_where}
-use Rattle.flame_spec.specs.Definitions.{Definition, definitions, has_none, helpers, is_for, is_helper, is_idle, is_transition}
+use Rattle.flame_spec.specs.CheckFaults.{bodies_faults, body_faults, check_faults, context, definition_faults}
+use Rattle.flame_spec.specs.CheckFaults.{is_run_by, missing_faults, twice_faults, with_parameters_faults}
+use Rattle.flame_spec.specs.CheckFaults.{with_parameters_where}
+use Rattle.flame_spec.specs.Definitions.{Definition, definitions, has_none, helpers, is_for, is_helper, is_idle}
+use Rattle.flame_spec.specs.Definitions.{is_transition}
 use Rattle.flame_spec.specs.Functions.{Place, functions}
 use Rattle.flame_spec.specs.HelperFaults.{deep_faults, helper_context, recursive_faults}
-use Rattle.flame_check.proofs.Members.{Passes, any_passes, found_passes, gives_none, kept_passes, none_before, none_behind}
+use Rattle.flame_check.proofs.Members.{Passes, any_passes, found_passes, gives_none, kept_passes, none_before}
+use Rattle.flame_check.proofs.Members.{none_behind}
 use Rattle.flame_check.proofs.Parts.{laid_out}
 
 -- the faults behind those of C functions that are defined twice
@@ -22,14 +26,18 @@ behind_twice model units =
     ++ ((recursive_faults model (helpers model units) ++ deep_faults model (helpers model units))
     ++ flat_map (bodies_faults model (helpers model units)) (definitions units)))
 
-none_behind_twice : (model : Model) (units : List file.Unit) → check_faults model units ≡ [] → behind_twice model units ≡ []
+none_behind_twice :
+    (model : Model) (units : List file.Unit)
+    → check_faults model units ≡ []
+    → behind_twice model units ≡ []
 unfolding behind_twice
 none_behind_twice model units h =
     none_behind (twice_faults [] (definitions units)) (behind_twice model units)
     (sym
     (laid_out (twice_faults [] (definitions units)) (flat_map (with_parameters_faults model) (definitions units))
     (flat_map (missing_faults (definitions units)) (functions model)) (recursive_faults model (helpers model units))
-    (deep_faults model (helpers model units)) (flat_map (bodies_faults model (helpers model units)) (definitions units)))
+    (deep_faults model (helpers model units))
+    (flat_map (bodies_faults model (helpers model units)) (definitions units)))
     ∙ h)
 
 -- no C function for a function of the model has parameters
@@ -60,10 +68,12 @@ pub clean_helper :
     → slice_get (helpers model units) number ≡ Some d
     → definition_faults (helper_context model (helpers model units) d) d ≡ []
 clean_helper model units number d h there =
-    let kept : Passes (is_helper model) (definitions units) d = kept_passes (is_helper model) (definitions units) number d there in
+    let kept : Passes (is_helper model) (definitions units) d =
+    kept_passes (is_helper model) (definitions units) number d there in
     let hs = helpers model units in
     ap
-    (λ b. cond b (definition_faults (helper_context model hs d) d) (flat_map (body_faults model hs d) (functions model)))
+    (λ b.
+    cond b (definition_faults (helper_context model hs d) d) (flat_map (body_faults model hs d) (functions model)))
     (sym kept.passes)
     ∙ gives_none (bodies_faults model hs) (definitions units) kept.place d (clean_bodies model units h) kept.there
 
@@ -91,12 +101,17 @@ pub bare :
     → d.parameters ≡ []
 bare model units number place d h runs =
     let found = found_passes (is_for place.function) (definitions units) d runs.found in
-    let any = any_passes (is_run_by d) (functions model) number place runs.there (run_by model units number place d runs) in
-    let none = gives_none (with_parameters_faults model) (definitions units) found.place d (all_bare model units h) found.there in
+    let any =
+    any_passes (is_run_by d) (functions model) number place runs.there (run_by model units number place d runs) in
+    let none =
+    gives_none (with_parameters_faults model) (definitions units) found.place d (all_bare model units h) found.there in
     by_list d.parameters
     (sym (ap (λ b. with_parameters_where (not (has_none d.parameters) && b) d) any) ∙ none)
   where
-    by_list : (parameters : List Parameter) → with_parameters_where (not (has_none parameters) && true) d ≡ [] → parameters ≡ []
+    by_list :
+        (parameters : List Parameter)
+        → with_parameters_where (not (has_none parameters) && true) d ≡ []
+        → parameters ≡ []
     by_list [] e = refl
     by_list (p ∷ ps) e = absurd (cc)
 
@@ -109,11 +124,14 @@ pub clean_run :
 clean_run model units number place d h runs =
     let hs = helpers model units in
     let found = found_passes (is_for place.function) (definitions units) d runs.found in
-    let named = any_passes (λ (p : Place). is_for p.function d) (functions model) number place runs.there found.passes in
-    let body = gives_none (bodies_faults model hs) (definitions units) found.place d (clean_bodies model units h) found.there in
+    let named =
+    any_passes (λ (p : Place). is_for p.function d) (functions model) number place runs.there found.passes in
+    let body =
+    gives_none (bodies_faults model hs) (definitions units) found.place d (clean_bodies model units h) found.there in
     let all : flat_map (body_faults model hs d) (functions model) ≡ [] =
     ap
-    (λ b. cond b (definition_faults (helper_context model hs d) d) (flat_map (body_faults model hs d) (functions model)))
+    (λ b.
+    cond b (definition_faults (helper_context model hs d) d) (flat_map (body_faults model hs d) (functions model)))
     (sym (none_helps (not (has_none d.parameters)) (is_transition model d) named))
     ∙ body in
     ap (λ b. cond b (definition_faults (context model hs d place) d) [])

@@ -1,5 +1,6 @@
 -- What stands in lists that are searched, kept or numbered.
-use Rattle.std.proofs.Common.{◌≡◌, ℕ, zero, suc, ◌+◌, ◌<◌, List, [], ◌∷◌, ◌++◌, length, refl, sym, ap, ◌∙◌, Bool, true, false, ◌||◌, cond, Option, Some, None, arith}
+use Rattle.std.proofs.Common.{◌≡◌, ℕ, zero, suc, ◌+◌, ◌<◌, List, [], ◌∷◌, ◌++◌, length, refl, sym, ap, ◌∙◌, Bool}
+use Rattle.std.proofs.Common.{true, false, ◌||◌, cond, Option, Some, None, arith}
 use Rattle.std.specs.Prelude.{find, slice_get, not, is_some}
 use Rattle.std.specs.List.{filter, flat_map, list_any}
 use Rattle.std.proofs.lemmas.Option.{slice_get_within}

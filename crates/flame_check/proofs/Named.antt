@@ -1,5 +1,6 @@
 -- The width of the first message of a name, where messages are put into a table from the last to the first.
-use Rattle.std.proofs.Common.{◌≡◌, ℕ, ◌+◌, ◌<◌, List, ◌∷◌, length, drop, get_or, sym, ap, ◌∙◌, Bool, true, false, cond, Option, Some, unwrap_or}
+use Rattle.std.proofs.Common.{◌≡◌, ℕ, ◌+◌, ◌<◌, List, ◌∷◌, length, drop, get_or, sym, ap, ◌∙◌, Bool, true, false}
+use Rattle.std.proofs.Common.{cond, Option, Some, unwrap_or}
 use Rattle.std.specs.Str.{bytes_eq}
 use Rattle.std.proofs.lemmas.List.{at_drop_more}
 use Rattle.flame_spec.specs.declared.models.MessageType.{MessageType}

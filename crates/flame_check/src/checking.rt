@@ -45,12 +45,12 @@ fn refuse(alloc: Global, tables: &Tables<'_>) -> Result<(), Fail<CheckFault>>
 ///
 /// # Errors
 ///
-/// `Fault` comes exactly where the files have a fault, and it is the first in this order: C functions that have the name
-/// of an earlier one; C functions for functions of the model that have parameters; functions of the model but `idle`
-/// that no C function defines, in document order; a cycle of calls of helpers; calls of helpers that go too deep; the
-/// faults in bodies, C function by C function from the top of the first file, and for each one of them in document order
-/// of the functions of the model that it is one for. `NoMemory` is want of memory, or more constants, functions, files
-/// or C functions, or wider rows, than 32 bits can number.
+/// `Fault` comes exactly where the files have a fault, and it is the first in this order: C functions that have the
+/// name of an earlier one; C functions for functions of the model that have parameters; functions of the model but
+/// `idle` that no C function defines, in document order; a cycle of calls of helpers; calls that go too deep; the
+/// faults in bodies, C function by C function from the top of the first file, and for each one of them in document
+/// order of the functions of the model that it is one for. `NoMemory` is want of memory, or more constants, functions,
+/// files or C functions, or wider rows, than 32 bits can number.
 pub fn check(alloc: Global, model: &Model, units: &Seq<Unit>) -> Result<Checked, Fail<CheckFault>>
     ensures accepted { OnOk result (check_faults model.now units.now ≡ []) }
     ensures bodies { IfOk result (λ checked. checked.bodies ≡ function_bodies model.now units.now) }

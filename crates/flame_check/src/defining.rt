@@ -43,7 +43,8 @@ fn bare(
     function: &CFunction<'_>,
 ) -> Result<(), Fail<CheckFault>>
     ensures clean { OnOk result (with_parameters_faults tables.now.model (definition_found function.now) ≡ []) }
-    ensures first { IfErr result (FailsFirst (with_parameters_faults tables.now.model (definition_found function.now))) }
+    ensures first { IfErr result
+        (FailsFirst (with_parameters_faults tables.now.model (definition_found function.now))) }
 {
     if has_parameters(tables, function) {
         return Err(fault_at(alloc, CheckKind::HasParameters, function));

@@ -9,7 +9,8 @@ ghost use Rattle.flame_spec.specs.Functions.{functions};
 ghost use Rattle.flame_spec.specs.Scopes.{at_entry, after_parameters};
 ghost use Rattle.flame_lookup.specs.Sources.{context_at};
 ghost use Rattle.flame_lookup.specs.WordsFound.{definition_found, place_found};
-ghost use Rattle.flame_body.specs.FunctionBodies.{widths_in, function_body, function_bodies, helper_body, helper_bodies};
+ghost use Rattle.flame_body.specs.FunctionBodies.{widths_in, function_body, function_bodies};
+ghost use Rattle.flame_body.specs.FunctionBodies.{helper_body, helper_bodies};
 ghost use Rattle.flame_body.specs.NumberedTrees.{numbered_statements};
 ghost use Rattle.flame_walk.specs.WordPlaces.{words_at};
 

@@ -17,6 +17,8 @@ returns c =
     let busy : is_idle function ≡ false =
     ap (λ text. bytes_eq text (codes "idle")) (sym c.as_str.ensures) ∙ sym c.eq.ensures ∙ c.if-eq.false in
     let any : is_some c.defined.result ≡ list_any (is_for function) ds =
-    sym (is_some-mapped definition_found c.defined.result) ∙ ap is_some c.defined.ensures ∙ is_some-find (is_for function) ds in
+    sym (is_some-mapped definition_found c.defined.result)
+    ∙ ap is_some c.defined.ensures
+    ∙ is_some-find (is_for function) ds in
     not_turned (list_any (is_for function) ds) c.is_none.result (sym any ∙ c.is_none.ensures)
     ∙ sym (ap (λ b. not b && not (list_any (is_for function) ds)) busy)

@@ -18,7 +18,8 @@ returns-in_err-definition-clause-first c =
     let d = definition_found c.args.function.now in
     let same : bodies_faults model hs d ≡ definition_faults (context_at c.for_helper-words.result) d =
     ap
-    (λ b. cond b (definition_faults (helper_context model hs d) d) (flat_map (body_faults model hs d) (functions model)))
+    (λ b.
+    cond b (definition_faults (helper_context model hs d) d) (flat_map (body_faults model hs d) (functions model)))
     (sym c.is_helper.ensures ∙ c.if-is_helper.true)
     ∙ ap (λ (s : Standing). definition_faults (context_at s) d) (sym c.for_helper-words.ensures) in
     rw (p.1, p.2)
