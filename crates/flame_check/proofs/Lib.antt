@@ -3,7 +3,7 @@ pub mod Rests
 pub mod Parts
 -- What stands in lists that are searched, kept or numbered, and tests.
 pub mod Members
-pub mod Tests
+pub mod Booleans
 -- Widths by the names of messages.
 pub mod Named
 -- The bodies that are walked, and those that have no faults by then.

@@ -1,9 +1,9 @@
 //! The call once for each answer. Cases are data of the crates that check.
 
-use crate::check;
+use crate::{Checked, check};
 use flame_rows::{Fail as Failure, NoMemory, Seq, Text};
 use flame_spec::{
-    AgentType, CheckKind, Def, Function, Input, MessageType, Model, Parameter, Unit, Variable,
+    AgentType, CheckFault, CheckKind, Def, Function, Input, MessageType, Model, Parameter, Unit, Variable,
 };
 use std::alloc::Global;
 use std::test::Fail;
@@ -86,28 +86,46 @@ fn units(alloc: Global, whole: bool) -> Result<Seq<Unit>, NoMemory> {
     one(alloc, Unit { functions })
 }
 
+/// What the call gives, where there is no fault.
+fn checked_of(alloc: Global) -> Result<Option<Checked>, NoMemory> {
+    let model = model(alloc)?;
+    let units = units(alloc, true)?;
+    match check(alloc, &model, &units) {
+        Ok(checked) => Ok(Some(checked)),
+        Err(Failure::Fault(_)) => Ok(None),
+        Err(Failure::NoMemory) => Err(NoMemory),
+    }
+}
+
+/// The fault of the same without the function, if there is one.
+fn fault_without(alloc: Global) -> Result<Option<CheckFault>, NoMemory> {
+    let model = model(alloc)?;
+    let units = units(alloc, false)?;
+    match check(alloc, &model, &units) {
+        Ok(_) => Ok(None),
+        Err(Failure::Fault(fault)) => Ok(Some(fault)),
+        Err(Failure::NoMemory) => Err(NoMemory),
+    }
+}
+
 #[test]
 fn a_source_is_checked_and_a_missing_function_is_found(rt: HostRuntime) -> Result<(), Fail> {
     let alloc = rt.alloc();
-    let model = model(alloc)?;
-    match check(alloc, &model, &units(alloc, true)?) {
-        Ok(checked) => {
-            assert_eq!(rt; checked.helpers.len(), 1);
-            assert_eq!(rt; checked.bodies.len(), 1);
-            for body in checked.bodies.items() {
-                assert_eq!(rt; body.widths().memory, 3);
-                assert_eq!(rt; body.widths().inputs.items(), [3].as_slice());
-            }
+    let checked = checked_of(alloc)?;
+    assert!(rt; checked.is_some());
+    if let Some(checked) = checked {
+        assert_eq!(rt; checked.helpers.len(), 1);
+        assert_eq!(rt; checked.bodies.len(), 1);
+        for body in checked.bodies.items() {
+            assert_eq!(rt; body.widths().memory, 3);
+            assert_eq!(rt; body.widths().inputs.items(), [3].as_slice());
         }
-        Err(_) => assert!(rt; false),
     }
-    match check(alloc, &model, &units(alloc, false)?) {
-        Err(Failure::Fault(fault)) => {
-            assert_eq!(rt; fault.kind, CheckKind::MissingFunction);
-            assert_eq!(rt; fault.name.as_str(), "f");
-        }
-        Err(Failure::NoMemory) => assert!(rt; false),
-        Ok(_) => assert!(rt; false),
+    let fault = fault_without(alloc)?;
+    assert!(rt; fault.is_some());
+    if let Some(fault) = fault {
+        assert_eq!(rt; fault.kind, CheckKind::MissingFunction);
+        assert_eq!(rt; fault.name.as_str(), "f");
     }
     Ok(())
 }

@@ -355,9 +355,10 @@ choice_labelled around jump_out a b jumps es p h sound fit_all =
     (λ instrs all code marks exit needs.
     let at_f : q + 1 + 1 ≡ f = omega arith in
     let at_e : p + length (tests ++ (Push a ∷ Jump e ∷ Push b ∷ [])) ≡ e =
-    omega (arith, length-append tests (Push a ∷ Jump e ∷ Push b ∷ [])) in
-    (subst (λ k. slice_get all k ≡ Some (label h rows)) at_f marks.1.1.1.0,
-    subst (λ k. slice_get all k ≡ Some (label (h + 1) rows)) at_e exit))
+    omega (arith, length-append tests (Push a ∷ Jump e ∷ Push b ∷ [])) in (
+      subst (λ k. slice_get all k ≡ Some (label h rows)) at_f marks.1.1.1.0,
+      subst (λ k. slice_get all k ≡ Some (label (h + 1) rows)) at_e exit,
+    ))
 
 -- ---- every expression
 

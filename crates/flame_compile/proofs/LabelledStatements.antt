@@ -102,9 +102,10 @@ turn_gates :
     → limit ≤ end
     → Turns around.inputs line turn again check end instrs all
     → gates (in_plain_loop around) end again limit instrs all
-turn_gates around line turn again check end limit instrs all le_again le_end turns open_ k lt =
-    (aim_forward instrs all around.inputs k end 0 turns.at_end (omega arith),
-    aim_forward instrs all around.inputs k again 0 turns.at_again (omega arith))
+turn_gates around line turn again check end limit instrs all le_again le_end turns open_ k lt = (
+  aim_forward instrs all around.inputs k end 0 turns.at_end (omega arith),
+  aim_forward instrs all around.inputs k again 0 turns.at_again (omega arith),
+)
 
 -- the jump back lands on a Pay
 turn_aim :
@@ -266,15 +267,17 @@ for_labelled line h body around leave again limit p sound holds_first holds belo
       length-append inner (step ++ (tests ++ JumpNotZero b ∷ [])),
       length-append step (tests ++ JumpNotZero b ∷ []),
       length-append tests (JumpNotZero b ∷ []),
-    ) in
-    (record {
-      at_turn = at_place all (label 0 rows) (o + 1) b (omega arith) marks.1.1.0;
-      at_again = at_place all (label 0 rows) q s (omega arith) marks.1.1.1.1.0;
-      at_check = at_place all (label 0 rows) r c (omega arith) marks.1.1.1.1.1.0;
-      at_end = at_place all (label 0 rows) (p + length (start ++ behind)) e end exit;
-      pay = at_place instrs (Pay line) (p + (length start + 1)) b (omega arith)
-          (code.at (length start + 1) (Pay line) (found_right start behind 1 (Pay line) refl));
-    }, needs))
+    ) in (
+      record {
+        at_turn = at_place all (label 0 rows) (o + 1) b (omega arith) marks.1.1.0;
+        at_again = at_place all (label 0 rows) q s (omega arith) marks.1.1.1.1.0;
+        at_check = at_place all (label 0 rows) r c (omega arith) marks.1.1.1.1.1.0;
+        at_end = at_place all (label 0 rows) (p + length (start ++ behind)) e end exit;
+        pay = at_place instrs (Pay line) (p + (length start + 1)) b (omega arith)
+            (code.at (length start + 1) (Pay line) (found_right start behind 1 (Pay line) refl));
+      },
+      needs,
+    ))
 
 -- ---- message loops
 
@@ -375,9 +378,10 @@ loop_labelled line input body around leave again limit p sound holds there away 
     let third = narrowed N
     (holds (in_input_loop input around) (sound_inside input around sound there) t b (p + 2 + size) (p + 1 + 1)
     (omega arith) body_fits)
-    (λ instrs all needs open_ k lt.
-    (message_end rows line input b t k instrs all (omega arith) needs,
-    message_turn rows line input b t k instrs all (omega arith) needs)) in
+    (λ instrs all needs open_ k lt. (
+      message_end rows line input b t k instrs all (omega arith) needs,
+      message_turn rows line input b t k instrs all (omega arith) needs,
+    )) in
     let fourth = jump N w r b 0 (input ∷ rows) (label 0 rows)
     (λ instrs all needs. message_turn rows line input b t r instrs all (omega arith) needs) in
     let fifth = single N w (r + 1) (Leave input) (label 0 rows) (label 0 rows) (omega arith) refl there refl

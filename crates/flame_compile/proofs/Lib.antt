@@ -10,3 +10,6 @@ pub mod LabelledExpressions
 pub mod LabelledStores
 pub mod LabelledStatements
 pub mod LabelledBodies
+-- The calls in the code of a body fit where those of its tree do.
+pub mod CallFree
+pub mod CallsKept

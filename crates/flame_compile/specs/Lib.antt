@@ -4,3 +4,4 @@ pub mod Pieces
 pub mod Emit
 pub mod Sizes
 pub mod ValidCodes
+pub mod CodeCalls

@@ -1,5 +1,6 @@
 //! Laws of the code of bodies. A law is its contract: it computes nothing.
 
+ghost use Rattle.flame_compile.specs.CodeCalls.{CodeCallsFit};
 ghost use Rattle.flame_compile.specs.Sizes.{ExpressionsAreSized, StatementsAreSized};
 ghost use Rattle.flame_compile.specs.ValidCodes.{CodesAreValid};
 
@@ -13,4 +14,9 @@ pub fn pieces_are_sized()
 /// The code of a body that fits its widths is valid.
 pub fn codes_are_valid()
     ensures { CodesAreValid }
+{}
+
+/// Where the calls of helpers in a body fit the helpers' numbers of parameters, those in its code do.
+pub fn code_calls_fit()
+    ensures { CodeCallsFit }
 {}

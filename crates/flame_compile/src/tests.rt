@@ -56,7 +56,11 @@ fn empty_bodies_return_zero(rt: HostRuntime) -> Result<(), Fail> {
     assert_eq!(rt; code.widths().memory, 2);
     assert_eq!(rt; code.locals(), 0);
     assert_eq!(rt; code.instrs().len(), 2);
-    for (instr, other) in code.instrs().iter().zip([Instr::Push(0), Instr::Return].iter()) {
+    for (instr, other) in code
+        .instrs()
+        .iter()
+        .zip([Instr::Push(0), Instr::Return].iter())
+    {
         assert!(rt; *instr == *other);
     }
     Ok(())

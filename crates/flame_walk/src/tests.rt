@@ -8,6 +8,7 @@ use flame_spec::{
     Subscript, Unit, Value, Variable,
 };
 use std::alloc::Global;
+use std::process::Abort;
 
 fn one<T: Drop>(alloc: Global, item: T) -> Result<Seq<T>, NoMemory> {
     let mut items = Vec::new(alloc);
@@ -162,61 +163,64 @@ fn refused(alloc: Global, s: Stmt) -> Result<Option<CheckKind>, NoMemory> {
     }
 }
 
+/// The walk accepts this statement as the body of the function f, or refuses it for what is wanted.
+fn walk(
+    rt: &impl Abort,
+    alloc: Global,
+    s: Stmt,
+    wanted: Option<CheckKind>,
+) -> Result<(), NoMemory> {
+    let found = refused(alloc, s)?;
+    assert!(rt; found == wanted);
+    Ok(())
+}
+
 #[test]
-fn bodies_are_walked_or_refused(rt: HostRuntime) -> Result<(), NoMemory> {
+fn bodies_are_walked(rt: HostRuntime) -> Result<(), NoMemory> {
     let alloc = rt.alloc();
-    assert_eq!(rt; refused(alloc, declare(alloc, "a", "b")?)?, None);
-    assert_eq!(rt; refused(alloc, assign_element(alloc, "H")?)?, None);
-    assert_eq!(rt;
-        refused(alloc, message_loop(alloc, "M", Stmt::Continue(1), "M")?)?,
-        None
-    );
-    assert_eq!(rt;
-        refused(alloc, declare(alloc, "a", "a")?)?,
-        Some(CheckKind::Redeclared)
-    );
-    assert_eq!(rt;
-        refused(alloc, own_value(alloc)?)?,
-        Some(CheckKind::UnknownName)
-    );
-    assert_eq!(rt;
-        refused(alloc, assign(alloc, "C")?)?,
-        Some(CheckKind::ReadOnly)
-    );
-    assert_eq!(rt;
-        refused(alloc, assign(alloc, "H")?)?,
-        Some(CheckKind::NeedsIndex)
-    );
+    walk(&rt, alloc, declare(alloc, "a", "b")?, None)?;
+    walk(&rt, alloc, assign_element(alloc, "H")?, None)?;
+    let turn = message_loop(alloc, "M", Stmt::Continue(1), "M")?;
+    walk(&rt, alloc, turn, None)?;
+    Ok(())
+}
+
+#[test]
+fn names_are_refused(rt: HostRuntime) -> Result<(), NoMemory> {
+    let alloc = rt.alloc();
+    walk(
+        &rt,
+        alloc,
+        declare(alloc, "a", "a")?,
+        Some(CheckKind::Redeclared),
+    )?;
+    walk(&rt, alloc, own_value(alloc)?, Some(CheckKind::UnknownName))?;
+    walk(&rt, alloc, assign(alloc, "C")?, Some(CheckKind::ReadOnly))?;
+    walk(&rt, alloc, assign(alloc, "H")?, Some(CheckKind::NeedsIndex))?;
+    walk(
+        &rt,
+        alloc,
+        assign_element(alloc, "X")?,
+        Some(CheckKind::NotArray),
+    )?;
     Ok(())
 }
 
 #[test]
 fn calls_and_loops_are_refused(rt: HostRuntime) -> Result<(), NoMemory> {
     let alloc = rt.alloc();
-    assert_eq!(rt;
-        refused(alloc, assign_element(alloc, "X")?)?,
-        Some(CheckKind::NotArray)
-    );
-    assert_eq!(rt;
-        refused(alloc, call(alloc, "g")?)?,
-        Some(CheckKind::UnknownCall)
-    );
-    assert_eq!(rt;
-        refused(alloc, call(alloc, "set_x")?)?,
-        Some(CheckKind::WrongCount)
-    );
-    assert_eq!(rt;
-        refused(alloc, Stmt::Break(1))?,
-        Some(CheckKind::StrayBreak)
-    );
+    walk(&rt, alloc, call(alloc, "g")?, Some(CheckKind::UnknownCall))?;
+    walk(
+        &rt,
+        alloc,
+        call(alloc, "set_x")?,
+        Some(CheckKind::WrongCount),
+    )?;
+    walk(&rt, alloc, Stmt::Break(1), Some(CheckKind::StrayBreak))?;
     let inner = message_loop(alloc, "M", Stmt::Empty, "M")?;
-    assert_eq!(rt;
-        refused(alloc, message_loop(alloc, "M", inner, "M")?)?,
-        Some(CheckKind::NestedSame)
-    );
-    assert_eq!(rt;
-        refused(alloc, message_loop(alloc, "M", Stmt::Empty, "N")?)?,
-        Some(CheckKind::LoopMismatch)
-    );
+    let turn = message_loop(alloc, "M", inner, "M")?;
+    walk(&rt, alloc, turn, Some(CheckKind::NestedSame))?;
+    let turn = message_loop(alloc, "M", Stmt::Empty, "N")?;
+    walk(&rt, alloc, turn, Some(CheckKind::LoopMismatch))?;
     Ok(())
 }

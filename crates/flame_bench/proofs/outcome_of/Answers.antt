@@ -1,5 +1,4 @@
-use Rattle.std.specs.Prelude.{pos}
 use Rattle.flame_bench.proofs.outcome_of.Goals as goal
 
 pub run-requires-clause-entry : goal.run-requires-clause-entry
-run-requires-clause-entry c = c.fits_entry.ensures.fits c.if-not-fits_entry.false (pos 1) 4294967295
+run-requires-clause-entry c = c.fits_entry.ensures.fits c.if-not-fits_entry.false _ _

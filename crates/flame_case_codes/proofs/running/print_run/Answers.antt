@@ -1,5 +1,4 @@
 use Rattle.flame_case_codes.proofs.running.print_run.Goals as goal
 
 pub run-requires-clause-entry : goal.run-requires-clause-entry
-run-requires-clause-entry c =
-    c.fits_entry.ensures.fits c.if-not-fits_entry.false c.args.scene.now.iteration c.args.scene.now.fuel
+run-requires-clause-entry c = c.fits_entry.ensures.fits c.if-not-fits_entry.false _ _

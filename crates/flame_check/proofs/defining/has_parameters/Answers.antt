@@ -7,7 +7,7 @@ use Rattle.flame_spec.specs.Definitions.{has_none}
 use Rattle.flame_spec.specs.Functions.{functions}
 use Rattle.flame_lookup.specs.WordsFound.{definition_found}
 use Rattle.flame_lookup.proofs.Kept.{has_numbers}
-use Rattle.flame_check.proofs.Tests.{has_none_is}
+use Rattle.flame_check.proofs.Booleans.{has_none_is}
 use Rattle.flame_check.proofs.defining.has_parameters.Goals as goal
 
 pub returns-then-not-is_empty : goal.returns-then-not-is_empty

@@ -7,7 +7,7 @@ use Rattle.flame_spec.specs.Definitions.{definitions, is_for, is_idle}
 use Rattle.flame_lookup.specs.WordsFound.{definition_found}
 use Rattle.flame_lookup.proofs.Firsts.{is_some-mapped}
 use Rattle.flame_check.proofs.Members.{is_some-find}
-use Rattle.flame_check.proofs.Tests.{not_turned}
+use Rattle.flame_check.proofs.Booleans.{not_turned}
 use Rattle.flame_check.proofs.defining.is_missing.Goals as goal
 
 pub returns : goal.returns

@@ -15,7 +15,7 @@ use Rattle.flame_lookup.proofs.Places.{slice_get-type}
 use Rattle.flame_body.specs.FunctionBodies.{widths_in}
 use Rattle.flame_check.proofs.Bodies.{standing_by, function_body_is, function_clean}
 use Rattle.flame_check.proofs.Clean.{Runs}
-use Rattle.flame_check.proofs.Tests.{where_false, found_there}
+use Rattle.flame_check.proofs.Booleans.{where_false, found_there}
 use Rattle.flame_check.proofs.numbering.numbered_function.Goals as goal
 
 pub of_function-requires : goal.of_function-requires
