@@ -1,9 +1,8 @@
 -- What has no fault where the files have none.
 use Rattle.std.proofs.Common.{◌≡◌, ℕ, List, [], ◌∷◌, ◌++◌, refl, sym, ap, ◌∙◌, Bool, true, false, cond, Some}
 use Rattle.std.specs.Prelude.{find, slice_get, not, ◌&&◌}
-use Rattle.std.specs.List.{flat_map, list_any}
+use Rattle.std.specs.List.{flat_map}
 use Rattle.flame_spec.specs.declared.faults.CheckFault.{CheckFault}
-use Rattle.flame_spec.specs.declared.models.Function.{Function}
 use Rattle.flame_spec.specs.declared.models.Model.{Model}
 use Rattle.flame_spec.specs.declared.trees.Parameter.{Parameter}
 use Rattle.flame_spec.specs.declared.trees.Unit as file

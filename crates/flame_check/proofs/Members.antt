@@ -1,9 +1,8 @@
 -- What stands in lists that are searched, kept or numbered.
 use Rattle.std.proofs.Common.{◌≡◌, ℕ, zero, suc, ◌+◌, ◌<◌, List, [], ◌∷◌, ◌++◌, length, refl, sym, ap, ◌∙◌, Bool}
-use Rattle.std.proofs.Common.{true, false, ◌||◌, cond, Option, Some, None, arith}
-use Rattle.std.specs.Prelude.{find, slice_get, not, is_some}
+use Rattle.std.proofs.Common.{true, false, ◌||◌, cond, Some, arith}
+use Rattle.std.specs.Prelude.{find, slice_get, is_some}
 use Rattle.std.specs.List.{filter, flat_map, list_any}
-use Rattle.std.proofs.lemmas.Option.{slice_get_within}
 use Rattle.flame_spec.specs.Lists.{numbers_from}
 
 -- it stands in this place of the list, and passes the test

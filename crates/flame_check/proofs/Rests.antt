@@ -94,7 +94,6 @@ item_fails faults xs i d whole fail h rest first =
 
 -- ---- names of earlier C functions
 
-
 names_more :
     (ds : List Definition) (i : ℕ) (d : Definition)
     → slice_get ds i ≡ Some d

@@ -1,11 +1,11 @@
 -- The bodies of a C function, by the numbers of the functions of the model that it is one for.
-use Rattle.std.proofs.Common.{◌≡◌, ℕ, ◌+◌, List, [], ap, ◌∙◌, Option, Some, arith}
+use Rattle.std.proofs.Common.{◌≡◌, ℕ, ◌+◌, List, ap, ◌∙◌, arith}
 use Rattle.std.specs.Prelude.{slice_get}
 use Rattle.std.specs.List.{flat_map}
 use Rattle.flame_spec.specs.declared.faults.CheckFault.{CheckFault}
 use Rattle.flame_spec.specs.CheckFaults.{body_faults, context, definition_faults, is_run_by}
 use Rattle.flame_spec.specs.Definitions.{Definition, helpers}
-use Rattle.flame_spec.specs.Functions.{Place, functions}
+use Rattle.flame_spec.specs.Functions.{functions}
 use Rattle.flame_spec.specs.Lists.{numbers_where}
 use Rattle.flame_spec.specs.Scopes.{Context}
 use Rattle.flame_lookup.specs.Sources.{Sources}

@@ -78,11 +78,7 @@ fn is_missing(tables: &Tables<'_>, function: &Function) -> bool
 }
 
 /// A C function defines the function of the model, where it is not `idle`.
-fn there(
-    alloc: Global,
-    tables: &Tables<'_>,
-    place: &Transition<'_>,
-) -> Result<(), Fail<CheckFault>>
+fn there(alloc: Global, tables: &Tables<'_>, place: &Transition<'_>) -> Result<(), Fail<CheckFault>>
     ensures clean { OnOk result (missing_faults (definitions tables.now.units) (place_found place.now) ≡ []) }
     ensures first { IfErr result (FailsFirst (missing_faults (definitions tables.now.units) (place_found place.now))) }
 {

@@ -30,11 +30,7 @@ pub(crate) fn fault(
 }
 
 /// The fault at this C function, or want of memory.
-pub(crate) fn fault_at(
-    alloc: Global,
-    kind: CheckKind,
-    function: &CFunction<'_>,
-) -> Fail<CheckFault>
+pub(crate) fn fault_at(alloc: Global, kind: CheckKind, function: &CFunction<'_>) -> Fail<CheckFault>
     ensures { let d = definition_found function.now in
         FailsBy (record { kind = kind; file = d.file; line = d.line; name = d.name }) result }
 {

@@ -3,7 +3,8 @@
 use crate::{Checked, check};
 use flame_rows::{Fail as Failure, NoMemory, Seq, Text};
 use flame_spec::{
-    AgentType, CheckFault, CheckKind, Def, Function, Input, MessageType, Model, Parameter, Unit, Variable,
+    AgentType, CheckFault, CheckKind, Def, Function, Input, MessageType, Model, Parameter, Unit,
+    Variable,
 };
 use std::alloc::Global;
 use std::test::Fail;

@@ -1,5 +1,5 @@
 -- Nothing is found exactly where none passes.
-use Rattle.std.proofs.Common.{◌≡◌, ◌∙◌, ap, sym, codes, false, option_map}
+use Rattle.std.proofs.Common.{◌≡◌, ◌∙◌, ap, sym, codes, false}
 use Rattle.std.specs.Prelude.{not, ◌&&◌, is_some}
 use Rattle.std.specs.List.{list_any}
 use Rattle.std.specs.Str.{bytes_eq}

@@ -1,19 +1,18 @@
 -- The C function that is found runs the function of the model.
-use Rattle.std.proofs.Common.{◌≡◌, ◌∙◌, List, [], ap, subst, find, Option, Some}
+use Rattle.std.proofs.Common.{◌∙◌, List, ap, subst, find, Option, Some}
 use Rattle.std.specs.Prelude.{IfErr, slice_get}
 use Rattle.std.proofs.lemmas.Option.{slice_get_within}
 use Rattle.std.proofs.lemmas.Result.{IfOk-weaker}
 use Rattle.flame_spec.specs.declared.faults.CheckFault.{CheckFault}
 use Rattle.flame_spec.specs.declared.models.Model.{Model}
-use Rattle.flame_spec.specs.CheckFaults.{definition_faults}
 use Rattle.flame_spec.specs.Definitions.{definitions, is_for, is_idle}
 use Rattle.flame_spec.specs.FirstFaults.{FailsFirst}
 use Rattle.flame_spec.specs.Functions.{Place, functions}
-use Rattle.flame_lookup.specs.Sources.{Standing, context_at}
+use Rattle.flame_lookup.specs.Sources.{Standing}
 use Rattle.flame_lookup.specs.WordsFound.{definition_found, place_found}
 use Rattle.flame_lookup.proofs.Places.{slice_get-type}
 use Rattle.flame_body.specs.FunctionBodies.{widths_in}
-use Rattle.flame_check.proofs.Bodies.{standing_by, function_body_is, function_clean}
+use Rattle.flame_check.proofs.Bodies.{function_body_is, function_clean}
 use Rattle.flame_check.proofs.Clean.{Runs}
 use Rattle.flame_check.proofs.Booleans.{where_false, found_there}
 use Rattle.flame_check.proofs.numbering.numbered_function.Goals as goal
