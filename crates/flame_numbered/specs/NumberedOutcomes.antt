@@ -1,0 +1,62 @@
+-- The outcome of a numbered body, and how calls of numbered helpers end.
+use Rattle.std.specs.Prelude.{ℕ, zero, suc, ℤ, List, [], map, reverse, Option, Some, None, slice_get}
+use Rattle.flame_spec.specs.declared.outcomes.Outcome.{Outcome}
+use Rattle.flame_spec.specs.declared.outcomes.Widths.{Widths}
+use Rattle.flame_spec.specs.HelperFaults.{deepest_calls}
+use Rattle.flame_body.specs.FunctionBodies.{NumberedBody}
+use Rattle.flame_sense.specs.Scenes.{Progress, Gave, failed}
+use Rattle.flame_sense.specs.Ends.{went_on, no_fuel}
+use Rattle.flame_sense.specs.HelperCalls.{gives}
+use Rattle.flame_sense.specs.Outcomes.{start, finished}
+use Rattle.flame_numbered.specs.NumberedScenes.{Answers, Before, nameless}
+use Rattle.flame_numbered.specs.NumberedMeaning.{runs_of}
+
+-- what a body of these widths has before it at its beginning: no loop is open [own]
+abbrev pub beginning : Widths → List ℤ → ℤ → List (List (List ℤ)) → Answers → Before
+beginning widths constants iteration readings answers = record {
+  widths = widths;
+  constants = constants;
+  iteration = iteration;
+  readings = readings;
+  rows = λ input. [];
+  answers = answers;
+}
+
+-- ---- helpers
+
+-- a helper begins with the values of its arguments as its locals, the first of them with number 0, without a memory,
+-- with nothing added, and with this fuel [C, 6.9.1; fuel: own]
+abbrev pub entered : List ℤ → ℕ → Progress
+entered values fuel = record { memory = []; locals = reverse (map nameless values); sent = []; born = []; fuel = fuel }
+
+-- what the body that was found gives; where there is none, its call faults as one without fuel does [own]
+abbrev pub given_by : Option NumberedBody → ℕ → List ℤ → ℤ → Answers → List ℤ → ℕ → Gave
+given_by None line constants iteration answers values fuel = failed (no_fuel line)
+given_by (Some body) line constants iteration answers values fuel =
+    gives (runs_of body.tree (beginning body.widths constants iteration [] answers) (entered values fuel))
+
+-- how calls of these helpers end where so many may be open inside one another: a call takes one unit of fuel, or has
+-- none to take, and then runs the helper's body with what is left. A call inside the last that may be open faults as
+-- one without fuel does [C, 6.5.2.2; fuel: own]
+abbrev pub answers_within : ℕ → List NumberedBody → List ℤ → ℤ → Answers
+answers_within levels helpers constants iteration line helper values zero = failed (no_fuel line)
+answers_within zero helpers constants iteration line helper values (suc fuel) = failed (no_fuel line)
+answers_within (suc levels) helpers constants iteration line helper values (suc fuel) =
+    given_by (slice_get helpers helper) line constants iteration
+    (answers_within levels helpers constants iteration) values fuel
+
+-- how calls end: at most 64 are open inside one another, the greatest height of helpers [own]
+abbrev pub helper_answers : List NumberedBody → List ℤ → ℤ → Answers
+helper_answers helpers constants iteration = answers_within deepest_calls helpers constants iteration
+
+-- ---- outcomes
+
+-- the outcome of a body with these helpers, for an agent with this memory, where loops over its inputs give these rows,
+-- an entry for each input in order, with these constants, in this iteration, with this fuel [FLAME User Manual]
+abbrev pub numbered_outcome :
+    List NumberedBody → NumberedBody → List ℤ → List (List (List ℤ)) → List ℤ → ℤ → ℕ → Outcome
+numbered_outcome helpers body memory readings constants iteration fuel =
+    finished
+    (runs_of body.tree
+    (beginning body.widths constants iteration readings (helper_answers helpers constants iteration))
+    (start memory fuel))
