@@ -1,6 +1,7 @@
 /* A plain stack interpreter: what the speed of flame_machine is measured beside. It runs the codes of
-   crates/flame_bench/src/codes.rt, instruction for instruction, with the same tests at run time: fuel, overflow, divisors
-   and indexes of arrays. The word is the number of turns of the first loop; the others turn a tenth as often. */
+   crates/flame_bench/src/codes.rt, instruction for instruction, with the same tests at run time: fuel, overflow,
+   divisors and indexes of arrays. The word is the number of turns of the first loop; the others turn a tenth as
+   often. */
 #include <limits.h>
 #include <stdint.h>
 #include <stdio.h>
@@ -8,7 +9,8 @@
 #include <string.h>
 #include <time.h>
 
-enum name { PUSH, LOC, SET_LOC, MEM, SET_MEM, MEM_AT, SET_MEM_AT, ADD, REM, LT, JUMP, JUMP_NOT_ZERO, PAY, CALL, RETURN };
+enum name { PUSH, LOC, SET_LOC, MEM, SET_MEM, MEM_AT, SET_MEM_AT, ADD, REM, LT, JUMP, JUMP_NOT_ZERO, PAY, CALL,
+    RETURN };
 enum cause { NONE, OVERFLOWS, DIVISION_BY_ZERO, BAD_INDEX, FUEL };
 
 struct instr {
@@ -129,8 +131,8 @@ int main(int count, char **words) {
     /* s = s + i % 7; */
     struct instr sum[] = {HEAD(14), {LOC, 1}, {LOC, 0}, {PUSH, 7}, {REM, 1}, {ADD, 1}, {SET_LOC, 1}, TAIL(turns)};
     /* { int t = rest(i); s = s + t; } */
-    struct instr calls[] = {HEAD(15), {LOC, 0}, {CALL, 1, 0, 1}, {SET_LOC, 2}, {LOC, 1}, {LOC, 2}, {ADD, 1}, {SET_LOC, 1},
-        TAIL(fewer)};
+    struct instr calls[] = {HEAD(15), {LOC, 0}, {CALL, 1, 0, 1}, {SET_LOC, 2}, {LOC, 1}, {LOC, 2}, {ADD, 1},
+        {SET_LOC, 1}, TAIL(fewer)};
     /* H[i % 7] = H[i % 7] + 1; */
     struct instr array[] = {HEAD(18), {LOC, 0}, {PUSH, 7}, {REM, 1}, {LOC, 0}, {PUSH, 7}, {REM, 1}, {MEM_AT, 1, 1, 7},
         {PUSH, 1}, {ADD, 1}, {SET_MEM_AT, 1, 1, 7}, TAIL(fewer)};

@@ -9,8 +9,6 @@ mod givens;
 mod lists;
 mod pools;
 mod running;
-#[cfg(test)]
-mod tests;
 mod turns;
 
 pub use fitting::{fits_entry, helpers_of};
