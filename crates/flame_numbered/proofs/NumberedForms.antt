@@ -19,107 +19,107 @@ use Rattle.flame_sense.specs.Scenes.{Progress}
 use Rattle.flame_sense.specs.Expressions.{on_value, signs_value, one_of}
 use Rattle.flame_sense.specs.Ends.{End, went_on, broke, continued, returned, with_value, with_values, on_to, as_scope}
 use Rattle.flame_sense.specs.Loops.{turn, loop}
-use Rattle.flame_numbered.specs.NumberedScenes.{Before, standing_at, slot_value, slot_numbers, span_numbers}
-use Rattle.flame_numbered.specs.NumberedMeaning.{Given, Element, one_value, chained, all_value, any_value, element_of, given_by, value_of}
-use Rattle.flame_numbered.specs.NumberedMeaning.{link_of, numbers_of, declarations, assignment, done, scope, first_arm, test_value, step_of}
+use Rattle.flame_numbered.specs.NumberedScenes.{NumberedScene, standing_at, slot_value, slot_numbers, span_numbers}
+use Rattle.flame_numbered.specs.NumberedMeaning.{ExpressionMeaning, Indexing, one_value, chained, all_value, any_value, element_of, meaning_of, value_of}
+use Rattle.flame_numbered.specs.NumberedMeaning.{link_of, argument_numbers, declarations, assignment, done, scope, first_arm, test_value, step_of}
 use Rattle.flame_numbered.specs.NumberedMeaning.{nothing, each_row, run_of, arm_of, runs_of}
 
-pub given-Number : (n : ℤ) → given_by (Number n) ≡ one_value (λ before s. Ok n)
-given-Number n = search (rules, the_lemmas)
+pub meaning-Number : (n : ℤ) → meaning_of (Number n) ≡ one_value (λ before s. Ok n)
+meaning-Number n = search (rules, the_lemmas)
 
 -- a name
-abbrev pub name_given : Slot → Given
-name_given slot = record {
+abbrev pub name_meaning : Slot → ExpressionMeaning
+name_meaning slot = record {
   value = λ before s. Ok (slot_value slot before s);
   numbers = λ before s. Ok (slot_numbers slot before s);
 }
 
-pub given-Name : (slot : Slot) → given_by (Name slot) ≡ name_given slot
-given-Name slot = search (rules, the_lemmas)
+pub meaning-Name : (slot : Slot) → meaning_of (Name slot) ≡ name_meaning slot
+meaning-Name slot = search (rules, the_lemmas)
 
 -- a variable of a row
-abbrev pub field_given : ℕ → Span → Given
-field_given input span = record {
-  value = λ before s. Ok (number_at (before.rows input) span.column);
-  numbers = λ before s. Ok (span_numbers span (before.rows input));
+abbrev pub field_meaning : ℕ → Span → ExpressionMeaning
+field_meaning input span = record {
+  value = λ before s. Ok (number_at (before.current_rows input) span.column);
+  numbers = λ before s. Ok (span_numbers span (before.current_rows input));
 }
 
-pub given-Field : (input : ℕ) (span : Span) → given_by (Field input span) ≡ field_given input span
-given-Field input span = search (rules, the_lemmas)
+pub meaning-Field : (input : ℕ) (span : Span) → meaning_of (Field input span) ≡ field_meaning input span
+meaning-Field input span = search (rules, the_lemmas)
 
-pub given-Get : (column : ℕ) → given_by (Get column) ≡ one_value (λ before s. Ok (number_at s.memory column))
-given-Get column = search (rules, the_lemmas)
+pub meaning-Get : (column : ℕ) → meaning_of (Get column) ≡ one_value (λ before s. Ok (number_at s.memory column))
+meaning-Get column = search (rules, the_lemmas)
 
 -- an index and its line
-abbrev pub element : SlotSubscript → Element
+abbrev pub element : SlotSubscript → Indexing
 element subscript = record { line = subscript.line; index = value_of subscript.index }
 
-pub given-At :
+pub meaning-At :
     (cells : Cells) (subscript : SlotSubscript)
-    → given_by (At cells subscript) ≡ one_value (element_of cells (element subscript) (λ before s. s.memory))
-given-At cells subscript = search (rules, the_lemmas)
+    → meaning_of (At cells subscript) ≡ one_value (element_of cells (element subscript) (λ before s. s.memory))
+meaning-At cells subscript = search (rules, the_lemmas)
 
-pub given-FieldAt :
+pub meaning-FieldAt :
     (input : ℕ) (cells : Cells) (subscript : SlotSubscript)
-    → given_by (FieldAt input cells subscript)
-    ≡ one_value (element_of cells (element subscript) (λ before s. before.rows input))
-given-FieldAt input cells subscript = search (rules, the_lemmas)
+    → meaning_of (FieldAt input cells subscript)
+    ≡ one_value (element_of cells (element subscript) (λ before s. before.current_rows input))
+meaning-FieldAt input cells subscript = search (rules, the_lemmas)
 
-pub given-Unary :
+pub meaning-Unary :
     (signs : List Sign) (e : SlotExpr)
-    → given_by (Unary signs e) ≡ one_value (λ before s. on_value (value_of e before s) (signs_value signs))
-given-Unary signs e = search (rules, the_lemmas)
+    → meaning_of (Unary signs e) ≡ one_value (λ before s. on_value (value_of e before s) (signs_value signs))
+meaning-Unary signs e = search (rules, the_lemmas)
 
-pub given-Chain :
+pub meaning-Chain :
     (e : SlotExpr) (links : List SlotLink)
-    → given_by (Chain e links)
+    → meaning_of (Chain e links)
     ≡ one_value (chained (value_of e) (map link_of links))
-given-Chain e links = search (rules, the_lemmas)
+meaning-Chain e links = search (rules, the_lemmas)
 
-pub given-All : (parts : List SlotExpr) → given_by (All parts) ≡ one_value (all_value (map given_by parts))
-given-All parts = search (rules, the_lemmas)
+pub meaning-All : (parts : List SlotExpr) → meaning_of (All parts) ≡ one_value (all_value (map meaning_of parts))
+meaning-All parts = search (rules, the_lemmas)
 
-pub given-Any : (parts : List SlotExpr) → given_by (Any parts) ≡ one_value (any_value (map given_by parts))
-given-Any parts = search (rules, the_lemmas)
+pub meaning-Any : (parts : List SlotExpr) → meaning_of (Any parts) ≡ one_value (any_value (map meaning_of parts))
+meaning-Any parts = search (rules, the_lemmas)
 
 -- ---- statements
 
-pub run-Empty : (before : Before) (s : Progress) → run_of Empty before s ≡ went_on s
+pub run-Empty : (before : NumberedScene) (s : Progress) → run_of Empty before s ≡ went_on s
 run-Empty before s = search (rules, stmt_lemmas)
 
 pub run-Declare :
-    (items : List SlotItem) (before : Before) (s : Progress)
+    (items : List SlotItem) (before : NumberedScene) (s : Progress)
     → run_of (Declare items) before s ≡ declarations items before s
 run-Declare items before s = search (rules, stmt_lemmas)
 
 pub run-Assign :
-    (a : SlotAssign) (before : Before) (s : Progress) → run_of (Assign a) before s ≡ assignment a before s
+    (a : SlotAssign) (before : NumberedScene) (s : Progress) → run_of (Assign a) before s ≡ assignment a before s
 run-Assign a before s = search (rules, stmt_lemmas)
 
 pub run-Call :
-    (deed : SlotDeed) (arguments : List SlotExpr) (before : Before) (s : Progress)
+    (deed : SlotDeed) (arguments : List SlotExpr) (before : NumberedScene) (s : Progress)
     → run_of (Call deed arguments) before s
-    ≡ with_values (numbers_of arguments before s) (λ values. done deed values before s)
+    ≡ with_values (argument_numbers arguments before s) (λ values. done deed values before s)
 run-Call deed arguments before s = search (rules, stmt_lemmas)
 
 pub run-Block :
-    (body : List SlotStmt) (before : Before) (s : Progress)
+    (body : List SlotStmt) (before : NumberedScene) (s : Progress)
     → run_of (Block body) before s ≡ scope (map run_of body) before s
 run-Block body before s = search (rules, stmt_lemmas)
 
 pub run-If :
-    (arms : List SlotArm) (otherwise : List SlotStmt) (before : Before) (s : Progress)
+    (arms : List SlotArm) (otherwise : List SlotStmt) (before : NumberedScene) (s : Progress)
     → run_of (If arms otherwise) before s ≡ first_arm (map arm_of arms) (scope (map run_of otherwise)) before s
 run-If arms otherwise before s = search (rules, stmt_lemmas)
 
 pub run-While :
-    (line : ℕ) (test : SlotExpr) (body : List SlotStmt) (before : Before) (s : Progress)
+    (line : ℕ) (test : SlotExpr) (body : List SlotStmt) (before : NumberedScene) (s : Progress)
     → run_of (While line test body) before s
     ≡ loop line (value_of test before) (scope (map run_of body) before) (nothing before) s
 run-While line test body before s = search (rules, stmt_lemmas)
 
 pub run-For :
-    (line : ℕ) (head : SlotHead) (body : List SlotStmt) (before : Before) (s : Progress)
+    (line : ℕ) (head : SlotHead) (body : List SlotStmt) (before : NumberedScene) (s : Progress)
     → run_of (For line head body) before s
     ≡ as_scope (λ t.
     on_to (runs_of head.first before t)
@@ -127,26 +127,26 @@ pub run-For :
 run-For line head body before s = search (rules, stmt_lemmas)
 
 pub run-Do :
-    (line : ℕ) (body : List SlotStmt) (test : SlotExpr) (before : Before) (s : Progress)
+    (line : ℕ) (body : List SlotStmt) (test : SlotExpr) (before : NumberedScene) (s : Progress)
     → run_of (Do line body test) before s
     ≡ turn line (scope (map run_of body) before)
     (loop line (value_of test before) (scope (map run_of body) before) (nothing before)) s
 run-Do line body test before s = search (rules, stmt_lemmas)
 
 pub run-Loop :
-    (line input : ℕ) (body : List SlotStmt) (before : Before) (s : Progress)
+    (line input : ℕ) (body : List SlotStmt) (before : NumberedScene) (s : Progress)
     → run_of (Loop line input body) before s
     ≡ each_row line (λ row. scope (map run_of body) (standing_at input row before))
     (slice_index_or before.readings input []) s
 run-Loop line input body before s = search (rules, stmt_lemmas)
 
 pub run-Return :
-    (e : SlotExpr) (before : Before) (s : Progress)
+    (e : SlotExpr) (before : NumberedScene) (s : Progress)
     → run_of (Return e) before s ≡ with_value (value_of e before s) (λ v. returned v s)
 run-Return e before s = search (rules, stmt_lemmas)
 
-pub run-Break : (before : Before) (s : Progress) → run_of Break before s ≡ broke s
+pub run-Break : (before : NumberedScene) (s : Progress) → run_of Break before s ≡ broke s
 run-Break before s = search (rules, stmt_lemmas)
 
-pub run-Continue : (before : Before) (s : Progress) → run_of Continue before s ≡ continued s
+pub run-Continue : (before : NumberedScene) (s : Progress) → run_of Continue before s ≡ continued s
 run-Continue before s = search (rules, stmt_lemmas)

@@ -17,10 +17,10 @@ use Rattle.flame_sense.specs.Expressions.{on_value, at_line, holds, signs_value,
 use Rattle.flame_sense.specs.Expressions.{chain_value as chain_named, all_value as all_named, any_value as any_named, value_of as value_named}
 use Rattle.flame_sense.specs.Agreement.{Agrees}
 use Rattle.flame_sense.proofs.Agreeing.{first_none, second_none}
-use Rattle.flame_numbered.specs.NumberedScenes.{Before, cell_column}
-use Rattle.flame_numbered.specs.NumberedMeaning.{Given, Reading, one_value, chain_value, all_value, any_value, given_by, value_of, link_of, numbers_of}
-use Rattle.flame_numbered.proofs.NumberedForms.{given-Number, given-Name, given-Field, given-Get, given-At, given-FieldAt, given-Unary, given-Chain}
-use Rattle.flame_numbered.proofs.NumberedForms.{given-All, given-Any}
+use Rattle.flame_numbered.specs.NumberedScenes.{NumberedScene, cell_column}
+use Rattle.flame_numbered.specs.NumberedMeaning.{ExpressionMeaning, Valued, one_value, chain_value, all_value, any_value, meaning_of, value_of, link_of, argument_numbers}
+use Rattle.flame_numbered.proofs.NumberedForms.{meaning-Number, meaning-Name, meaning-Field, meaning-Get, meaning-At, meaning-FieldAt, meaning-Unary, meaning-Chain}
+use Rattle.flame_numbered.proofs.NumberedForms.{meaning-All, meaning-Any}
 use Rattle.flame_numbered.proofs.BaredEnds.{bared}
 use Rattle.flame_numbered.proofs.SameWords.{Matches, name-same, name-numbers, cells-same, row-same, field-same, field-numbers, field-cells, got-same}
 
@@ -33,52 +33,52 @@ on-on (Ok v) f g = refl
 on-on (Err fault) f g = refl
 
 -- an expression of one value has one number
-one-number : (g : Given) (value : Reading) (before : Before) (s : Progress) → g ≡ one_value value → g.numbers before s ≡ one_of (g.value before s)
-one-number g value before s is = ap (λ (h : Given). h.numbers before s) is ∙ sym (ap (λ (h : Given). one_of (h.value before s)) is)
+one-number : (g : ExpressionMeaning) (value : Valued) (before : NumberedScene) (s : Progress) → g ≡ one_value value → g.numbers before s ≡ one_of (g.value before s)
+one-number g value before s is = ap (λ (h : ExpressionMeaning). h.numbers before s) is ∙ sym (ap (λ (h : ExpressionMeaning). one_of (h.value before s)) is)
 
-module _ (place : Context) (sight : Sight) (scene : Scene) (before : Before) (s : Progress) (a : Agrees place sight scene s) (k : Matches place sight.loops scene before) where
+module _ (place : Context) (sight : Sight) (scene : Scene) (before : NumberedScene) (s : Progress) (a : Agrees place sight scene s) (k : Matches place sight.loops scene before) where
   mutual
     pub value-same : (e : Expression) → expression_faults place sight e ≡ [] → value_of (numbered (unfiled place) sight e) before (bared s) ≡ value_named e scene s
-    value-same (number n) none = ap (λ (g : Given). g.value before (bared s)) (given-Number n)
+    value-same (number n) none = ap (λ (g : ExpressionMeaning). g.value before (bared s)) (meaning-Number n)
     value-same (name line word) none =
-        ap (λ (g : Given). g.value before (bared s)) (given-Name (slot_at (unfiled place) sight word))
+        ap (λ (g : ExpressionMeaning). g.value before (bared s)) (meaning-Name (slot_at (unfiled place) sight word))
         ∙ ap Ok (name-same place sight scene before s a k line word (first_none _ _ none))
     value-same (field line word variable) none =
-        ap (λ (g : Given). g.value before (bared s)) (given-Field (input_read (unfiled place) word) (field_span (unfiled place) word variable))
+        ap (λ (g : ExpressionMeaning). g.value before (bared s)) (meaning-Field (input_read (unfiled place) word) (field_span (unfiled place) word variable))
         ∙ ap Ok (field-same place sight scene before s a k line word variable (first_none _ _ none))
     value-same (get line word) none =
-        ap (λ (g : Given). g.value before (bared s)) (given-Get (got_column (unfiled place) word))
+        ap (λ (g : ExpressionMeaning). g.value before (bared s)) (meaning-Get (got_column (unfiled place) word))
         ∙ ap Ok (got-same place sight scene before s a k line word (first_none _ _ none))
     value-same (at line word index_line index) none =
-        ap (λ (g : Given). g.value before (bared s))
-        (given-At (cells_at (unfiled place) word) (record { line = index_line; index = numbered (unfiled place) sight index }))
+        ap (λ (g : ExpressionMeaning). g.value before (bared s))
+        (meaning-At (cells_at (unfiled place) word) (record { line = index_line; index = numbered (unfiled place) sight index }))
         ∙ ap (λ r. on_value r (λ i. element_value index_line (cell_column (cells_at (unfiled place) word) i) s.memory))
         (value-same index (second_none (unknown_faults place sight line word ++ indexed_faults place line word) _ none))
         ∙ on-same (value_named index scene s) _ _
         (λ i. ap (λ c. element_value index_line c s.memory)
         (cells-same place sight scene before s a k line word i (second_none (unknown_faults place sight line word) _ (first_none _ _ none))))
     value-same (field_at line word variable index_line index) none =
-        ap (λ (g : Given). g.value before (bared s))
-        (given-FieldAt (input_read (unfiled place) word) (field_cells (unfiled place) word variable)
+        ap (λ (g : ExpressionMeaning). g.value before (bared s))
+        (meaning-FieldAt (input_read (unfiled place) word) (field_cells (unfiled place) word variable)
         (record { line = index_line; index = numbered (unfiled place) sight index }))
         ∙ ap (λ r. on_value r (λ i.
-        element_value index_line (cell_column (field_cells (unfiled place) word variable) i) (before.rows (input_read (unfiled place) word))))
+        element_value index_line (cell_column (field_cells (unfiled place) word variable) i) (before.current_rows (input_read (unfiled place) word))))
         (value-same index (second_none (field_at_faults place sight line word variable) _ none))
         ∙ on-same (value_named index scene s) _ _
-        (λ i. ap (λ c. element_value index_line c (before.rows (input_read (unfiled place) word))) (field-cells place sight scene before s a k word variable i)
+        (λ i. ap (λ c. element_value index_line c (before.current_rows (input_read (unfiled place) word))) (field-cells place sight scene before s a k word variable i)
         ∙ ap (element_value index_line _) (row-same place sight scene before s a k line word variable (first_none _ _ (first_none _ _ none))))
     value-same (signed signs e) none =
-        ap (λ (g : Given). g.value before (bared s)) (given-Unary signs (numbered (unfiled place) sight e))
+        ap (λ (g : ExpressionMeaning). g.value before (bared s)) (meaning-Unary signs (numbered (unfiled place) sight e))
         ∙ ap (λ r. on_value r (signs_value signs)) (value-same e none)
     value-same (chain e more) none =
-        ap (λ (g : Given). g.value before (bared s)) (given-Chain (numbered (unfiled place) sight e) (numbered_links (unfiled place) sight more))
+        ap (λ (g : ExpressionMeaning). g.value before (bared s)) (meaning-Chain (numbered (unfiled place) sight e) (numbered_links (unfiled place) sight more))
         ∙ ap (λ r. on_value r (chain_value (map link_of (numbered_links (unfiled place) sight more)) before (bared s)))
         (value-same e (first_none _ _ none))
         ∙ on-same (value_named e scene s) _ _ (λ v. links-same more v (second_none (expression_faults place sight e) _ none))
     value-same (all_of parts) none =
-        ap (λ (g : Given). g.value before (bared s)) (given-All (numbered_parts (unfiled place) sight parts)) ∙ all-same parts none
+        ap (λ (g : ExpressionMeaning). g.value before (bared s)) (meaning-All (numbered_parts (unfiled place) sight parts)) ∙ all-same parts none
     value-same (any_of parts) none =
-        ap (λ (g : Given). g.value before (bared s)) (given-Any (numbered_parts (unfiled place) sight parts)) ∙ any-same parts none
+        ap (λ (g : ExpressionMeaning). g.value before (bared s)) (meaning-Any (numbered_parts (unfiled place) sight parts)) ∙ any-same parts none
 
     links-same :
         (links : Links) (v : ℤ)
@@ -97,11 +97,11 @@ module _ (place : Context) (sight : Sight) (scene : Scene) (before : Before) (s 
     all-same :
         (parts : Expressions)
         → parts_faults place sight parts ≡ []
-        → all_value (map given_by (numbered_parts (unfiled place) sight parts)) before (bared s) ≡ all_named parts scene s
+        → all_value (map meaning_of (numbered_parts (unfiled place) sight parts)) before (bared s) ≡ all_named parts scene s
     all-same no_parts none = refl
     all-same (part e parts) none =
         ap (λ r. on_value r (λ v.
-        cond (holds v) (all_value (map given_by (numbered_parts (unfiled place) sight parts)) before (bared s)) (Ok (pos 0))))
+        cond (holds v) (all_value (map meaning_of (numbered_parts (unfiled place) sight parts)) before (bared s)) (Ok (pos 0))))
         (value-same e (first_none _ _ none))
         ∙ on-same (value_named e scene s) _ _
         (λ v. ap (λ r. cond (holds v) r (Ok (pos 0))) (all-same parts (second_none (expression_faults place sight e) _ none)))
@@ -109,11 +109,11 @@ module _ (place : Context) (sight : Sight) (scene : Scene) (before : Before) (s 
     any-same :
         (parts : Expressions)
         → parts_faults place sight parts ≡ []
-        → any_value (map given_by (numbered_parts (unfiled place) sight parts)) before (bared s) ≡ any_named parts scene s
+        → any_value (map meaning_of (numbered_parts (unfiled place) sight parts)) before (bared s) ≡ any_named parts scene s
     any-same no_parts none = refl
     any-same (part e parts) none =
         ap (λ r. on_value r (λ v.
-        cond (holds v) (Ok (pos 1)) (any_value (map given_by (numbered_parts (unfiled place) sight parts)) before (bared s))))
+        cond (holds v) (Ok (pos 1)) (any_value (map meaning_of (numbered_parts (unfiled place) sight parts)) before (bared s))))
         (value-same e (first_none _ _ none))
         ∙ on-same (value_named e scene s) _ _
         (λ v. ap (λ r. cond (holds v) (Ok (pos 1)) r) (any-same parts (second_none (expression_faults place sight e) _ none)))
@@ -122,46 +122,46 @@ module _ (place : Context) (sight : Sight) (scene : Scene) (before : Before) (s 
 
   -- an expression that is no name and no variable of a row
   one-same :
-      (e : Expression) (value : Reading)
-      → given_by (numbered (unfiled place) sight e) ≡ one_value value
+      (e : Expression) (value : Valued)
+      → meaning_of (numbered (unfiled place) sight e) ≡ one_value value
       → value_of (numbered (unfiled place) sight e) before (bared s) ≡ value_named e scene s
-      → (given_by (numbered (unfiled place) sight e)).numbers before (bared s) ≡ one_of (value_named e scene s)
-  one-same e value is same = one-number (given_by (numbered (unfiled place) sight e)) value before (bared s) is ∙ ap one_of same
+      → (meaning_of (numbered (unfiled place) sight e)).numbers before (bared s) ≡ one_of (value_named e scene s)
+  one-same e value is same = one-number (meaning_of (numbered (unfiled place) sight e)) value before (bared s) is ∙ ap one_of same
 
   pub argument-same :
       (e : Expression)
       → whole_faults place sight e ≡ []
-      → (given_by (numbered (unfiled place) sight e)).numbers before (bared s) ≡ argument_values e scene s
+      → (meaning_of (numbered (unfiled place) sight e)).numbers before (bared s) ≡ argument_values e scene s
   argument-same (name line word) none =
-      ap (λ (g : Given). g.numbers before (bared s)) (given-Name (slot_at (unfiled place) sight word))
+      ap (λ (g : ExpressionMeaning). g.numbers before (bared s)) (meaning-Name (slot_at (unfiled place) sight word))
       ∙ ap Ok (name-numbers place sight scene before s a k line word none)
   argument-same (field line word variable) none =
-      ap (λ (g : Given). g.numbers before (bared s)) (given-Field (input_read (unfiled place) word) (field_span (unfiled place) word variable))
+      ap (λ (g : ExpressionMeaning). g.numbers before (bared s)) (meaning-Field (input_read (unfiled place) word) (field_span (unfiled place) word variable))
       ∙ ap Ok (field-numbers place sight scene before s a k line word variable none)
   argument-same (get line word) none =
-      one-same (get line word) _ (given-Get (got_column (unfiled place) word))
-      (ap (λ (g : Given). g.value before (bared s)) (given-Get (got_column (unfiled place) word))
+      one-same (get line word) _ (meaning-Get (got_column (unfiled place) word))
+      (ap (λ (g : ExpressionMeaning). g.value before (bared s)) (meaning-Get (got_column (unfiled place) word))
       ∙ ap Ok (got-same place sight scene before s a k line word none))
-  argument-same (number n) none = one-same (number n) _ (given-Number n) (value-same (number n) refl)
+  argument-same (number n) none = one-same (number n) _ (meaning-Number n) (value-same (number n) refl)
   argument-same (at line word index_line index) none =
       one-same (at line word index_line index) _
-      (given-At (cells_at (unfiled place) word) (record { line = index_line; index = numbered (unfiled place) sight index }))
+      (meaning-At (cells_at (unfiled place) word) (record { line = index_line; index = numbered (unfiled place) sight index }))
       (value-same (at line word index_line index) none)
   argument-same (field_at line word variable index_line index) none =
       one-same (field_at line word variable index_line index) _
-      (given-FieldAt (input_read (unfiled place) word) (field_cells (unfiled place) word variable)
+      (meaning-FieldAt (input_read (unfiled place) word) (field_cells (unfiled place) word variable)
       (record { line = index_line; index = numbered (unfiled place) sight index }))
       (value-same (field_at line word variable index_line index) none)
   argument-same (signed signs e) none =
-      one-same (signed signs e) _ (given-Unary signs (numbered (unfiled place) sight e)) (value-same (signed signs e) none)
+      one-same (signed signs e) _ (meaning-Unary signs (numbered (unfiled place) sight e)) (value-same (signed signs e) none)
   argument-same (chain e more) none =
       one-same (chain e more) _
-      (given-Chain (numbered (unfiled place) sight e) (numbered_links (unfiled place) sight more))
+      (meaning-Chain (numbered (unfiled place) sight e) (numbered_links (unfiled place) sight more))
       (value-same (chain e more) none)
   argument-same (all_of parts) none =
-      one-same (all_of parts) _ (given-All (numbered_parts (unfiled place) sight parts)) (value-same (all_of parts) none)
+      one-same (all_of parts) _ (meaning-All (numbered_parts (unfiled place) sight parts)) (value-same (all_of parts) none)
   argument-same (any_of parts) none =
-      one-same (any_of parts) _ (given-Any (numbered_parts (unfiled place) sight parts)) (value-same (any_of parts) none)
+      one-same (any_of parts) _ (meaning-Any (numbered_parts (unfiled place) sight parts)) (value-same (any_of parts) none)
 
   -- without faults as a value, it has none as an argument
   whole-none : (e : Expression) → expression_faults place sight e ≡ [] → whole_faults place sight e ≡ []
@@ -186,16 +186,16 @@ module _ (place : Context) (sight : Sight) (scene : Scene) (before : Before) (s 
   both-same :
       (e : Expression) (parts : Expressions)
       → whole_faults place sight e ≡ []
-      → numbers_of (numbered_parts (unfiled place) sight parts) before (bared s) ≡ values_of parts scene s
-      → numbers_of (numbered_parts (unfiled place) sight (part e parts)) before (bared s) ≡ values_of (part e parts) scene s
+      → argument_numbers (numbered_parts (unfiled place) sight parts) before (bared s) ≡ values_of parts scene s
+      → argument_numbers (numbered_parts (unfiled place) sight (part e parts)) before (bared s) ≡ values_of (part e parts) scene s
   both-same e parts none more =
-      ap (λ r. values_and r (numbers_of (numbered_parts (unfiled place) sight parts) before (bared s))) (argument-same e none)
+      ap (λ r. values_and r (argument_numbers (numbered_parts (unfiled place) sight parts) before (bared s))) (argument-same e none)
       ∙ ap (values_and (argument_values e scene s)) more
 
   parts-same :
       (parts : Expressions)
       → parts_faults place sight parts ≡ []
-      → numbers_of (numbered_parts (unfiled place) sight parts) before (bared s) ≡ values_of parts scene s
+      → argument_numbers (numbered_parts (unfiled place) sight parts) before (bared s) ≡ values_of parts scene s
   parts-same no_parts none = refl
   parts-same (part e parts) none =
       both-same e parts (whole-none e (first_none _ _ none)) (parts-same parts (second_none (expression_faults place sight e) _ none))
@@ -203,7 +203,7 @@ module _ (place : Context) (sight : Sight) (scene : Scene) (before : Before) (s 
   pub arguments-same :
       (line : ℕ) (word : List ℕ) (variables : List Variable) (parts : Expressions)
       → arguments_faults place sight line word variables parts ≡ []
-      → numbers_of (numbered_parts (unfiled place) sight parts) before (bared s) ≡ values_of parts scene s
+      → argument_numbers (numbered_parts (unfiled place) sight parts) before (bared s) ≡ values_of parts scene s
   arguments-same line word variables no_parts none = refl
   arguments-same line word [] (part e parts) none = parts-same (part e parts) none
   arguments-same line word (variable ∷ variables) (part e parts) none =

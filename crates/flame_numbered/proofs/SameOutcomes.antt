@@ -29,9 +29,9 @@ use Rattle.flame_sense.specs.Agreement.{Agrees}
 use Rattle.flame_sense.specs.AcceptedMeaning.{place_in}
 use Rattle.flame_sense.proofs.Agreeing.{function_begins, helper_begins}
 use Rattle.flame_sense.proofs.Checked.{function_checked, helper_checked}
-use Rattle.flame_numbered.specs.NumberedScenes.{Before, nameless}
+use Rattle.flame_numbered.specs.NumberedScenes.{NumberedScene, nameless}
 use Rattle.flame_numbered.specs.NumberedMeaning.{runs_of}
-use Rattle.flame_numbered.specs.NumberedOutcomes.{beginning, entered, given_by, answers_within, helper_answers, numbered_outcome}
+use Rattle.flame_numbered.specs.NumberedOutcomes.{beginning, entered, body_gives, answers_within, helper_answers, numbered_outcome}
 use Rattle.flame_numbered.specs.NumberedLaws.{OutcomesAreNumbered}
 use Rattle.flame_numbered.proofs.BaredLocals.{bare}
 use Rattle.flame_numbered.proofs.BaredEnds.{bared, bared_end}
@@ -106,7 +106,7 @@ module _ (model : Model) (units : List file.Unit) (none : check_faults model uni
   answers-same (suc levels) constants iteration word found line values zero is fit = refl
   answers-same zero constants iteration word found line values (suc fuel) is fit = refl
   answers-same (suc levels) constants iteration word found line values (suc fuel) is fit =
-      ap (λ o. given_by o line constants iteration (answers_within levels (helper_bodies model units) constants iteration) values fuel)
+      ap (λ o. body_gives o constants iteration (answers_within levels (helper_bodies model units) constants iteration) values fuel)
       (bodies-by-number.helper_at model units found.0 ∙ ap (option_map (helper_body model units found.0)) there)
       ∙ ap (λ s. gives (runs_of tree before s)) (sym (entered-bare d.parameters values fuel fit))
       ∙ ap gives (sym (statements-same place here scene before (entered_named d.parameters values fuel) d.body agrees
@@ -131,7 +131,7 @@ module _ (model : Model) (units : List file.Unit) (none : check_faults model uni
       tree : List SlotStmt
       tree = (helper_body model units found.0 d).tree
 
-      before : Before
+      before : NumberedScene
       before =
           beginning (widths_in model None) constants iteration []
           (answers_within levels (helper_bodies model units) constants iteration)
@@ -161,7 +161,7 @@ module _ (model : Model) (units : List file.Unit) (none : check_faults model uni
             same_iteration = refl;
             readings = refl;
             inputs = λ message opens. absurd (no-loop message opens);
-            rows = λ number message named opens. absurd (no-loop message opens);
+            current_rows = λ number message named opens. absurd (no-loop message opens);
             answers = more;
           })
 
@@ -181,7 +181,7 @@ outcomes-are-numbered source function place memory readings constants iteration 
     scene : Scene
     scene = scene_of source place readings constants iteration
 
-    before : Before
+    before : NumberedScene
     before =
         beginning (widths_in source.model (Some place)) constants iteration readings
         (helper_answers (helper_bodies source.model source.units) constants iteration)
@@ -196,6 +196,6 @@ outcomes-are-numbered source function place memory readings constants iteration 
       same_iteration = refl;
       readings = refl;
       inputs = λ message opens. absurd (no-loop message opens);
-      rows = λ number message named opens. absurd (no-loop message opens);
+      current_rows = λ number message named opens. absurd (no-loop message opens);
       answers = λ other x l vs f h n. answers-same source.model source.units none deepest_calls constants iteration other x l vs f h n;
     }

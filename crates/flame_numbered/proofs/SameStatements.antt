@@ -31,7 +31,7 @@ use Rattle.flame_sense.specs.Agreement.{message_loop, Agrees}
 use Rattle.flame_sense.specs.AcceptedMeaning.{WentOnAgrees, EndAgrees}
 use Rattle.flame_sense.proofs.Agreeing.{first_none, second_none, no_fault, named_first, statement_agrees, statements_agree, end_agrees, scope_agrees, inside_agree}
 use Rattle.flame_sense.proofs.Naming.{body_names}
-use Rattle.flame_numbered.specs.NumberedScenes.{Before, standing_at}
+use Rattle.flame_numbered.specs.NumberedScenes.{NumberedScene, standing_at}
 use Rattle.flame_numbered.specs.NumberedMeaning.{value_of, scope, first_arm, test_value, step_of, nothing, Run, in_turn, each_row, run_of, arm_of, runs_of}
 use Rattle.flame_numbered.proofs.NumberedForms.{run-Empty, run-Declare, run-Assign, run-Call, run-Block, run-If, run-While, run-For, run-Do, run-Loop, run-Return}
 use Rattle.flame_numbered.proofs.NumberedForms.{run-Break, run-Continue}
@@ -68,7 +68,7 @@ all-loops sight (also x xs) = all-loops (after sight x) xs ∙ after-loops sight
 
 -- a loop over no message changes nothing of what stands before a body
 matches-plain :
-    (place : Context) (loops : List Loop) (scene : Scene) (before : Before)
+    (place : Context) (loops : List Loop) (scene : Scene) (before : NumberedScene)
     → Matches place loops scene before
     → Matches place (over_none ∷ loops) scene before
 matches-plain place loops scene before k = record {
@@ -77,7 +77,7 @@ matches-plain place loops scene before k = record {
   same_iteration = k.same_iteration;
   readings = k.readings;
   inputs = k.inputs;
-  rows = k.rows;
+  current_rows = k.current_rows;
   answers = k.answers;
 }
 
@@ -109,7 +109,7 @@ input-there (Some p) message h = h
 -- ---- bodies
 
 -- these statements do the same at each progress that agrees with the place
-abbrev pub BodySame : Context → Sight → Scene → Before → Statements → Type 0
+abbrev pub BodySame : Context → Sight → Scene → NumberedScene → Statements → Type 0
 BodySame place sight scene before body =
     (t : Progress)
     → Agrees place sight scene t
@@ -117,7 +117,7 @@ BodySame place sight scene before body =
 
 -- a body that is a scope
 body-same :
-    (place : Context) (sight : Sight) (scene : Scene) (before : Before) (s : Progress) (body : Statements)
+    (place : Context) (sight : Sight) (scene : Scene) (before : NumberedScene) (s : Progress) (body : Statements)
     → Agrees place (in_scope sight) scene s
     → BodySame place (in_scope sight) scene before body
     → bared_end (as_scope (meanings body scene) s)
@@ -127,7 +127,7 @@ body-same place sight scene before s body a same =
 
 -- the body of a loop over no message
 plain-body :
-    (place : Context) (sight : Sight) (scene : Scene) (before : Before) (body : Statements)
+    (place : Context) (sight : Sight) (scene : Scene) (before : NumberedScene) (body : Statements)
     → BodySame place (in_loop over_none sight) scene before body
     → Alike place sight scene (as_scope (meanings body scene))
     (scope (map run_of (numbered_statements (unfiled place) (in_loop over_none sight) body)) before)
@@ -136,7 +136,7 @@ plain-body place sight scene before body same t agrees =
     (same t (inside_agree place sight scene t [] agrees).1)
 
 test-same :
-    (place : Context) (sight : Sight) (scene : Scene) (before : Before) (t : Progress) (test : Option Expression)
+    (place : Context) (sight : Sight) (scene : Scene) (before : NumberedScene) (t : Progress) (test : Option Expression)
     → Agrees place sight scene t
     → Matches place sight.loops scene before
     → optional_faults place sight test ≡ []
@@ -154,7 +154,7 @@ step-goes place sight scene t (Some b) agrees none = statement_agrees place sigh
 
 -- a loop without a step
 plain-loop :
-    (place : Context) (sight : Sight) (scene : Scene) (before : Before) (line : ℕ) (test : Expression) (body : Statements)
+    (place : Context) (sight : Sight) (scene : Scene) (before : NumberedScene) (line : ℕ) (test : Expression) (body : Statements)
     → Matches place sight.loops scene before
     → expression_faults place sight test ≡ []
     → BodySame place (in_loop over_none sight) scene before body
@@ -174,7 +174,7 @@ plain-loop place sight scene before line test body k none same =
     (λ t agrees. agrees)
 
 for-same :
-    (place : Context) (sight : Sight) (scene : Scene) (before : Before) (s : Progress) (line : ℕ) (first : Statements)
+    (place : Context) (sight : Sight) (scene : Scene) (before : NumberedScene) (s : Progress) (line : ℕ) (first : Statements)
     (test : Option Expression) (step : Option Assigned) (body : Statements)
     → Agrees place sight scene s
     → Matches place sight.loops scene before
@@ -233,7 +233,7 @@ abbrev pub at_row : ℕ × MessageType → List ℤ → Scene → Scene
 at_row found row scene = inside (record { message = found.0; row = row }) scene
 
 -- these statements do the same in a loop over a message, at each row
-abbrev pub MessageBody : Context → Sight → Scene → Before → Statements → Type 0
+abbrev pub MessageBody : Context → Sight → Scene → NumberedScene → Statements → Type 0
 MessageBody place sight scene before body =
     (found : ℕ × MessageType) (input : ℕ) (row : List ℤ) (t : Progress)
     → Agrees place (in_loop (over_message found.1.name) sight) (at_row found row scene) t
@@ -243,7 +243,7 @@ MessageBody place sight scene before body =
     ≡ runs_of (numbered_statements (unfiled place) (in_loop (over_message found.1.name) sight) body) (standing_at input row before) (bared t)
 
 message-same :
-    (place : Context) (sight : Sight) (scene : Scene) (before : Before) (s : Progress) (line : ℕ) (word : List ℕ)
+    (place : Context) (sight : Sight) (scene : Scene) (before : NumberedScene) (s : Progress) (line : ℕ) (word : List ℕ)
     (body : Statements)
     → Agrees place sight scene s
     → Matches place sight.loops scene before
@@ -315,7 +315,7 @@ either-end false x y v w first second = second
 
 mutual
   pub statement-same :
-      (place : Context) (sight : Sight) (scene : Scene) (before : Before) (s : Progress) (x : Statement)
+      (place : Context) (sight : Sight) (scene : Scene) (before : NumberedScene) (s : Progress) (x : Statement)
       → Agrees place sight scene s
       → Matches place sight.loops scene before
       → statement_faults place sight x ≡ []
@@ -393,7 +393,7 @@ mutual
   statement-same place sight scene before s (continue line) a k none = sym (run-Continue before (bared s))
 
   pub statements-same :
-      (place : Context) (sight : Sight) (scene : Scene) (before : Before) (s : Progress) (xs : Statements)
+      (place : Context) (sight : Sight) (scene : Scene) (before : NumberedScene) (s : Progress) (xs : Statements)
       → Agrees place sight scene s
       → Matches place sight.loops scene before
       → statements_faults place sight xs ≡ []
@@ -410,8 +410,8 @@ mutual
       (statement-same place sight scene before s x a k (first_none _ _ none))
 
   pub arms-same :
-      (place : Context) (sight : Sight) (scene : Scene) (before : Before) (s : Progress) (arms : Arms)
-      (otherwise : Progress → End) (other : Before → Progress → End)
+      (place : Context) (sight : Sight) (scene : Scene) (before : NumberedScene) (s : Progress) (arms : Arms)
+      (otherwise : Progress → End) (other : NumberedScene → Progress → End)
       → Agrees place sight scene s
       → Matches place sight.loops scene before
       → arms_faults place sight arms ≡ []

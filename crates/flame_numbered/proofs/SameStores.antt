@@ -18,6 +18,7 @@ use Rattle.flame_spec.specs.StatementFaults.{stored_faults, is_read_only, subscr
 use Rattle.flame_spec.specs.StatementFaults.{declared_faults, optional_stored_faults}
 use Rattle.flame_spec.specs.Trees.{Expressions, Stored, plain, called, Indexed, Declared, Assigned}
 use Rattle.flame_body.specs.declared.slots.SlotTarget.{SlotTarget}
+use Rattle.flame_body.specs.declared.slots.SlotTarget.TheVariants as target
 use Rattle.flame_body.specs.WordSlots.{local_number, slot_or_given, target_or_given, target_at, cells_at, deed_slot, deed_at, helper_at, number_found}
 use Rattle.flame_body.specs.NumberedTrees.{numbered, numbered_parts, numbered_index, numbered_stored, numbered_target, numbered_assignment, numbered_items}
 use Rattle.flame_body.specs.FunctionBodies.{widths_in}
@@ -34,14 +35,26 @@ use Rattle.flame_sense.specs.AcceptedMeaning.{PlaceFinds, room, Fits}
 use Rattle.flame_sense.proofs.Agreeing.{first_none, second_none, true≢false, item_agrees, inside_agree}
 use Rattle.flame_sense.proofs.Finding.{memory_there, place_finds}
 use Rattle.flame_sense.proofs.Fitting.{stored_finds, call_does}
-use Rattle.flame_numbered.specs.NumberedScenes.{Before, cell_column, slot_value}
-use Rattle.flame_numbered.specs.NumberedMeaning.{value_of, numbers_of, by_value, by_initial, with_local, declarations, set_target, target_value}
+use Rattle.flame_numbered.specs.NumberedScenes.{NumberedScene, cell_column, local_at, slot_value}
+use Rattle.flame_numbered.specs.NumberedMeaning.{value_of, argument_numbers, by_value, by_initial, with_local, declarations, with_local_at}
 use Rattle.flame_numbered.specs.NumberedMeaning.{plainly_assigned, element_assigned, assigned_by, assignment, done, step_of}
 use Rattle.flame_numbered.proofs.BaredLocals.{bare, no-value, value-found, set-found}
 use Rattle.flame_numbered.proofs.BaredEnds.{bared, bared_end, value-bared, values-bared, column-bared, call-bared, fuelled}
 use Rattle.flame_numbered.proofs.SameWords.{Matches, memory_of, memory-of, name-same, cells-same}
 use Rattle.flame_numbered.proofs.SameExpressions.{value-same, arguments-same}
 use Rattle.flame_numbered.proofs.Deeds.{sent_in, born_in, called_in, sent-by, born-by, called-by}
+
+-- a local or a memory variable has the value
+abbrev pub set_target : SlotTarget → ℤ → Progress → Progress
+set_target (target.Local number) = with_local_at number
+set_target (target.Memory column) = set_column column
+set_target (target.Element cells subscript) = λ v s. s
+
+-- the value of a local or of a memory variable
+abbrev pub target_value : SlotTarget → Progress → ℤ
+target_value (target.Local number) = λ s. local_at number s.locals
+target_value (target.Memory column) = λ s. number_at s.memory column
+target_value (target.Element cells subscript) = λ s. pos 0
 
 -- the arguments of a helper's call have no faults
 helper-arguments :
@@ -52,7 +65,7 @@ helper-arguments :
 helper-arguments place sight None line word arguments none there = absurd (true≢false (sym there))
 helper-arguments place sight (Some found) line word arguments none there = second_none _ _ none
 
-module _ (place : Context) (sight : Sight) (scene : Scene) (before : Before) (s : Progress) (a : Agrees place sight scene s) (k : Matches place sight.loops scene before) where
+module _ (place : Context) (sight : Sight) (scene : Scene) (before : NumberedScene) (s : Progress) (a : Agrees place sight scene s) (k : Matches place sight.loops scene before) where
   helpers-there : (word : List ℕ) → helper_named scene.context.helpers word ≡ helper_named place.helpers word
   helpers-there word = ap (λ (c : Context). helper_named c.helpers word) a.there
 
@@ -98,7 +111,7 @@ module _ (place : Context) (sight : Sight) (scene : Scene) (before : Before) (s 
   -- it is a local or a memory variable
   target-plain :
       (o : Option ℕ) (g : Option Given)
-      → assigned_by (target_or_given o g) ≡ plainly_assigned (target_or_given o g)
+      → assigned_by (target_or_given o g) ≡ plainly_assigned (target_value (target_or_given o g)) (set_target (target_or_given o g))
   target-plain (Some n) g = refl
   target-plain None g = refl
 
@@ -159,9 +172,9 @@ module _ (place : Context) (sight : Sight) (scene : Scene) (before : Before) (s 
       (line : ℕ) (word : List ℕ)
       → unknown_faults place sight line word ≡ []
       → PlaceFinds word None scene s
-      → target_value (target_at (unfiled place) sight word) before (bared s) ≡ named word scene s
+      → target_value (target_at (unfiled place) sight word) (bared s) ≡ named word scene s
   read-same line word none finds =
-      ap (λ o. target_value (target_or_given o (given_at place word)) before (bared s)) (sym (number-there word))
+      ap (λ o. target_value (target_or_given o (given_at place word)) (bared s)) (sym (number-there word))
       ∙ by_number (local_number (names_of s.locals) word) refl (given_at place word) refl
     where
       named-so :
@@ -179,7 +192,7 @@ module _ (place : Context) (sight : Sight) (scene : Scene) (before : Before) (s 
           → local_number (names_of s.locals) word ≡ o
           → (g : Option Given)
           → given_at place word ≡ g
-          → target_value (target_or_given o g) before (bared s) ≡ named word scene s
+          → target_value (target_or_given o g) (bared s) ≡ named word scene s
       by_number (Some n) is g given = named-so (Some n) g is given
       by_number None is (Some (in_memory column variable)) given = named-so None (Some (in_memory column variable)) is given
       by_number None is (Some (constant n)) given =
@@ -196,12 +209,13 @@ module _ (place : Context) (sight : Sight) (scene : Scene) (before : Before) (s 
       → PlaceFinds b.name None scene s
       → stored_faults place sight b.value ≡ []
       → bared_end (assigned_named None op b scene s)
-      ≡ plainly_assigned (target_at (unfiled place) sight b.name) op b.op_line (numbered_stored (unfiled place) sight b.value) before (bared s)
+      ≡ plainly_assigned (target_value (target_at (unfiled place) sight b.name)) (set_target (target_at (unfiled place) sight b.name)) op
+      b.op_line (numbered_stored (unfiled place) sight b.value) before (bared s)
   plain-same None b none finds stored =
       stored-same b.value _ _ stored (λ v fuel. ap went_on (set-same b.name v fuel finds))
   plain-same (Some op) b none finds stored =
       stored-same b.value _ (λ v t.
-      with_value (at_line b.op_line (applied op (target_value (target_at (unfiled place) sight b.name) before (bared s)) v))
+      with_value (at_line b.op_line (applied op (target_value (target_at (unfiled place) sight b.name) (bared s)) v))
       (λ w. went_on (set_target (target_at (unfiled place) sight b.name) w t)))
       stored
       (λ v fuel.
@@ -357,7 +371,7 @@ module _ (place : Context) (sight : Sight) (scene : Scene) (before : Before) (s 
       (line : ℕ) (word : List ℕ) (arguments : Expressions)
       → call_faults place sight line word arguments ≡ []
       → bared_end (with_values (values_of arguments scene s) (λ values. done_named (deed_of scene.context word) line values scene s))
-      ≡ with_values (numbers_of (numbered_parts (unfiled place) sight arguments) before (bared s))
+      ≡ with_values (argument_numbers (numbered_parts (unfiled place) sight arguments) before (bared s))
       (λ values. done (deed_at (unfiled place) line word) values before (bared s))
   call-same line word arguments none =
       let does = call_does place sight scene s a line word arguments none in
@@ -378,7 +392,7 @@ module _ (place : Context) (sight : Sight) (scene : Scene) (before : Before) (s 
 -- ---- declarations
 
 pub items-same :
-    (place : Context) (sight : Sight) (scene : Scene) (before : Before) (s : Progress) (items : List Declared)
+    (place : Context) (sight : Sight) (scene : Scene) (before : NumberedScene) (s : Progress) (items : List Declared)
     → Agrees place sight scene s
     → Matches place sight.loops scene before
     → items_faults place sight items ≡ []

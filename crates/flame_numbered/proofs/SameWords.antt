@@ -29,21 +29,21 @@ use Rattle.flame_sense.specs.Outcomes.{message_named}
 use Rattle.flame_sense.specs.Agreement.{names_of, Agrees}
 use Rattle.flame_sense.proofs.Agreeing.{no_fault, true≢false, named_first}
 use Rattle.flame_sense.proofs.Finding.{given_there, memory_there, messages_there, named_there, array_there, given_array}
-use Rattle.flame_numbered.specs.NumberedScenes.{Before, slot_value, slot_numbers, span_numbers, cell_column}
+use Rattle.flame_numbered.specs.NumberedScenes.{NumberedScene, slot_value, slot_numbers, span_numbers, cell_column}
 use Rattle.flame_numbered.proofs.BaredLocals.{bare, no-value, value-found}
 use Rattle.flame_numbered.proofs.BaredEnds.{bared}
 
 -- what a numbered body has before it is what the named one has at a place in these loops
-pub record Matches (place : Context) (loops : List Loop) (scene : Scene) (before : Before) : Type 0 where
+pub record Matches (place : Context) (loops : List Loop) (scene : Scene) (before : NumberedScene) : Type 0 where
   pub widths : before.widths ≡ widths_in place.model place.runs
   pub constants : before.constants ≡ scene.constants
   pub same_iteration : before.iteration ≡ scene.iteration
   pub readings : before.readings ≡ scene.readings
   pub inputs : (message : MessageType) → list_any (is_over message) loops ≡ true → is_some (input_in place.runs message) ≡ true
-  pub rows : (number : ℕ) (message : MessageType)
+  pub current_rows : (number : ℕ) (message : MessageType)
       → message_named (messages_at place) message.name ≡ Some (number, message)
       → list_any (is_over message) loops ≡ true
-      → before.rows (number_found (input_in place.runs message)) ≡ row_over number scene.open_loops
+      → before.current_rows (number_found (input_in place.runs message)) ≡ row_over number scene.open_loops
   pub answers : (word : List ℕ) (found : ℕ × Definition) (line : ℕ) (values : List ℤ) (fuel : ℕ)
       → helper_named place.helpers word ≡ Some found
       → length values ≡ length found.1.parameters
@@ -104,7 +104,7 @@ pub found-numbers :
 found-numbers None row h = absurd (true≢false (sym h))
 found-numbers (Some found) row h = refl
 
-module _ (place : Context) (sight : Sight) (scene : Scene) (before : Before) (s : Progress) (a : Agrees place sight scene s) (k : Matches place sight.loops scene before) where
+module _ (place : Context) (sight : Sight) (scene : Scene) (before : NumberedScene) (s : Progress) (a : Agrees place sight scene s) (k : Matches place sight.loops scene before) where
   -- ---- names
 
   -- a visible word without a number is given by the model
@@ -239,11 +239,11 @@ module _ (place : Context) (sight : Sight) (scene : Scene) (before : Before) (s 
   pub row-same :
       (line : ℕ) (word variable : List ℕ)
       → row_faults place sight line word variable ≡ []
-      → before.rows (input_read (unfiled place) word) ≡ row_read word scene
+      → before.current_rows (input_read (unfiled place) word) ≡ row_read word scene
   row-same line word variable none =
       let found = row-found place sight line word variable none in
-      ap (λ m. before.rows (number_found (input_found place.runs m))) found.found
-      ∙ k.rows found.message.0 found.message.1
+      ap (λ m. before.current_rows (number_found (input_found place.runs m))) found.found
+      ∙ k.current_rows found.message.0 found.message.1
       (named_first (λ n. bytes_eq (n ++ codes "_message") word) (messages_at place) found.message found.found)
       found.opened
       ∙ sym (ap (λ m. row_found m scene.open_loops)
@@ -263,7 +263,7 @@ module _ (place : Context) (sight : Sight) (scene : Scene) (before : Before) (s 
   pub field-same :
       (line : ℕ) (word variable : List ℕ)
       → row_faults place sight line word variable ≡ []
-      → number_at (before.rows (input_read (unfiled place) word)) (field_span (unfiled place) word variable).column
+      → number_at (before.current_rows (input_read (unfiled place) word)) (field_span (unfiled place) word variable).column
       ≡ field_value word variable scene
   field-same line word variable none =
       ap (λ row. number_at row (field_span (unfiled place) word variable).column) (row-same line word variable none)
@@ -273,7 +273,7 @@ module _ (place : Context) (sight : Sight) (scene : Scene) (before : Before) (s 
   pub field-numbers :
       (line : ℕ) (word variable : List ℕ)
       → row_faults place sight line word variable ≡ []
-      → span_numbers (field_span (unfiled place) word variable) (before.rows (input_read (unfiled place) word))
+      → span_numbers (field_span (unfiled place) word variable) (before.current_rows (input_read (unfiled place) word))
       ≡ numbers_of (member_read scene.context word variable) (row_read word scene) (field_value word variable scene)
   field-numbers line word variable none =
       ap (span_numbers (field_span (unfiled place) word variable)) (row-same line word variable none)

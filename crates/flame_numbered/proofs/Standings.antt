@@ -16,7 +16,7 @@ use Rattle.flame_sense.specs.Scenes.{Scene, Current, row_over}
 use Rattle.flame_sense.specs.Statements.{inside}
 use Rattle.flame_sense.specs.Outcomes.{message_named}
 use Rattle.flame_sense.proofs.Agreeing.{same_bytes, bytes_same, true≢false}
-use Rattle.flame_numbered.specs.NumberedScenes.{Before, standing_at}
+use Rattle.flame_numbered.specs.NumberedScenes.{NumberedScene, standing_at}
 use Rattle.flame_numbered.proofs.SameWords.{Matches}
 
 -- messages that are first of their names and have the same number have the same name
@@ -64,7 +64,7 @@ not-equal a b h = by_test (a == b) refl
 
 -- inside a loop over the message, which is over this input and stands at this row
 pub matches-inside :
-    (place : Context) (loops : List Loop) (scene : Scene) (before : Before) (number : ℕ) (message : MessageType)
+    (place : Context) (loops : List Loop) (scene : Scene) (before : NumberedScene) (number : ℕ) (message : MessageType)
     (input : ℕ × Input) (row : List ℤ)
     → Matches place loops scene before
     → message_named (messages_at place) message.name ≡ Some (number, message)
@@ -77,7 +77,7 @@ matches-inside place loops scene before number message input row k first is = re
   same_iteration = k.same_iteration;
   readings = k.readings;
   inputs = λ other opens. has_input other (bytes_eq message.name other.name) refl opens;
-  rows = λ n other named opens. row_there n other named (bytes_eq message.name other.name) refl opens;
+  current_rows = λ n other named opens. row_there n other named (bytes_eq message.name other.name) refl opens;
   answers = k.answers;
 }
   where
@@ -103,7 +103,7 @@ matches-inside place loops scene before number message input row k first is = re
         → (b : Bool)
         → bytes_eq message.name other.name ≡ b
         → (b || list_any (is_over other) loops) ≡ true
-        → (standing_at input.0 row before).rows (number_found (input_in place.runs other))
+        → (standing_at input.0 row before).current_rows (number_found (input_in place.runs other))
         ≡ row_over n (record { message = number; row = row } ∷ scene.open_loops)
     row_there n other named true e opens =
         let same : message.name ≡ other.name = same_bytes message.name other.name e in
@@ -111,8 +111,8 @@ matches-inside place loops scene before number message input row k first is = re
         = sym first ∙ ap (message_named (messages_at place)) same ∙ named in
         let pair : ◌≡◌ {A = ℕ × MessageType} (number, message) (n, other) = cc in
         let numbered : number ≡ n = ap (λ q. q.0) pair in
-        ap (λ i. cond (i == input.0) row (before.rows i)) (ap number_found (same-input other same ∙ is))
-        ∙ ap (λ b. cond b row (before.rows input.0)) (eq-eqb input.0 input.0 refl)
+        ap (λ i. cond (i == input.0) row (before.current_rows i)) (ap number_found (same-input other same ∙ is))
+        ∙ ap (λ b. cond b row (before.current_rows input.0)) (eq-eqb input.0 input.0 refl)
         ∙ sym (ap (λ b. cond b row (row_over n scene.open_loops)) (eq-eqb number n numbered))
     row_there n other named false e opens =
         let mine = some-there (input_in place.runs other) (k.inputs other opens) in
@@ -124,6 +124,6 @@ matches-inside place loops scene before number message input row k first is = re
         = not-equal number n
         (λ same. apart (one-name (messages_at place) n message other
         (first ∙ ap (λ i. Some (i, message)) same) named)) in
-        ap (λ b. cond b row (before.rows (number_found (input_in place.runs other)))) input-apart
-        ∙ k.rows n other named opens
+        ap (λ b. cond b row (before.current_rows (number_found (input_in place.runs other)))) input-apart
+        ∙ k.current_rows n other named opens
         ∙ sym (ap (λ b. cond b row (row_over n scene.open_loops)) number-apart)

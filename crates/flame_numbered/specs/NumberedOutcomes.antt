@@ -1,38 +1,38 @@
 -- The outcome of a numbered body, and how calls of numbered helpers end.
-use Rattle.std.specs.Prelude.{ℕ, zero, suc, ℤ, List, [], map, reverse, Option, Some, None, slice_get}
+use Rattle.std.specs.Prelude.{ℕ, zero, suc, ℤ, pos, List, [], map, reverse, Option, Some, None, slice_get}
 use Rattle.flame_spec.specs.declared.outcomes.Outcome.{Outcome}
 use Rattle.flame_spec.specs.declared.outcomes.Widths.{Widths}
 use Rattle.flame_spec.specs.HelperFaults.{deepest_calls}
 use Rattle.flame_body.specs.FunctionBodies.{NumberedBody}
-use Rattle.flame_sense.specs.Scenes.{Progress, Gave, failed}
-use Rattle.flame_sense.specs.Ends.{went_on, no_fuel}
+use Rattle.flame_sense.specs.Scenes.{Progress, Gave, gave, failed}
+use Rattle.flame_sense.specs.Ends.{no_fuel}
 use Rattle.flame_sense.specs.HelperCalls.{gives}
 use Rattle.flame_sense.specs.Outcomes.{start, finished}
-use Rattle.flame_numbered.specs.NumberedScenes.{Answers, Before, nameless}
+use Rattle.flame_numbered.specs.NumberedScenes.{Answers, NumberedScene, nameless}
 use Rattle.flame_numbered.specs.NumberedMeaning.{runs_of}
 
 -- what a body of these widths has before it at its beginning: no loop is open [own]
-abbrev pub beginning : Widths → List ℤ → ℤ → List (List (List ℤ)) → Answers → Before
+abbrev pub beginning : Widths → List ℤ → ℤ → List (List (List ℤ)) → Answers → NumberedScene
 beginning widths constants iteration readings answers = record {
   widths = widths;
   constants = constants;
   iteration = iteration;
   readings = readings;
-  rows = λ input. [];
+  current_rows = λ input. [];
   answers = answers;
 }
 
 -- ---- helpers
 
--- a helper begins with the values of its arguments as its locals, the first of them with number 0, without a memory,
--- with nothing added, and with this fuel [C, 6.9.1; fuel: own]
+-- a helper begins with the values of its arguments as its locals, the first of them with number 0; an accepted source
+-- gives one for each parameter. It has no memory, nothing added, and this fuel [C, 6.9.1; fuel: own]
 abbrev pub entered : List ℤ → ℕ → Progress
 entered values fuel = record { memory = []; locals = reverse (map nameless values); sent = []; born = []; fuel = fuel }
 
--- what the body that was found gives; where there is none, its call faults as one without fuel does [own]
-abbrev pub given_by : Option NumberedBody → ℕ → List ℤ → ℤ → Answers → List ℤ → ℕ → Gave
-given_by None line constants iteration answers values fuel = failed (no_fuel line)
-given_by (Some body) line constants iteration answers values fuel =
+-- what the body that was found gives; where there is none, 0 [C, 6.5.2.2; without one: own]
+abbrev pub body_gives : Option NumberedBody → List ℤ → ℤ → Answers → List ℤ → ℕ → Gave
+body_gives None constants iteration answers values fuel = gave (pos 0) fuel
+body_gives (Some body) constants iteration answers values fuel =
     gives (runs_of body.tree (beginning body.widths constants iteration [] answers) (entered values fuel))
 
 -- how calls of these helpers end where so many may be open inside one another: a call takes one unit of fuel, or has
@@ -42,10 +42,10 @@ abbrev pub answers_within : ℕ → List NumberedBody → List ℤ → ℤ → A
 answers_within levels helpers constants iteration line helper values zero = failed (no_fuel line)
 answers_within zero helpers constants iteration line helper values (suc fuel) = failed (no_fuel line)
 answers_within (suc levels) helpers constants iteration line helper values (suc fuel) =
-    given_by (slice_get helpers helper) line constants iteration
+    body_gives (slice_get helpers helper) constants iteration
     (answers_within levels helpers constants iteration) values fuel
 
--- how calls end: at most 64 are open inside one another, the greatest height of helpers [own]
+-- how calls end: in an accepted source at most 64 are open inside one another, the greatest height of helpers [own]
 abbrev pub helper_answers : List NumberedBody → List ℤ → ℤ → Answers
 helper_answers helpers constants iteration = answers_within deepest_calls helpers constants iteration
 
