@@ -24,10 +24,10 @@ use flame_walk::definition;
 use std::alloc::Global;
 
 /// The body of the C function with numbers in place of names, under this number; or its first fault.
-fn body(
+fn body<'a>(
     alloc: Global,
-    words: &Words<'_, '_>,
-    function: &CFunction<'_>,
+    words: &Words<'_, 'a>,
+    function: &CFunction<'a>,
     number: u32,
     widths: Widths,
 ) -> Result<Body, Fail<CheckFault>>
@@ -105,12 +105,12 @@ pub(crate) fn numbered_functions(
 }
 
 /// The body of the helper of this number. The files have no faults, so nothing but want of memory fails.
-fn numbered_helper(
+fn numbered_helper<'a>(
     alloc: Global,
-    tables: &Tables<'_>,
+    tables: &Tables<'a>,
     rows: &Rows<'_>,
     number: u32,
-    function: &CFunction<'_>,
+    function: &CFunction<'a>,
 ) -> Result<Body, Fail<CheckFault>>
     requires rows { rows.now ≡ tables.now.model }
     requires helper { slice_get (helpers tables.now.model tables.now.units) number

@@ -15,10 +15,10 @@ use flame_walk::definition;
 use std::alloc::Global;
 
 /// The body of the C function has no fault for any function of the model that it is one for.
-fn clean_for_all(
+fn clean_for_all<'a>(
     alloc: Global,
-    tables: &Tables<'_>,
-    function: &CFunction<'_>,
+    tables: &Tables<'a>,
+    function: &CFunction<'a>,
 ) -> Result<(), Fail<CheckFault>>
     ensures clean { OnOk result
         (flat_map (body_faults tables.now.model (helpers tables.now.model tables.now.units)
@@ -37,10 +37,10 @@ fn clean_for_all(
 
 /// The body of the C function has no fault wherever it is checked: once as a helper, or for each function of the model
 /// that it is one for.
-fn clean_body(
+fn clean_body<'a>(
     alloc: Global,
-    tables: &Tables<'_>,
-    function: &CFunction<'_>,
+    tables: &Tables<'a>,
+    function: &CFunction<'a>,
 ) -> Result<(), Fail<CheckFault>>
     ensures clean { OnOk result
         (bodies_faults tables.now.model (helpers tables.now.model tables.now.units)

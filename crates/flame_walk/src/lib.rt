@@ -11,7 +11,5 @@ mod name;
 mod spot;
 mod statement;
 mod stored;
-#[cfg(test)]
-mod tests;
 
 pub use function::definition;
