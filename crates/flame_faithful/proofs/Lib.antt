@@ -1,0 +1,14 @@
+-- Which locals each form names and declares.
+pub mod BelowForms
+pub mod NumberingForms
+-- How runs go on, instruction by instruction.
+pub mod Going
+-- Expressions and arguments.
+pub mod FaithfulExpressions
+-- What statements come to; stored values, declarations, assignments and call statements.
+pub mod Comings
+pub mod FaithfulStores
+-- Scopes, loops, and statements.
+pub mod Turning
+pub mod RowTurns
+pub mod FaithfulStatements
