@@ -1,6 +1,8 @@
 -- Which locals each form names and declares.
 pub mod BelowForms
 pub mod NumberingForms
+-- The numbers that sources give.
+pub mod NumberedTrees
 -- How runs go on, instruction by instruction.
 pub mod Going
 -- Expressions and arguments.

@@ -2,6 +2,7 @@
 -- source
 -- in brackets, as in flame_sense.
 pub mod FaithfulLaws
+pub mod NumberLaws
 pub mod CodeRuns
 pub mod NamedLocals
 pub mod Likeness

@@ -2,6 +2,7 @@
 
 ghost use Rattle.flame_faithful.specs.FaithfulLaws.{ExpressionsRun, ArgumentsRun};
 ghost use Rattle.flame_faithful.specs.FaithfulLaws.{DeclarationsRun, AssignmentsRun, CallStatementsRun, StatementsRun};
+ghost use Rattle.flame_faithful.specs.NumberLaws.{DefinitionsNumbered};
 
 /// The code of an expression that fits, wherever it stands in a code, comes to its end with the expression's value on
 /// the
@@ -41,4 +42,10 @@ pub fn call_statements_run()
 /// fuel. Calls of helpers end as the body's answers say.
 pub fn statements_run()
     ensures { StatementsRun }
+{}
+
+/// The locals of each C function's body have the numbers that their places give, behind its parameters, as
+/// `StatementsRun` supposes of statements. It is so with check faults too.
+pub fn definitions_are_numbered()
+    ensures { DefinitionsNumbered }
 {}
