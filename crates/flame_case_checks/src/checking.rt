@@ -5,8 +5,27 @@ use flame_case::Case;
 use flame_case_models::{Found, model_in};
 use flame_case_texts::units_in;
 use flame_check::check;
-use flame_rows::Fail;
+use flame_rows::{Fail, Seq};
+use flame_spec::{Model, Unit};
 use std::alloc::{AllocError, Global};
+
+/// Whether the files may stand, or their first fault.
+fn print_checked(
+    alloc: Global,
+    out: &mut String,
+    model: &Model,
+    units: &Seq<Unit>,
+) -> Result<(), AllocError> {
+    match check(alloc, model, units) {
+        Ok(_checked) => writeln!(out, "fine"),
+        Err(Fail::Fault(fault)) => writeln!(
+            out,
+            "{:?} {} in file {} line {}",
+            fault.kind, fault.name, fault.file, fault.line
+        ),
+        Err(Fail::NoMemory) => writeln!(out, "no memory"),
+    }
+}
 
 /// The answer to a case of the kind `check`: `fine`, or the fault.
 pub fn answer_check(alloc: Global, case: &Case) -> Result<String, AllocError> {
@@ -20,14 +39,6 @@ pub fn answer_check(alloc: Global, case: &Case) -> Result<String, AllocError> {
         writeln!(out, "a text is no function file")?;
         return Ok(out);
     }
-    match check(alloc, &model, &units) {
-        Ok(_) => writeln!(out, "fine")?,
-        Err(Fail::Fault(fault)) => writeln!(
-            out,
-            "{:?} {} in file {} line {}",
-            fault.kind, fault.name, fault.file, fault.line
-        )?,
-        Err(Fail::NoMemory) => writeln!(out, "no memory")?,
-    }
+    print_checked(alloc, &mut out, &model, &units)?;
     Ok(out)
 }

@@ -14,3 +14,7 @@ pub mod FaithfulStores
 pub mod Turning
 pub mod RowTurns
 pub mod FaithfulStatements
+-- Whole bodies: their locals at the beginning, their ends, and their outcomes.
+pub mod OutcomeLocals
+pub mod OutcomeEnds
+pub mod Outcomes

@@ -1,6 +1,5 @@
 -- The promises of the crate first, then the definitions in reading order. Each definition's comment ends with its
--- source
--- in brackets, as in flame_sense.
+-- source in brackets, as in flame_sense.
 pub mod FaithfulLaws
 pub mod NumberLaws
 pub mod CodeRuns
@@ -8,3 +7,4 @@ pub mod NamedLocals
 pub mod Likeness
 pub mod LocalNumbers
 pub mod Standings
+pub mod OutcomeLaws

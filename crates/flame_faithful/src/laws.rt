@@ -3,10 +3,10 @@
 ghost use Rattle.flame_faithful.specs.FaithfulLaws.{ExpressionsRun, ArgumentsRun};
 ghost use Rattle.flame_faithful.specs.FaithfulLaws.{DeclarationsRun, AssignmentsRun, CallStatementsRun, StatementsRun};
 ghost use Rattle.flame_faithful.specs.NumberLaws.{DefinitionsNumbered};
+ghost use Rattle.flame_faithful.specs.OutcomeLaws.{OutcomesRun};
 
 /// The code of an expression that fits, wherever it stands in a code, comes to its end with the expression's value on
-/// the
-/// stack, or ends in the expression's fault, from each configuration that holds what the expression reads.
+/// the stack, or ends in the expression's fault, from each configuration that holds what the expression reads.
 pub fn expressions_run()
     ensures { ExpressionsRun }
 {}
@@ -42,6 +42,12 @@ pub fn call_statements_run()
 /// fuel. Calls of helpers end as the body's answers say.
 pub fn statements_run()
     ensures { StatementsRun }
+{}
+
+/// The code of the body of a function means the body's outcome and no other: with the codes of helper bodies as its
+/// helpers, from each entry that fits it, where loops over its inputs give the rows of the entry.
+pub fn outcomes_run()
+    ensures { OutcomesRun }
 {}
 
 /// The locals of each C function's body have the numbers that their places give, behind its parameters, as
