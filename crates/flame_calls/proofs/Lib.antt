@@ -1,12 +1,5 @@
 pub mod Marks
 pub mod Callees
-pub mod ReadySets
-pub mod Counting
-pub mod Settling
-pub mod Turns
-pub mod Following
-pub mod Reaching
-pub mod Walking
 pub mod Repeats
 pub mod Writing
 pub mod Outcomes

@@ -11,20 +11,20 @@ use Rattle.flame_spec.specs.Seen.{statements}
 use Rattle.flame_lookup.specs.declared.found.CFunction.{CFunction}
 use Rattle.flame_lookup.specs.Sources.{Sources, Standing, context_at}
 use Rattle.flame_lookup.specs.WordsFound.{definition_found}
-use Rattle.flame_calls.specs.CallLists.{AreCallers, follows, AreOrdered}
-use Rattle.flame_calls.specs.CallMarks.{marked_where}
+use Rattle.flame_graph.specs.Graph.{AreSuccessors, follows, AreAscending}
+use Rattle.flame_graph.specs.Marks.{marked_where}
+use Rattle.flame_graph.proofs.Following.{follows_is, ascending_is}
+use Rattle.flame_graph.proofs.Marking.{marked_more}
 use Rattle.flame_calls.specs.FaultsOfCalls.{call_faults, faults_among}
-use Rattle.flame_calls.proofs.Following.{follows_is, ordered_is}
-use Rattle.flame_calls.proofs.Marks.{marked_more}
 
 uncalled : (model : Model) (hs : List Definition) (f g : ℕ) → length hs ≤ g → is_called_by model hs f g ≡ false
 uncalled model hs f g l = ap (caller_calls model hs f) (slice_get_past hs g l)
 
-pub lists_ordered : (model : Model) (hs : List Definition) (lists read : List (List ℕ)) → AreCallers (length hs) (is_called_by model hs) lists → read ≡ lists → AreOrdered read
-lists_ordered model hs lists read a e = subst AreOrdered (sym e) (ordered_is (length hs) (is_called_by model hs) lists (uncalled model hs) a)
+pub lists_ascend : (model : Model) (hs : List Definition) (lists read : List (List ℕ)) → AreSuccessors (length hs) (is_called_by model hs) lists → read ≡ lists → AreAscending read
+lists_ascend model hs lists read a e = subst AreAscending (sym e) (ascending_is (length hs) (is_called_by model hs) lists (uncalled model hs) a)
 
 -- the faults by the lists are those of the calls
-pub faults_are : (model : Model) (hs ds : List Definition) (lists read : List (List ℕ)) → ds ≡ hs → AreCallers (length hs) (is_called_by model hs) lists → read ≡ lists → faults_among ds (follows read) ≡ call_faults model hs
+pub faults_are : (model : Model) (hs ds : List Definition) (lists read : List (List ℕ)) → ds ≡ hs → AreSuccessors (length hs) (is_called_by model hs) lists → read ≡ lists → faults_among ds (follows read) ≡ call_faults model hs
 faults_are model hs ds lists read e a r =
     ap (λ d. faults_among d (follows read)) e
     ∙ ap (λ xs. faults_among hs (follows xs)) r

@@ -2,7 +2,3 @@
 pub mod FaultsOfCalls
 -- The words that only bodies and proofs use.
 pub mod CallMarks
-pub mod CallLists
-pub mod ReadyHelpers
-pub mod Climbs
-pub mod CallPaths

@@ -1,43 +1,32 @@
 //! The check of calls of helpers.
 
-ghost use Rattle.std.specs.Prelude.{◌≡◌, [], ◌<◌, ◌^◌, IfOk, IfErr, length, map, replicate};
+ghost use Rattle.std.specs.Prelude.{◌≡◌, [], ◌<◌, ◌^◌, IfOk, IfErr, length, map};
 ghost use Rattle.flame_spec.specs.Definitions.{helpers};
 ghost use Rattle.flame_spec.specs.FirstFaults.{FailsFirst};
 ghost use Rattle.flame_spec.specs.HelperFaults.{is_called_by};
-ghost use Rattle.flame_calls.specs.CallLists.{AreCallers};
 ghost use Rattle.flame_calls.specs.FaultsOfCalls.{call_faults};
+ghost use Rattle.flame_graph.specs.Graph.{AreSuccessors};
 ghost use Rattle.flame_lookup.specs.WordsFound.{definition_found};
 
-use crate::callers::Callers;
 use crate::judging::judge;
 use crate::marking::mark_statements;
+use flame_graph::{Successors, empty_lists};
 use flame_lookup::{CFunction, Tables};
 use flame_rows::{Fail, NoMemory};
 use flame_spec::CheckFault;
 use std::alloc::Global;
-
-/// So many empty lists.
-fn empty_lists(alloc: Global, count: usize) -> Result<Vec<Callers>, NoMemory>
-    ensures { IfOk result (λ lists. lists.items ≡ replicate count []) }
-{
-    let mut lists: Vec<Callers> = Vec::new(alloc);
-    for _turn in 0..count {
-        lists.push(Callers::new(alloc))?;
-    }
-    Ok(lists)
-}
 
 /// For each helper, in source order, the helpers that call it, ascending.
 fn list_callers(
     alloc: Global,
     tables: &Tables<'_>,
     all: &[CFunction<'_>],
-) -> Result<Vec<Callers>, NoMemory>
+) -> Result<Vec<Successors>, NoMemory>
     requires few { length all.now < 2 ^ 32 }
     requires all { map definition_found all.now ≡ helpers tables.now.model tables.now.units }
     ensures { IfOk result (λ lists.
         let hs = helpers tables.now.model tables.now.units in
-        AreCallers (length hs) (is_called_by tables.now.model hs) lists.items) }
+        AreSuccessors (length hs) (is_called_by tables.now.model hs) lists.items) }
 {
     let mut lists = empty_lists(alloc, all.len())?;
     for (i, helper) in all.iter().enumerate() {

@@ -6,11 +6,12 @@ ghost use Rattle.flame_spec.specs.Definitions.{helper_named};
 ghost use Rattle.flame_spec.specs.HelperFaults.{is_call_of, stored_calls, optional_calls, items_call, step_calls};
 ghost use Rattle.flame_spec.specs.HelperFaults.{statement_calls, statements_call, arms_call};
 ghost use Rattle.flame_spec.specs.Seen.{stored, declared, assigned, statement, statements, arms};
-ghost use Rattle.flame_calls.specs.CallMarks.{is_it, AreMarked, called_number};
+ghost use Rattle.flame_calls.specs.CallMarks.{AreMarked, called_number};
+ghost use Rattle.flame_graph.specs.Marks.{is_it};
 ghost use Rattle.flame_lookup.specs.Sources.{context_at};
 ghost use Rattle.flame_lookup.specs.WordsFound.{deed_found};
 
-use crate::callers::Callers;
+use flame_graph::Successors;
 use flame_lookup::{Act, Words};
 use flame_rows::NoMemory;
 use flame_spec::{Arm, Assign, Item, Stmt, Value};
@@ -40,7 +41,7 @@ fn value_number(word: &str, words: &Words<'_, '_>) -> Option<u32>
 }
 
 /// Marks the caller in the list of the helper of this number, if there is one.
-fn mark(called: Option<u32>, caller: u32, lists: &mut [Callers]) -> Result<(), NoMemory>
+fn mark(called: Option<u32>, caller: u32, lists: &mut [Successors]) -> Result<(), NoMemory>
     requires { IfSome called (λ h. h < length lists.old) }
     ensures { OnOk result (AreMarked caller (λ h. is_it h called) lists.old lists.new) }
 {
@@ -58,7 +59,7 @@ fn mark_word(
     word: &str,
     words: &Words<'_, '_>,
     caller: u32,
-    lists: &mut [Callers],
+    lists: &mut [Successors],
 ) -> Result<(), NoMemory>
     requires { length lists.old ≡ length (context_at words.now).helpers }
     ensures { OnOk result (
@@ -72,7 +73,7 @@ fn mark_value(
     value: &Value,
     words: &Words<'_, '_>,
     caller: u32,
-    lists: &mut [Callers],
+    lists: &mut [Successors],
 ) -> Result<(), NoMemory>
     requires { length lists.old ≡ length (context_at words.now).helpers }
     ensures { OnOk result (
@@ -89,7 +90,7 @@ fn mark_optional(
     value: &Option<Value>,
     words: &Words<'_, '_>,
     caller: u32,
-    lists: &mut [Callers],
+    lists: &mut [Successors],
 ) -> Result<(), NoMemory>
     requires { length lists.old ≡ length (context_at words.now).helpers }
     ensures { OnOk result (
@@ -107,7 +108,7 @@ fn mark_items(
     items: &[Item],
     words: &Words<'_, '_>,
     caller: u32,
-    lists: &mut [Callers],
+    lists: &mut [Successors],
 ) -> Result<(), NoMemory>
     requires { length lists.old ≡ length (context_at words.now).helpers }
     ensures { OnOk result (
@@ -124,7 +125,7 @@ fn mark_step(
     step: &Option<Assign>,
     words: &Words<'_, '_>,
     caller: u32,
-    lists: &mut [Callers],
+    lists: &mut [Successors],
 ) -> Result<(), NoMemory>
     requires { length lists.old ≡ length (context_at words.now).helpers }
     ensures { OnOk result (
@@ -143,7 +144,7 @@ fn mark_statement(
     one: &Stmt,
     words: &Words<'_, '_>,
     caller: u32,
-    lists: &mut [Callers],
+    lists: &mut [Successors],
 ) -> Result<(), NoMemory>
     requires { length lists.old ≡ length (context_at words.now).helpers }
     ensures { OnOk result (
@@ -182,7 +183,7 @@ pub fn mark_statements(
     body: &[Stmt],
     words: &Words<'_, '_>,
     caller: u32,
-    lists: &mut [Callers],
+    lists: &mut [Successors],
 ) -> Result<(), NoMemory>
     requires { length lists.old ≡ length (context_at words.now).helpers }
     ensures { OnOk result (
@@ -200,7 +201,7 @@ fn mark_arms(
     bodies: &[Arm],
     words: &Words<'_, '_>,
     caller: u32,
-    lists: &mut [Callers],
+    lists: &mut [Successors],
 ) -> Result<(), NoMemory>
     requires { length lists.old ≡ length (context_at words.now).helpers }
     ensures { OnOk result (

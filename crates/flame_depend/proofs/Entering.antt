@@ -2,13 +2,14 @@
 use Rattle.std.proofs.Common.{◌≡◌, ℕ, ◌+◌, ◌<◌, List, [], ◌∷◌, ◌++◌, take, set, refl, sym, ap, ◌∙◌, true, false, Bool, Some, cond, ⊎_elim}
 use Rattle.std.specs.Prelude.{◌==◌, ◌&&◌, ◌||◌, slice_get}
 use Rattle.std.specs.Str.{bytes_eq}
+use Rattle.std.proofs.Math.Bool.{or-false}
 use Rattle.std.proofs.lemmas.Bool.{eq-eqb, ne_eqb, cases_eq}
 use Rattle.std.proofs.lemmas.List.{length-set}
 use Rattle.flame_spec.specs.Functions.{Place}
 use Rattle.flame_spec.specs.Below.{is_in}
 use Rattle.flame_depend.specs.NameTables.{Table, listed}
 use Rattle.flame_depend.specs.Links.{enters_at, listed_at, AreEntering}
-use Rattle.flame_depend.proofs.Gets.{slice_get-set_same, slice_get-set_other, some_within, test_more, noted, or_false}
+use Rattle.flame_depend.proofs.Gets.{slice_get-set_same, slice_get-set_other, some_within, test_more, noted}
 
 pub entering_more : (types : ℕ) (ps : List Place) (tables : List Table) (i : ℕ) (p : Place) (old new : Table)
     → AreEntering types (take i ps) tables
@@ -41,5 +42,5 @@ entering_more types ps tables i p old new so_far here was now = record {
         let none : ((i == f) && ((p.agent == agent) && bytes_eq q p.function.next)) ≡ false = ap (λ b. (i == f) && (b && bytes_eq q p.function.next)) (ne_eqb p.agent agent e) ∙ and_false (i == f) in
         ap (λ o. is_in f (listed_at o q)) (slice_get-set_other tables p.agent agent new e)
         ∙ so_far.at agent l q f
-        ∙ sym (ap (λ b. enters_at (slice_get (take i ps) f) agent q || b) none ∙ or_false (enters_at (slice_get (take i ps) f) agent q))
+        ∙ sym (ap (λ b. enters_at (slice_get (take i ps) f) agent q || b) none ∙ or-false (enters_at (slice_get (take i ps) f) agent q))
         ∙ test_more (λ o. enters_at o agent q) refl ps i p f here

@@ -1,8 +1,10 @@
 -- What stands at a place, and one element more.
-use Rattle.std.proofs.Common.{◌≡◌, ℕ, zero, suc, ◌+◌, ◌<◌, ◌≤◌, List, [], ◌∷◌, ◌++◌, length, take, get_or, set, map, refl, sym, ap, ◌∙◌, arith, true, false, Bool, Some, None, Option, cond, ⊎_elim}
+use Rattle.std.proofs.Common.{◌≡◌, ℕ, zero, suc, ◌+◌, ◌<◌, List, [], ◌∷◌, ◌++◌, length, take, get_or, set, map, refl, sym, ap, ◌∙◌, arith, true, false, Bool, Some, None, Option, cond, ⊎_elim}
 use Rattle.std.specs.Prelude.{◌==◌, ◌&&◌, ◌||◌, slice_get, option_map}
+use Rattle.std.proofs.Math.Bool.{or-false}
 use Rattle.std.proofs.lemmas.Bool.{eq-eqb, ne_eqb, cases_eq}
 use Rattle.std.proofs.lemmas.List.{take_more, length-take-le}
+use Rattle.std.proofs.lemmas.Option.{slice_get_past}
 use Rattle.flame_spec.specs.Below.{is_in}
 use Rattle.flame_spec.proofs.FirstBelow.{is_in_push}
 use Rattle.flame_depend.specs.declared.place.Placed.{Placed}
@@ -25,11 +27,6 @@ module _ {X : Type 0} where
   slice_get_at [] i d h = absurd (omega arith)
   slice_get_at (x ∷ xs) zero d h = refl
   slice_get_at (x ∷ xs) (suc i) d h = slice_get_at xs i d (omega arith)
-
-  pub slice_get_past : (xs : List X) (i : ℕ) → length xs ≤ i → slice_get xs i ≡ None
-  slice_get_past [] i h = refl
-  slice_get_past (x ∷ xs) zero h = absurd (omega arith)
-  slice_get_past (x ∷ xs) (suc i) h = slice_get_past xs i (omega arith)
 
   push_get : (xs : List X) (y : X) (f : ℕ) → slice_get (xs ++ y ∷ []) f ≡ cond (length xs == f) (Some y) (slice_get xs f)
   push_get [] y zero = refl
@@ -56,10 +53,6 @@ slice_get-map v [] i = refl
 slice_get-map v (x ∷ xs) zero = refl
 slice_get-map v (x ∷ xs) (suc i) = slice_get-map v xs i
 
-pub or_false : (b : Bool) → (b || false) ≡ b
-or_false true = refl
-or_false false = refl
-
 -- a test that nothing passes, at one element more
 pub test_more : {X : Type 0} (test : Option X → Bool) → test None ≡ false → (xs : List X) (i : ℕ) (y : X) (f : ℕ) → slice_get xs i ≡ Some y → (test (slice_get (take i xs) f) || ((i == f) && test (Some y))) ≡ test (slice_get (take (i + 1) xs) f)
 test_more {X} test none xs i y f e =
@@ -75,7 +68,7 @@ test_more {X} test none xs i y f e =
 
     other : slice_get (take (i + 1) xs) f ≡ cond (i == f) (Some y) (slice_get (take i xs) f) → (i ≡ f → ⊥) → (test (slice_get (take i xs) f) || ((i == f) && test (Some y))) ≡ test (slice_get (take (i + 1) xs) f)
     other more q =
-        ap (λ b. test (slice_get (take i xs) f) || (b && test (Some y))) (ne_eqb i f q) ∙ or_false (test (slice_get (take i xs) f))
+        ap (λ b. test (slice_get (take i xs) f) || (b && test (Some y))) (ne_eqb i f q) ∙ or-false (test (slice_get (take i xs) f))
         ∙ sym (ap test (more ∙ ap (λ b. cond b (Some y) (slice_get (take i xs) f)) (ne_eqb i f q)))
 
 -- a function in the code's list is the one of the model
@@ -93,7 +86,7 @@ noted f function true fs = is_in_push f function fs ∙ ap (λ t. is_in f fs || 
     and_true : (b : Bool) → (b && true) ≡ b
     and_true true = refl
     and_true false = refl
-noted f function false fs = sym (ap (λ t. is_in f fs || t) (and_false (function == f)) ∙ or_false (is_in f fs))
+noted f function false fs = sym (ap (λ t. is_in f fs || t) (and_false (function == f)) ∙ or-false (is_in f fs))
   where
     and_false : (b : Bool) → (b && false) ≡ false
     and_false true = refl

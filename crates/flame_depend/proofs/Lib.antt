@@ -1,13 +1,6 @@
 pub mod Gets
-pub mod Marking
 pub mod Entering
 pub mod Linking
-pub mod ReadySets
-pub mod Counting
-pub mod Settling
-pub mod Turns
 pub mod Following
-pub mod Reaching
-pub mod Walking
 pub mod Distinct
 pub mod Planning

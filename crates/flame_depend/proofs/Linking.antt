@@ -1,18 +1,14 @@
 -- What the tables say is what stands before.
-use Rattle.std.proofs.Common.{◌≡◌, ℕ, suc, ◌+◌, ◌<◌, List, [], ◌∷◌, ◌++◌, length, take, drop, refl, sym, ap, ◌∙◌, arith, true, false, Bool, Some, None, Option, cond}
-use Rattle.std.specs.Prelude.{◌&&◌, ◌||◌, slice_get}
+use Rattle.std.proofs.Common.{◌≡◌, ℕ, zero, suc, ◌<◌, ◌≤◌, List, [], ◌∷◌, ◌++◌, length, refl, sym, ap, ◌∙◌, false, Some, None, Option}
+use Rattle.std.specs.Prelude.{◌||◌, slice_get}
 use Rattle.std.specs.List.{list_any}
-use Rattle.std.proofs.lemmas.Bool.{le-ltb}
-use Rattle.std.proofs.lemmas.List.{append-nil, drop_all, take_all}
+use Rattle.std.proofs.lemmas.Option.{slice_get_past}
 use Rattle.flame_spec.specs.declared.models.Input.{Input}
 use Rattle.flame_spec.specs.Functions.{Place}
 use Rattle.flame_spec.specs.Below.{all_below, is_in}
 use Rattle.flame_spec.specs.Before.{both_stand, before_among}
-use Rattle.flame_spec.proofs.FirstBelow.{is_in-all_below}
-use Rattle.flame_depend.specs.Marks.{marked_where}
 use Rattle.flame_depend.specs.NameTables.{Table, listed}
 use Rattle.flame_depend.specs.Links.{adds_at, enters_at, listed_at, IsAdding, AreEntering, is_linked}
-use Rattle.flame_depend.proofs.Marking.{marked_new}
 
 none_of : (inputs : List Input) → list_any (λ input. false) inputs ≡ false
 none_of [] = refl
@@ -32,20 +28,10 @@ linked_is types ps tables table adding i p entering added l here there f =
     go None = none_of p.function.inputs
     go (Some q) = refl
 
-pub linked_more : (test : ℕ → Bool) (i : ℕ) (b : Bool) → b ≡ test i → marked_where i b (all_below test i) ≡ all_below test (i + 1)
-linked_more test i b e =
-    let more : suc i ≡ i + 1 = omega arith in
-    let past : is_in i (all_below test i) ≡ false = is_in-all_below test i i ∙ ap (λ t. t && test i) (le-ltb i i (omega arith)) in
-    go past b e ∙ ap (all_below test) more
-  where
-    go : is_in i (all_below test i) ≡ false → (b : Bool) → b ≡ test i → marked_where i b (all_below test i) ≡ all_below test (suc i)
-    go past true q = marked_new i (all_below test i) past ∙ ap (λ t. all_below test i ++ cond t (i ∷ []) []) q
-    go past false q = sym (append-nil (all_below test i)) ∙ ap (λ t. all_below test i ++ cond t (i ∷ []) []) q
+nothing : (n : ℕ) → all_below (λ g. false) n ≡ []
+nothing zero = refl
+nothing (suc n) = ap (λ xs. xs ++ []) (nothing n)
 
--- a list that was lent whole
-pub whole : {X : Type 0} (xs ys : List X) (n : ℕ) → length xs ≡ length ys → n ≡ length ys → take n (xs ++ drop (length xs) ys) ≡ xs
-whole xs ys n e l = ap (λ r. take n (xs ++ r)) (drop_all (length xs) ys (omega (arith, e))) ∙ ap (take n) (append-nil xs) ∙ take_all n xs (omega (arith, e, l))
-
-pub or_assoc : (a b c : Bool) → ((a || b) || c) ≡ (a || (b || c))
-or_assoc true b c = refl
-or_assoc false b c = refl
+-- what is past the last function stands before nothing
+pub none_after : (ps : List Place) (f n : ℕ) → length ps ≤ f → all_below (before_among ps f) n ≡ []
+none_after ps f n l = ap (λ o. all_below (λ g. both_stand o (slice_get ps g)) n) (slice_get_past ps f l) ∙ nothing n

@@ -1,36 +1,23 @@
 -- What holds of the lists holds of the model.
-use Rattle.std.proofs.Common.{◌≡◌, ℕ, ◌+◌, ◌<◌, ◌≤◌, List, [], ◌∷◌, length, drop, get_or, map, refl, sym, ap, ◌∙◌, subst, arith, not, Some, cond}
-use Rattle.std.specs.Prelude.{◌&&◌}
+use Rattle.std.proofs.Common.{◌≡◌, ℕ, ◌+◌, ◌<◌, ◌≤◌, List, [], ◌∷◌, length, drop, get_or, map, refl, sym, ap, ◌∙◌, arith, Some, cond}
 use Rattle.std.proofs.lemmas.Bool.{le-ltb}
 use Rattle.std.proofs.lemmas.List.{drop_more}
 use Rattle.flame_spec.specs.declared.models.Model.{Model}
 use Rattle.flame_spec.specs.declared.models.AgentType.{AgentType}
 use Rattle.flame_spec.specs.Before.{before, function_count}
-use Rattle.flame_spec.specs.Below.{first_below, is_in}
 use Rattle.flame_spec.specs.States.{start_states, many_from}
-use Rattle.flame_spec.specs.ModelOrder.{order, first_left, from_there, walk_back, begun_with_least, cycle_from, cycle}
-use Rattle.flame_spec.proofs.FirstBelow.{first_agree}
+use Rattle.flame_spec.specs.ModelOrder.{first_left, step_back, from_there, walk_back, begun_with_least, cycle_from, cycle}
 use Rattle.flame_spec.proofs.Orders.{Relation}
-use Rattle.flame_depend.specs.Links.{AreSuccessors}
-use Rattle.flame_depend.specs.Graph.{follows, AreWaiting}
-use Rattle.flame_depend.specs.Backs.{waits}
+use Rattle.flame_graph.specs.Graph.{AreSuccessors, follows}
 use Rattle.flame_depend.specs.Plans.{lone}
 use Rattle.flame_depend.proofs.Following.{follows_model}
-use Rattle.flame_depend.proofs.Walking.{waits_left, steps_back}
 
 pub at_model : {X : Type 0} (what : ℕ → Relation → X) (model : Model) (lists : List (List ℕ)) → AreSuccessors (function_count model) (before model) lists → what (length lists) (follows lists) ≡ what (function_count model) (before model)
 at_model what model lists a = ap (λ n. what n (follows lists)) a.len ∙ ap (what (function_count model)) (follows_model model lists a)
 
-whole_waiting : (n : ℕ) (before : Relation) (fs waiting : List ℕ) → fs ≡ order n before → AreWaiting n n before fs waiting → AreWaiting n n before (order n before) waiting
-whole_waiting n before fs waiting e w = let P : List ℕ → Type 0 = λ xs. AreWaiting n n before xs waiting in subst P e w
-
-pub left_waits : (n : ℕ) (before : Relation) (fs waiting : List ℕ) → fs ≡ order n before → AreWaiting n n before fs waiting → first_below (waits waiting) n ≡ first_left n before
-left_waits n before fs waiting e w = first_agree (waits waiting) (λ g. not (is_in g (order n before))) n (waits_left n before waiting (whole_waiting n before fs waiting e w))
-
-pub cycle_is : (n : ℕ) (before : Relation) (fs waiting : List ℕ) (start : ℕ) → fs ≡ order n before → AreWaiting n n before fs waiting → first_below (waits waiting) n ≡ Some start → begun_with_least (walk_back (n + 1) (λ g. first_below (λ f. before f g && waits waiting f) n) [] start) ≡ cycle n before
-cycle_is n before fs waiting start e w h =
-    ap (λ back. begun_with_least (walk_back (n + 1) back [] start)) (λ j g. (steps_back n before waiting (whole_waiting n before fs waiting e w) g) j)
-    ∙ sym (ap (λ o. from_there o (cycle_from n before)) (sym (left_waits n before fs waiting e w) ∙ h))
+-- from the first function left over the cycle is met
+pub cycle_is : (n : ℕ) (before : Relation) (start : ℕ) → first_left n before ≡ Some start → begun_with_least (walk_back (n + 1) (step_back n before) [] start) ≡ cycle n before
+cycle_is n before start e = sym (ap (λ o. from_there o (cycle_from n before)) e)
 
 -- ---- start states
 

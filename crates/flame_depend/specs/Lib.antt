@@ -4,10 +4,5 @@ pub mod Plans
 pub mod Edges
 -- The words that only bodies and proofs use.
 pub mod PlacedFunctions
-pub mod Marks
 pub mod NameTables
 pub mod Links
-pub mod Ready
-pub mod Graph
-pub mod Heights
-pub mod Backs

@@ -1,11 +1,11 @@
 -- What the tables and lists on the way to the edges hold.
 use Rattle.std.specs.Prelude.{◌≡◌, ℕ, ◌<◌, ◌==◌, ◌&&◌, ◌||◌, List, [], Bool, false, Option, Some, None, length}
-use Rattle.std.specs.Prelude.{slice_get, slice_index_or}
+use Rattle.std.specs.Prelude.{slice_get}
 use Rattle.std.specs.List.{list_any}
 use Rattle.std.specs.Str.{bytes_eq}
 use Rattle.flame_spec.specs.Functions.{Place}
 use Rattle.flame_spec.specs.Before.{adds}
-use Rattle.flame_spec.specs.Below.{all_below, is_in}
+use Rattle.flame_spec.specs.Below.{is_in}
 use Rattle.flame_depend.specs.NameTables.{Table, listed}
 
 -- there is a function, and it adds the message [own]
@@ -44,11 +44,6 @@ IsOfTypes types (Some f) = f.agent < types
 -- each function is of one of so many types [own]
 abbrev pub AreOfTypes : ℕ → List Place → Type 0
 AreOfTypes types places = (f : ℕ) → IsOfTypes types (slice_get places f)
-
--- the list of each function has the functions that it stands before [own]
-pub record AreSuccessors (n : ℕ) (before : ℕ → ℕ → Bool) (lists : List (List ℕ)) : Type 0 where
-  pub len : length lists ≡ n
-  pub at : (f : ℕ) → f < n → slice_index_or lists f [] ≡ all_below (before f) n
 
 -- f stands in the tables under the state that the function leaves, or under a message that it reads [own]
 abbrev pub is_linked : Place → Table → Table → ℕ → Bool

@@ -2,19 +2,14 @@
 //! states.
 #![tactic(auto)]
 
-mod cycle;
 mod faults;
-mod layers;
 mod links;
-mod order;
 mod pairs;
 mod place;
 mod planner;
 pub mod plans;
-mod ready;
 mod starts;
 mod table;
-mod targets;
 #[cfg(test)]
 mod tests;
 

@@ -1,18 +1,19 @@
 //! For each function the functions that it stands before.
 
-ghost use Rattle.std.specs.Prelude.{◌≡◌, ℕ, List, [], ◌^◌, ◌<◌, ◌==◌, ◌&&◌, ◌||◌, true, IfOk, OnOk, length, map, replicate, slice_index_or};
+ghost use Rattle.std.specs.Prelude.{◌≡◌, ℕ, List, [], ◌^◌, ◌<◌, ◌==◌, ◌&&◌, ◌||◌, true, IfOk, OnOk, length, map, slice_index_or};
 ghost use Rattle.std.specs.List.{list_any};
 ghost use Rattle.std.specs.Str.{bytes_eq};
 ghost use Rattle.flame_spec.specs.Below.{is_in};
 ghost use Rattle.flame_spec.specs.Before.{before_among};
 ghost use Rattle.flame_depend.specs.PlacedFunctions.{shown};
-ghost use Rattle.flame_depend.specs.Marks.{marked_where};
 ghost use Rattle.flame_depend.specs.NameTables.{listed};
-ghost use Rattle.flame_depend.specs.Links.{IsAdding, AreEntering, AreOfTypes, AreSuccessors, is_linked};
+ghost use Rattle.flame_depend.specs.Links.{IsAdding, AreEntering, AreOfTypes, is_linked};
+ghost use Rattle.flame_graph.specs.Graph.{AreSuccessors};
+ghost use Rattle.flame_graph.specs.Marks.{marked_where};
 
 use crate::place::Placed;
 use crate::table::{Table, note, under};
-use crate::targets::Targets;
+use flame_graph::{Successors, empty_lists};
 use flame_rows::{NoMemory, Text};
 use std::alloc::Global;
 use std::collections::HashMap;
@@ -72,7 +73,7 @@ fn entering(alloc: Global, types: usize, places: &[Placed<'_>]) -> Result<Vec<Ta
 }
 
 /// Marks the function in the list of each of the sources.
-fn mark_all(lists: &mut [Targets], sources: &[u32], function: u32) -> Result<(), NoMemory>
+fn mark_all(lists: &mut [Successors], sources: &[u32], function: u32) -> Result<(), NoMemory>
     requires { (f : ℕ) → is_in f sources.now ≡ true → f < length lists.old }
     ensures { OnOk result (
         (f : ℕ)
@@ -88,7 +89,7 @@ fn mark_all(lists: &mut [Targets], sources: &[u32], function: u32) -> Result<(),
 
 /// Marks the function in the list of each function that stands before it.
 fn link(
-    lists: &mut [Targets],
+    lists: &mut [Successors],
     function: u32,
     place: Placed<'_>,
     entering: &Table,
@@ -115,23 +116,12 @@ fn link(
     Ok(())
 }
 
-/// So many empty lists.
-fn empty_lists(alloc: Global, count: usize) -> Result<Vec<Targets>, NoMemory>
-    ensures { IfOk result (λ lists. lists.items ≡ replicate count []) }
-{
-    let mut lists: Vec<Targets> = Vec::new(alloc);
-    for _turn in 0..count {
-        lists.push(Targets::new(alloc))?;
-    }
-    Ok(lists)
-}
-
 /// For each function, in document order, the functions that it stands before, ascending.
-pub fn successors(
+pub fn link_all(
     alloc: Global,
     types: usize,
     places: &[Placed<'_>],
-) -> Result<Vec<Targets>, NoMemory>
+) -> Result<Vec<Successors>, NoMemory>
     requires few { length places.now < 2 ^ 32 }
     requires within { AreOfTypes types (map shown places.now) }
     ensures { IfOk result (λ lists.

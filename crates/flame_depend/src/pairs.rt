@@ -4,11 +4,11 @@ ghost use Rattle.std.specs.Prelude.{◌≡◌, ◌^◌, ◌<◌, ◌++◌, IsTru
 ghost use Rattle.flame_spec.specs.Counted.{is_numbered};
 ghost use Rattle.flame_spec.specs.Functions.{functions};
 ghost use Rattle.flame_depend.specs.Edges.{edges_to, edges_below, edges_of};
-ghost use Rattle.flame_depend.specs.Graph.{AreAscending, follows};
+ghost use Rattle.flame_graph.specs.Graph.{AreAscending, follows};
 
-use crate::links::successors;
+use crate::links::link_all;
 use crate::place::place_all;
-use crate::targets::Targets;
+use flame_graph::Successors;
 use flame_rows::{NoMemory, Seq};
 use flame_spec::Model;
 use std::alloc::Global;
@@ -36,7 +36,7 @@ fn push_edges(before: u32, targets: &[u32], edges: &mut Vec<Edge>) -> Result<(),
 }
 
 /// The edges of all lists, one list after another.
-fn flatten(alloc: Global, lists: &[Targets]) -> Result<Vec<Edge>, NoMemory>
+fn flatten(alloc: Global, lists: &[Successors]) -> Result<Vec<Edge>, NoMemory>
     requires few { length lists.now < 2 ^ 32 }
     requires ascending { AreAscending lists.now }
     ensures { IfOk result (λ edges.
@@ -62,6 +62,6 @@ pub fn edges(alloc: Global, model: &Model) -> Result<Seq<Edge>, NoMemory>
     ensures { IfOk result (λ edges. edges ≡ edges_of model.now) }
 {
     let places = place_all(alloc, model)?;
-    let lists = successors(alloc, model.agents.items().len(), &places)?;
+    let lists = link_all(alloc, model.agents.items().len(), &places)?;
     Ok(Seq::of(flatten(alloc, &lists)?))
 }

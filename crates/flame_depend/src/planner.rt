@@ -5,18 +5,15 @@ ghost use Rattle.flame_spec.specs.Before.{before, function_count};
 ghost use Rattle.flame_spec.specs.Counted.{is_numbered};
 ghost use Rattle.flame_spec.specs.Functions.{functions};
 ghost use Rattle.flame_spec.specs.ModelOrder.{model_order, left_over};
-ghost use Rattle.flame_depend.specs.Links.{AreSuccessors};
 ghost use Rattle.flame_depend.specs.Plans.{IsPlan, FailsBy};
+ghost use Rattle.flame_graph.specs.Graph.{AreSuccessors};
 
-use crate::cycle::{first_waiting, meet_cycle};
 use crate::faults::{CycleFault, DependFault};
-use crate::layers::layer_functions;
-use crate::links::successors;
-use crate::order::put_in_order;
+use crate::links::link_all;
 use crate::place::place_all;
 use crate::plans::Plan;
 use crate::starts::{Found, find_starts};
-use crate::targets::Targets;
+use flame_graph::{Successors, begin_with_least, first_waiting, layers, put_in_order, walk_back};
 use flame_rows::{Fail, Seq};
 use flame_spec::Model;
 use std::alloc::Global;
@@ -25,7 +22,7 @@ use std::alloc::Global;
 fn plan_ordered(
     alloc: Global,
     model: &Model,
-    lists: &[Targets],
+    lists: &[Successors],
     order: Vec<u32>,
 ) -> Result<Plan, Fail<DependFault>>
     requires functions { function_count model.now < 2 ^ 32 }
@@ -36,7 +33,7 @@ fn plan_ordered(
     ensures plan { IfOk result (IsPlan model.now) }
     ensures fault { IfErr result (FailsBy model.now) }
 {
-    let layers = layer_functions(alloc, lists, &order)?;
+    let layers = layers(alloc, lists, &order)?;
     match find_starts(alloc, model.agents.items())? {
         Found::Many(fault) => Err(Fail::Fault(DependFault::Starts(fault))),
         Found::Lone(starts) => Ok(Plan {
@@ -66,12 +63,13 @@ pub fn plan(alloc: Global, model: &Model) -> Result<Plan, Fail<DependFault>>
     ensures fault { IfErr result (FailsBy model.now) }
 {
     let places = place_all(alloc, model)?;
-    let lists = successors(alloc, model.agents.items().len(), &places)?;
+    let lists = link_all(alloc, model.agents.items().len(), &places)?;
     let links = lists.as_slice();
     let ordered = put_in_order(alloc, links)?;
     match first_waiting(&ordered.waiting) {
         Some(start) => {
-            let functions = meet_cycle(alloc, links, &ordered.waiting, start)?;
+            let mut functions = walk_back(alloc, links, &ordered.waiting, start)?;
+            begin_with_least(&mut functions);
             Err(Fail::Fault(DependFault::Cycle(CycleFault {
                 functions: Seq::of(functions),
             })))

@@ -5,13 +5,13 @@ use Rattle.flame_spec.specs.declared.faults.CheckFault.{CheckFault}
 use Rattle.flame_spec.specs.Definitions.{Definition, helpers}
 use Rattle.flame_spec.specs.FirstFaults.{FailsFirst}
 use Rattle.flame_lookup.specs.WordsFound.{definition_found}
-use Rattle.flame_calls.proofs.Listing.{lists_ordered, faults_are}
+use Rattle.flame_calls.proofs.Listing.{lists_ascend, faults_are}
 use Rattle.flame_calls.proofs.checking.call_faults.Goals as goal
 
 pub judge-requires-clause-ascending : goal.judge-requires-clause-ascending
 judge-requires-clause-ascending c =
     let sources = c.args.tables.now in
-    lists_ordered sources.model (helpers sources.model sources.units) c.in_ok-lists.lists.items c.deref.result.now c.in_ok-lists.ensures c.deref.ensures.value
+    lists_ascend sources.model (helpers sources.model sources.units) c.in_ok-lists.lists.items c.deref.result.now c.in_ok-lists.ensures c.deref.ensures.value
 
 pub judge-requires-clause-same : goal.judge-requires-clause-same
 judge-requires-clause-same c =

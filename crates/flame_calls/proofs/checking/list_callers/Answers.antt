@@ -9,9 +9,10 @@ use Rattle.flame_spec.specs.Seen.{statements}
 use Rattle.flame_lookup.specs.Sources.{context_at}
 use Rattle.flame_lookup.specs.WordsFound.{definition_found}
 use Rattle.flame_lookup.specs.declared.found.CFunction.{CFunction}
-use Rattle.flame_calls.specs.CallMarks.{marked_where}
+use Rattle.flame_graph.specs.Marks.{marked_where}
+use Rattle.flame_graph.proofs.Marking.{whole}
 use Rattle.flame_calls.proofs.Listing.{listed_more}
-use Rattle.flame_calls.proofs.Marks.{no_lists, whole}
+use Rattle.flame_calls.proofs.Marks.{no_lists}
 use Rattle.flame_calls.proofs.Writing.{found_at}
 use Rattle.flame_calls.proofs.checking.list_callers.Goals as goal
 

@@ -5,7 +5,7 @@ use Rattle.flame_spec.specs.HelperFaults.{step_calls, statement_calls, statement
 use Rattle.flame_spec.specs.Seen.{assigned, statement, statements, arms}
 use Rattle.flame_spec.proofs.SeenForms.{statement-If, statement-For}
 use Rattle.flame_lookup.specs.Sources.{context_at}
-use Rattle.flame_calls.specs.CallMarks.{marked_where}
+use Rattle.flame_graph.specs.Marks.{marked_where}
 use Rattle.flame_calls.proofs.Marks.{then_marked, loop_marked}
 use Rattle.flame_calls.proofs.marking.+tree.Goals as goal
 

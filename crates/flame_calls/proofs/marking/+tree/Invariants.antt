@@ -2,7 +2,7 @@ use Rattle.std.proofs.Common.{◌≡◌, ℕ, [], drop, slice_index_or}
 use Rattle.flame_spec.specs.HelperFaults.{statements_call, arms_call}
 use Rattle.flame_spec.specs.Seen.{statements, arms}
 use Rattle.flame_lookup.specs.Sources.{context_at}
-use Rattle.flame_calls.specs.CallMarks.{marked_where}
+use Rattle.flame_graph.specs.Marks.{marked_where}
 use Rattle.flame_calls.proofs.marking.+tree.Given as goal
 
 abbrev pub invariant-mark_arms-loop-arm : goal.invariant-mark_arms-loop-arm

@@ -2,7 +2,7 @@ use Rattle.std.proofs.Common.{◌≡◌, ℕ, [], drop, map, slice_index_or}
 use Rattle.flame_spec.specs.HelperFaults.{items_call}
 use Rattle.flame_spec.specs.Seen.{declared}
 use Rattle.flame_lookup.specs.Sources.{context_at}
-use Rattle.flame_calls.specs.CallMarks.{marked_where}
+use Rattle.flame_graph.specs.Marks.{marked_where}
 use Rattle.flame_calls.proofs.marking.mark_items.Given as goal
 
 abbrev pub invariant-loop-item : goal.invariant-loop-item

@@ -2,13 +2,13 @@
 use Rattle.std.proofs.Common.{[], ◌<◌, length, get_or, take, ap, sym, ◌∙◌, arith}
 use Rattle.std.specs.Prelude.{◌||◌}
 use Rattle.std.specs.List.{list_any}
+use Rattle.std.proofs.Math.Bool.{or_assoc}
 use Rattle.std.proofs.lemmas.List.Folds.{list_any_more}
 use Rattle.flame_spec.specs.declared.models.Input.{Input}
 use Rattle.flame_spec.specs.Below.{is_in}
-use Rattle.flame_depend.specs.Marks.{marked_where}
+use Rattle.flame_graph.specs.Marks.{marked_where}
 use Rattle.flame_depend.specs.NameTables.{listed}
-use Rattle.flame_depend.proofs.Marking.{marked_or}
-use Rattle.flame_depend.proofs.Linking.{or_assoc}
+use Rattle.flame_graph.proofs.Marking.{marked_or}
 use Rattle.flame_depend.proofs.links.link.Goals as goal
 
 pub loop-input-preserved : goal.loop-input-preserved

@@ -2,7 +2,7 @@ use Rattle.std.proofs.Common.{◌≡◌, ℕ, ◌<◌, [], length, take, get_or}
 use Rattle.std.specs.Prelude.{◌||◌}
 use Rattle.std.specs.List.{list_any}
 use Rattle.flame_spec.specs.Below.{is_in}
-use Rattle.flame_depend.specs.Marks.{marked_where}
+use Rattle.flame_graph.specs.Marks.{marked_where}
 use Rattle.flame_depend.specs.NameTables.{listed}
 use Rattle.flame_depend.proofs.links.link.Given as goal
 

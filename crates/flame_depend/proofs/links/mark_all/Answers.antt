@@ -1,13 +1,13 @@
 -- One source more.
 use Rattle.std.proofs.Common.{◌≡◌, [], ◌<◌, length, get_or, set, take, ap, sym, ◌∙◌, arith, true, refl, ⊎_elim, ◌+◌}
 use Rattle.std.specs.Prelude.{◌==◌, ◌||◌}
+use Rattle.std.proofs.Math.Bool.{or-false}
 use Rattle.std.proofs.lemmas.Bool.{eq-eqb, ne_eqb, cases_eq}
 use Rattle.std.proofs.lemmas.List.{get_or-set_same, get_or-set_other, get_or_default, length-set}
 use Rattle.std.proofs.lemmas.List.Folds.{list_any_more, list_any_at}
 use Rattle.flame_spec.specs.Below.{is_in}
-use Rattle.flame_depend.specs.Marks.{marked, marked_where}
-use Rattle.flame_depend.proofs.Marking.{marked_or}
-use Rattle.flame_depend.proofs.Gets.{or_false}
+use Rattle.flame_graph.specs.Marks.{marked, marked_where}
+use Rattle.flame_graph.proofs.Marking.{marked_or}
 use Rattle.flame_depend.proofs.links.mark_all.Goals as goal
 
 pub bounds-lists-source : goal.bounds-lists-source
@@ -36,5 +36,5 @@ loop-source-preserved c = λ f l.
     ∙ marked_or function (is_in f (take i sources)) true old
     ∙ ap (λ b. marked_where function b old) (sym (more ∙ ap (λ b. is_in f (take i sources) || b) (eq-eqb source f e))))
     (λ e. get_or-set_other lists source f c.mark.new.self [] (λ q. e (sym q)) ∙ c.loop-source.invariant f at
-    ∙ ap (λ b. marked_where function b old) (sym (more ∙ ap (λ b. is_in f (take i sources) || b) (ne_eqb source f e) ∙ or_false (is_in f (take i sources)))))
+    ∙ ap (λ b. marked_where function b old) (sym (more ∙ ap (λ b. is_in f (take i sources) || b) (ne_eqb source f e) ∙ or-false (is_in f (take i sources)))))
     (cases_eq source f)

@@ -1,6 +1,6 @@
 use Rattle.std.proofs.Common.{◌≡◌, ℕ, ◌<◌, [], length, take, get_or}
 use Rattle.flame_spec.specs.Below.{is_in}
-use Rattle.flame_depend.specs.Marks.{marked_where}
+use Rattle.flame_graph.specs.Marks.{marked_where}
 use Rattle.flame_depend.proofs.links.mark_all.Given as goal
 
 abbrev pub invariant-loop-source : goal.invariant-loop-source

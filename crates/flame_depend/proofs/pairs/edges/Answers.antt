@@ -6,13 +6,13 @@ use Rattle.flame_spec.specs.Functions.{Place, functions}
 use Rattle.flame_spec.specs.Before.{function_count}
 use Rattle.flame_spec.proofs.Counts.{few}
 use Rattle.flame_depend.specs.PlacedFunctions.{shown}
-use Rattle.flame_depend.specs.Graph.{follows, AreAscending}
+use Rattle.flame_graph.specs.Graph.{follows, AreAscending}
 use Rattle.flame_depend.specs.Edges.{edges_below}
 use Rattle.flame_depend.proofs.Following.{follows_model, ascending_model, model_successors, of_types}
 use Rattle.flame_depend.proofs.pairs.edges.Goals as goal
 
-pub successors-requires : goal.successors-requires
-successors-requires c =
+pub link_all-requires : goal.link_all-requires
+link_all-requires c =
     let ps = map shown c.deref.result.now in
     let same : ps ≡ functions c.args.model.now = ap (map shown) c.deref.ensures.value ∙ c.in_ok-places.ensures in
     record {

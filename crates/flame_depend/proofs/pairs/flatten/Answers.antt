@@ -1,8 +1,8 @@
 -- The edges of one list more.
 use Rattle.std.proofs.Common.{◌≡◌, suc, ◌+◌, ◌++◌, length, ap, ◌∙◌, arith}
-use Rattle.flame_depend.specs.Graph.{follows}
+use Rattle.flame_graph.specs.Graph.{follows}
 use Rattle.flame_depend.specs.Edges.{edges_to, edges_below}
-use Rattle.flame_depend.proofs.Following.{list_is}
+use Rattle.flame_graph.proofs.Following.{list_is}
 use Rattle.flame_depend.proofs.pairs.flatten.Goals as goal
 
 pub loop-i-preserved : goal.loop-i-preserved

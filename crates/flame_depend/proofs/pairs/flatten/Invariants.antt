@@ -1,5 +1,5 @@
 use Rattle.std.proofs.Common.{◌≡◌, length}
-use Rattle.flame_depend.specs.Graph.{follows}
+use Rattle.flame_graph.specs.Graph.{follows}
 use Rattle.flame_depend.specs.Edges.{edges_below}
 use Rattle.flame_depend.proofs.pairs.flatten.Given as goal
 

@@ -1,21 +1,19 @@
 -- The lists are those of the model, and who waits at the end is left over.
-use Rattle.std.proofs.Common.{◌≡◌, ℕ, List, [], ◌+◌, Bool, Option, Some, None, length, map, ap, sym, ◌∙◌, subst, arith}
-use Rattle.std.specs.Prelude.{◌&&◌, is_some}
+use Rattle.std.proofs.Common.{◌≡◌, ℕ, List, Some, None, length, map, ap, sym, ◌∙◌, subst, arith}
+use Rattle.std.specs.Prelude.{is_some}
 use Rattle.std.proofs.lemmas.List.{length-map}
 use Rattle.flame_spec.specs.declared.models.Model.{Model}
 use Rattle.flame_spec.specs.declared.models.AgentType.{AgentType}
 use Rattle.flame_spec.specs.Functions.{functions}
 use Rattle.flame_spec.specs.Before.{before, before_among, function_count}
-use Rattle.flame_spec.specs.Below.{first_below}
-use Rattle.flame_spec.specs.ModelOrder.{order, first_left, cycle, walk_back, begun_with_least}
+use Rattle.flame_spec.specs.ModelOrder.{order, first_left, cycle, begun_with_least}
 use Rattle.flame_spec.proofs.FirstBelow.{first_is_first}
+use Rattle.flame_graph.proofs.Walking.{left_is}
 use Rattle.flame_depend.specs.declared.place.Placed.{Placed}
 use Rattle.flame_depend.specs.PlacedFunctions.{shown}
-use Rattle.flame_depend.specs.Links.{AreSuccessors}
-use Rattle.flame_depend.specs.Graph.{follows, AreWaiting}
-use Rattle.flame_depend.specs.Backs.{waits}
+use Rattle.flame_graph.specs.Graph.{AreSuccessors, follows, AreWaiting, waits}
 use Rattle.flame_depend.proofs.Following.{ascending_model, model_successors, of_types}
-use Rattle.flame_depend.proofs.Planning.{at_model, left_waits, cycle_is}
+use Rattle.flame_depend.proofs.Planning.{at_model, cycle_is}
 use Rattle.flame_depend.proofs.planner.plan.Goals as goal
 
 -- the lists of the code are those of the model
@@ -24,27 +22,29 @@ linked model placed places lists links e same a l =
     let P : List (List ℕ) → Type 0 = AreSuccessors (function_count model) (before model) in
     subst P (sym l) (model_successors model (map shown places) (length places) lists (ap (map shown) e ∙ same) (sym (length-map places shown)) a)
 
--- who waits is left over
-left_is : (n : ℕ) (before : ℕ → ℕ → Bool) (fs waiting read : List ℕ) (o : Option ℕ) → fs ≡ order n before → AreWaiting n n before fs waiting → read ≡ waiting → o ≡ first_below (waits read) (length read) → first_left n before ≡ o
-left_is n before fs waiting read o e w r h =
-    sym (left_waits n before fs waiting e w) ∙ sym (h ∙ ap (λ xs. first_below (waits xs) (length xs)) r ∙ ap (first_below (waits waiting)) w.len)
-
-pub successors-requires-clause-within : goal.successors-requires-clause-within
-successors-requires-clause-within c =
+pub link_all-requires-clause-within : goal.link_all-requires-clause-within
+link_all-requires-clause-within c =
     of_types c.args.model.now (map shown c.deref.result.now) (length c.items.result.now) (ap (map shown) c.deref.ensures.value ∙ c.in_ok-places.ensures) (ap (length {A = AgentType}) c.items.ensures)
 
 pub put_in_order-requires-clause-ascending : goal.put_in_order-requires-clause-ascending
 put_in_order-requires-clause-ascending c =
     ascending_model c.args.model.now c.as_slice-links.result.now (linked c.args.model.now c.in_ok-places.places.items c.deref.result.now c.in_ok-lists.lists.items c.as_slice-links.result.now c.deref.ensures.value c.in_ok-places.ensures c.in_ok-lists.ensures c.as_slice-links.ensures.value)
 
-pub meet_cycle-requires-clause-ascending : goal.meet_cycle-requires-clause-ascending
-meet_cycle-requires-clause-ascending c =
+pub walk_back-requires-clause-ascending : goal.walk_back-requires-clause-ascending
+walk_back-requires-clause-ascending c =
     ascending_model c.args.model.now c.as_slice-links.result.now (linked c.args.model.now c.in_ok-places.places.items c.deref.result.now c.in_ok-lists.lists.items c.as_slice-links.result.now c.deref.ensures.value c.in_ok-places.ensures c.in_ok-lists.ensures c.as_slice-links.ensures.value)
 
-pub meet_cycle-requires-clause-start : goal.meet_cycle-requires-clause-start
-meet_cycle-requires-clause-start c =
+pub walk_back-requires-clause-start : goal.walk_back-requires-clause-start
+walk_back-requires-clause-start c =
     let found = first_is_first (waits c.deref-2.result.now) (length c.deref-2.result.now) c.in-Some.start (sym c.in-Some.ensures) in
     omega (arith, found.below, c.deref-2.ensures.len, c.in_ok-ordered.ensures.waiting.len)
+
+pub walk_back-requires-clause-waiting : goal.walk_back-requires-clause-waiting
+walk_back-requires-clause-waiting c =
+    let n = length c.as_slice-links.result.now in
+    let before = follows c.as_slice-links.result.now in
+    let P : List ℕ → Type 0 = AreWaiting n n before (order n before) in
+    subst P (sym c.deref-in-Some.ensures.value) c.in_ok-ordered.ensures.waiting
 
 pub returns-in-Some-clause-fault : goal.returns-in-Some-clause-fault
 returns-in-Some-clause-fault c =
@@ -52,16 +52,13 @@ returns-in-Some-clause-fault c =
     let links = c.as_slice-links.result.now in
     let n = length links in
     let before = follows links in
-    let fs = c.in_ok-ordered.ordered.order.items in
-    let ws = c.in_ok-ordered.ordered.waiting.items in
     let start = c.in-Some.start in
     let a = linked model c.in_ok-places.places.items c.deref.result.now c.in_ok-lists.lists.items links c.deref.ensures.value c.in_ok-places.ensures c.in_ok-lists.ensures c.as_slice-links.ensures.value in
-    let left = left_is n before fs ws c.deref-2.result.now (Some start) c.in_ok-ordered.ensures.order c.in_ok-ordered.ensures.waiting c.deref-2.ensures.value c.in-Some.ensures in
-    let waiting = left_waits n before fs ws c.in_ok-ordered.ensures.order c.in_ok-ordered.ensures.waiting ∙ left in (
+    let left = left_is n before c.in_ok-ordered.ordered.waiting.items c.deref-2.result.now (Some start) c.in_ok-ordered.ensures.left c.deref-2.ensures.value c.in-Some.ensures in (
       ap is_some (sym (at_model first_left model links a) ∙ left),
-      c.of.ensures ∙ c.in_ok-functions-in-Some.ensures
-          ∙ ap (λ xs. begun_with_least (walk_back (n + 1) (λ g. first_below (λ f. before f g && waits xs f) n) [] start)) c.deref-in-Some.ensures.value
-          ∙ cycle_is n before fs ws start c.in_ok-ordered.ensures.order c.in_ok-ordered.ensures.waiting waiting
+      c.of.ensures ∙ c.begin_with_least.ensures
+          ∙ ap begun_with_least c.in_ok-functions-in-Some.ensures
+          ∙ cycle_is n before start left
           ∙ at_model cycle model links a,
     )
 
@@ -78,4 +75,4 @@ plan_ordered-requires-clause-acyclic c =
     let links = c.as_slice-links.result.now in
     let a = linked c.args.model.now c.in_ok-places.places.items c.deref.result.now c.in_ok-lists.lists.items links c.deref.ensures.value c.in_ok-places.ensures c.in_ok-lists.ensures c.as_slice-links.ensures.value in
     sym (at_model first_left c.args.model.now links a)
-    ∙ left_is (length links) (follows links) c.in_ok-ordered.ordered.order.items c.in_ok-ordered.ordered.waiting.items c.deref-2.result.now None c.in_ok-ordered.ensures.order c.in_ok-ordered.ensures.waiting c.deref-2.ensures.value c.in-None.ensures
+    ∙ left_is (length links) (follows links) c.in_ok-ordered.ordered.waiting.items c.deref-2.result.now None c.in_ok-ordered.ensures.left c.deref-2.ensures.value c.in-None.ensures

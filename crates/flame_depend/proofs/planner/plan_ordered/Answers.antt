@@ -12,14 +12,14 @@ use Rattle.flame_depend.proofs.Following.{ascending_model}
 use Rattle.flame_depend.proofs.Planning.{at_model}
 use Rattle.flame_depend.proofs.planner.plan_ordered.Goals as goal
 
-pub layer_functions-requires-clause-ascending : goal.layer_functions-requires-clause-ascending
-layer_functions-requires-clause-ascending c = ascending_model c.args.model.now c.args.lists.now c.requires.lists
+pub layers-requires-clause-ascending : goal.layers-requires-clause-ascending
+layers-requires-clause-ascending c = ascending_model c.args.model.now c.args.lists.now c.requires.lists
 
-pub layer_functions-requires-clause-order : goal.layer_functions-requires-clause-order
-layer_functions-requires-clause-order c = c.deref.ensures.value ∙ c.requires.order ∙ sym (at_model order c.args.model.now c.args.lists.now c.requires.lists)
+pub layers-requires-clause-order : goal.layers-requires-clause-order
+layers-requires-clause-order c = c.deref.ensures.value ∙ c.requires.order ∙ sym (at_model order c.args.model.now c.args.lists.now c.requires.lists)
 
-pub layer_functions-requires-clause-whole : goal.layer_functions-requires-clause-whole
-layer_functions-requires-clause-whole c = at_model first_left c.args.model.now c.args.lists.now c.requires.lists ∙ c.requires.acyclic
+pub layers-requires-clause-whole : goal.layers-requires-clause-whole
+layers-requires-clause-whole c = at_model first_left c.args.model.now c.args.lists.now c.requires.lists ∙ c.requires.acyclic
 
 pub find_starts-requires-clause-some : goal.find_starts-requires-clause-some
 find_starts-requires-clause-some c =

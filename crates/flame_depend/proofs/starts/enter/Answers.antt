@@ -4,7 +4,7 @@ use Rattle.std.specs.Prelude.{◌||◌}
 use Rattle.std.specs.Str.{bytes_eq}
 use Rattle.std.specs.HashSet.{contains_text}
 use Rattle.std.proofs.lemmas.Map.Text.{hash_set_updates_text}
-use Rattle.flame_depend.proofs.ReadySets.{cond_or}
+use Rattle.flame_graph.proofs.ReadySets.{cond_or}
 use Rattle.flame_depend.proofs.starts.enter.Goals as goal
 
 pub returns : goal.returns

@@ -3,12 +3,11 @@ use Rattle.std.proofs.Common.{◌≡◌, ℕ, List, [], ◌∷◌, ◌++◌, ◌
 use Rattle.std.specs.Prelude.{◌||◌, filter}
 use Rattle.std.specs.Str.{bytes_eq}
 use Rattle.std.specs.HashSet.{contains_text}
+use Rattle.std.proofs.Math.Bool.{or-false, or_assoc}
 use Rattle.std.proofs.lemmas.Bool.{not-false}
 use Rattle.std.proofs.lemmas.List.{append_assoc, append-nil, drop_all}
 use Rattle.flame_spec.specs.KnownNames.{is_among}
 use Rattle.flame_spec.specs.States.{distinct_after, ends, is_entered}
-use Rattle.flame_depend.proofs.Gets.{or_false}
-use Rattle.flame_depend.proofs.Linking.{or_assoc}
 use Rattle.flame_depend.proofs.Distinct.{unentered, starts_are, starts_more, is_among-push, there_already}
 use Rattle.flame_depend.proofs.starts.unentered_states.Goals as goal
 use Rattle.flame_depend.proofs.starts.unentered_states.Goals.{then-branch+in_ok-of+in_ok-push, else-branch}
@@ -18,7 +17,7 @@ loop-function-init c =
     let fs = c.args.functions.now in
     let none = c.new-states.ensures.items in
     record {
-      passed = λ q. c.in_ok-passed.ensures q ∙ sym (ap (λ xs. is_entered fs q || is_among q xs) none ∙ or_false (is_entered fs q));
+      passed = λ q. c.in_ok-passed.ensures q ∙ sym (ap (λ xs. is_entered fs q || is_among q xs) none ∙ or-false (is_entered fs q));
       rest = starts_are fs c.requires ∙ sym (ap (λ xs. xs ++ distinct_after xs (filter (unentered fs) (ends fs))) none);
     }
 

@@ -1,9 +1,0 @@
--- The set has one helper more.
-use Rattle.std.proofs.Common.{ap, ◌∙◌}
-use Rattle.std.specs.Prelude.{◌==◌, ◌||◌}
-use Rattle.flame_spec.specs.Below.{is_in}
-use Rattle.flame_calls.proofs.ReadySets.{added_is}
-use Rattle.flame_calls.proofs.ready.Ready.add.Goals as goal
-
-pub returns : goal.returns
-returns c = λ g. added_is c.self.inside.helpers c.insert.new.self c.args.helper c.in_ok-insert.ensures.updates g ∙ ap (λ fs. is_in g fs || (c.args.helper == g)) c.self.view_is
