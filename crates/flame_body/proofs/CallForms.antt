@@ -10,67 +10,67 @@ use Rattle.flame_body.specs.declared.slots.SlotStmt.{SlotStmt, Empty, Declare, A
 use Rattle.flame_body.specs.declared.slots.SlotStmt.{Loop, Return, Break, Continue, the_lemmas}
 use Rattle.flame_body.specs.declared.slots.SlotArm.{SlotArm}
 use Rattle.flame_body.specs.declared.slots.SlotHead.{SlotHead}
-use Rattle.flame_body.specs.BodyCalls.{initial_calls_fit, stored_calls_fit, step_calls_fit, deed_calls_fit}
-use Rattle.flame_body.specs.BodyCalls.{all_calls_fit, statement_calls_fit, calls_fit}
+use Rattle.flame_body.specs.BodyCalls.{initial_calls_pass, stored_calls_pass, step_calls_pass, deed_calls_pass}
+use Rattle.flame_body.specs.BodyCalls.{all_calls_pass, statement_calls_pass, tree_calls_pass}
 
-pub calls-Empty : (counts : List ℕ) → statement_calls_fit counts Empty ≡ true
-calls-Empty counts = search (rules, the_lemmas)
+pub calls-Empty : (passes : ℕ → ℕ → Bool) → statement_calls_pass passes Empty ≡ true
+calls-Empty passes = search (rules, the_lemmas)
 
 pub calls-Declare :
-    (counts : List ℕ) (items : List SlotItem)
-    → statement_calls_fit counts (Declare items) ≡ list_all (λ item. initial_calls_fit counts item.value) items
-calls-Declare counts items = search (rules, the_lemmas)
+    (passes : ℕ → ℕ → Bool) (items : List SlotItem)
+    → statement_calls_pass passes (Declare items) ≡ list_all (λ item. initial_calls_pass passes item.value) items
+calls-Declare passes items = search (rules, the_lemmas)
 
 pub calls-Assign :
-    (counts : List ℕ) (a : SlotAssign) → statement_calls_fit counts (Assign a) ≡ stored_calls_fit counts a.value
-calls-Assign counts a = search (rules, the_lemmas)
+    (passes : ℕ → ℕ → Bool) (a : SlotAssign) → statement_calls_pass passes (Assign a) ≡ stored_calls_pass passes a.value
+calls-Assign passes a = search (rules, the_lemmas)
 
 pub calls-Call :
-    (counts : List ℕ) (deed : SlotDeed) (arguments : List SlotExpr)
-    → statement_calls_fit counts (Call deed arguments) ≡ deed_calls_fit counts deed arguments
-calls-Call counts deed arguments = search (rules, the_lemmas)
+    (passes : ℕ → ℕ → Bool) (deed : SlotDeed) (arguments : List SlotExpr)
+    → statement_calls_pass passes (Call deed arguments) ≡ deed_calls_pass passes deed arguments
+calls-Call passes deed arguments = search (rules, the_lemmas)
 
 pub calls-Block :
-    (counts : List ℕ) (body : List SlotStmt)
-    → statement_calls_fit counts (Block body) ≡ calls_fit counts body
-calls-Block counts body = search (rules, the_lemmas)
+    (passes : ℕ → ℕ → Bool) (body : List SlotStmt)
+    → statement_calls_pass passes (Block body) ≡ tree_calls_pass passes body
+calls-Block passes body = search (rules, the_lemmas)
 
--- the calls in the body of a test fit
-abbrev pub arm_calls_fit : List ℕ → SlotArm → Bool
-arm_calls_fit counts arm = calls_fit counts arm.body
+-- the calls in the body of a test pass
+abbrev pub arm_calls_pass : (ℕ → ℕ → Bool) → SlotArm → Bool
+arm_calls_pass passes arm = tree_calls_pass passes arm.body
 
 pub calls-If :
-    (counts : List ℕ) (arms : List SlotArm) (otherwise : List SlotStmt)
-    → statement_calls_fit counts (If arms otherwise)
-    ≡ (all_calls_fit (map (arm_calls_fit counts) arms) && calls_fit counts otherwise)
-calls-If counts arms otherwise = search (rules, the_lemmas)
+    (passes : ℕ → ℕ → Bool) (arms : List SlotArm) (otherwise : List SlotStmt)
+    → statement_calls_pass passes (If arms otherwise)
+    ≡ (all_calls_pass (map (arm_calls_pass passes) arms) && tree_calls_pass passes otherwise)
+calls-If passes arms otherwise = search (rules, the_lemmas)
 
 pub calls-While :
-    (counts : List ℕ) (line : ℕ) (test : SlotExpr) (body : List SlotStmt)
-    → statement_calls_fit counts (While line test body) ≡ calls_fit counts body
-calls-While counts line test body = search (rules, the_lemmas)
+    (passes : ℕ → ℕ → Bool) (line : ℕ) (test : SlotExpr) (body : List SlotStmt)
+    → statement_calls_pass passes (While line test body) ≡ tree_calls_pass passes body
+calls-While passes line test body = search (rules, the_lemmas)
 
 pub calls-For :
-    (counts : List ℕ) (line : ℕ) (head : SlotHead) (body : List SlotStmt)
-    → statement_calls_fit counts (For line head body)
-    ≡ ((calls_fit counts head.first && step_calls_fit counts head.step) && calls_fit counts body)
-calls-For counts line head body = search (rules, the_lemmas)
+    (passes : ℕ → ℕ → Bool) (line : ℕ) (head : SlotHead) (body : List SlotStmt)
+    → statement_calls_pass passes (For line head body)
+    ≡ ((tree_calls_pass passes head.first && step_calls_pass passes head.step) && tree_calls_pass passes body)
+calls-For passes line head body = search (rules, the_lemmas)
 
 pub calls-Do :
-    (counts : List ℕ) (line : ℕ) (body : List SlotStmt) (test : SlotExpr)
-    → statement_calls_fit counts (Do line body test) ≡ calls_fit counts body
-calls-Do counts line body test = search (rules, the_lemmas)
+    (passes : ℕ → ℕ → Bool) (line : ℕ) (body : List SlotStmt) (test : SlotExpr)
+    → statement_calls_pass passes (Do line body test) ≡ tree_calls_pass passes body
+calls-Do passes line body test = search (rules, the_lemmas)
 
 pub calls-Loop :
-    (counts : List ℕ) (line input : ℕ) (body : List SlotStmt)
-    → statement_calls_fit counts (Loop line input body) ≡ calls_fit counts body
-calls-Loop counts line input body = search (rules, the_lemmas)
+    (passes : ℕ → ℕ → Bool) (line input : ℕ) (body : List SlotStmt)
+    → statement_calls_pass passes (Loop line input body) ≡ tree_calls_pass passes body
+calls-Loop passes line input body = search (rules, the_lemmas)
 
-pub calls-Return : (counts : List ℕ) (e : SlotExpr) → statement_calls_fit counts (Return e) ≡ true
-calls-Return counts e = search (rules, the_lemmas)
+pub calls-Return : (passes : ℕ → ℕ → Bool) (e : SlotExpr) → statement_calls_pass passes (Return e) ≡ true
+calls-Return passes e = search (rules, the_lemmas)
 
-pub calls-Break : (counts : List ℕ) → statement_calls_fit counts Break ≡ true
-calls-Break counts = search (rules, the_lemmas)
+pub calls-Break : (passes : ℕ → ℕ → Bool) → statement_calls_pass passes Break ≡ true
+calls-Break passes = search (rules, the_lemmas)
 
-pub calls-Continue : (counts : List ℕ) → statement_calls_fit counts Continue ≡ true
-calls-Continue counts = search (rules, the_lemmas)
+pub calls-Continue : (passes : ℕ → ℕ → Bool) → statement_calls_pass passes Continue ≡ true
+calls-Continue passes = search (rules, the_lemmas)

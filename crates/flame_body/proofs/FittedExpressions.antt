@@ -9,7 +9,7 @@ use Rattle.flame_spec.specs.declared.models.Input.{Input}
 use Rattle.flame_spec.specs.declared.models.MessageType.{MessageType}
 use Rattle.flame_spec.specs.declared.models.Model.{Model}
 use Rattle.flame_spec.specs.declared.models.Variable.{Variable}
-use Rattle.flame_spec.specs.Columns.{width, width_by, width_of, is_array, variable_named}
+use Rattle.flame_spec.specs.Columns.{width, width_by, width_of, is_array, variable_named, elements}
 use Rattle.flame_spec.specs.ExpressionFaults.{gives_array, names_array, unknown_faults, indexed_faults, getter_faults}
 use Rattle.flame_spec.specs.ExpressionFaults.{is_found_array}
 use Rattle.flame_spec.specs.ExpressionFaults.{member_faults, row_faults, row_faults_of, member_of, member_read}
@@ -18,13 +18,12 @@ use Rattle.flame_spec.specs.ExpressionFaults.{expression_faults, parts_faults, l
 use Rattle.flame_spec.specs.Functions.{Place}
 use Rattle.flame_spec.specs.KnownNames.{variables_in}
 use Rattle.flame_spec.specs.LookUps.{Given, in_memory, constant, iteration, memory_got, message_read}
-use Rattle.flame_spec.specs.Scopes.{Context, Sight, memory_at, messages_in, messages_at, given_at, is_open_over}
+use Rattle.flame_spec.specs.Scopes.{Context, Sight, memory_at, messages_in, messages_at, given_at, is_open_over, input_in, input_found}
 use Rattle.flame_spec.specs.Trees.{Expression, number, name, field, get, at, field_at, signed, chain, all_of, any_of}
 use Rattle.flame_spec.specs.Trees.{Expressions, no_parts, part, Links, no_links, link}
-use Rattle.flame_lookup.specs.Sources.{input_in}
 use Rattle.flame_body.specs.declared.slots.SlotLink.{SlotLink}
-use Rattle.flame_body.specs.WordSlots.{slot_at, cells_at, cells_found, cells_given, elements_by, span_found, field_span}
-use Rattle.flame_body.specs.WordSlots.{field_cells, got_column, input_found, input_read, number_found}
+use Rattle.flame_body.specs.WordSlots.{slot_at, cells_at, cells_found, cells_given, span_found, field_span}
+use Rattle.flame_body.specs.WordSlots.{field_cells, got_column, input_read, number_found}
 use Rattle.flame_body.specs.NumberedTrees.{numbered, numbered_parts, numbered_links}
 use Rattle.flame_body.specs.FunctionBodies.{widths_in, input_width}
 use Rattle.flame_body.specs.BodyFits.{Around, fits, values_fit, is_value, is_inside, are_within, is_field}
@@ -39,10 +38,10 @@ use Rattle.flame_body.proofs.FittedWords.{given-within, name-fits}
 
 -- ---- arrays and getters
 
-elements : (v : Variable) → is_array v ≡ true → elements_by v.length ≡ width_of v
-elements v h = by_length v.length h
+elements-there : (v : Variable) → is_array v ≡ true → elements v.length ≡ width_of v
+elements-there v h = by_length v.length h
   where
-    by_length : (length : Option ℕ) → is_some length ≡ true → elements_by length ≡ width_by length
+    by_length : (length : Option ℕ) → is_some length ≡ true → elements length ≡ width_by length
     by_length (Some n) g = refl
     by_length None g = absurd (cc)
 
@@ -56,7 +55,7 @@ pub cells-fit :
 cells-fit context around word None w is h = absurd (cc)
 cells-fit context around word (Some (in_memory c v)) w is h =
     let within : c + width_of v ≤ width (memory_at context) = given-within context word c v is in
-    let long : elements_by v.length ≡ width_of v = elements v h in
+    let long : elements v.length ≡ width_of v = elements-there v h in
     let wide : around.widths.memory ≡ width (memory_at context) =
     ap (λ x. x.memory) w ∙ memory-width context.model context.runs in
     le-true _ _ (omega arith)
@@ -192,7 +191,7 @@ field-cells-fit context sight around word variable None suits row is array = abs
 field-cells-fit context sight around word variable (Some (c, v)) suits row is array =
     let stands = field-stands context sight around word variable c v suits row is in
     let within = stands.within in
-    let long : elements_by v.length ≡ width_of v = elements v array in
+    let long : elements v.length ≡ width_of v = elements-there v array in
     both _ _ stands.inside (le-true _ _ (omega arith))
 
 -- ---- expressions

@@ -16,14 +16,13 @@ use Rattle.flame_spec.specs.KnownNames.{is_among}
 use Rattle.flame_spec.specs.Lists.{numbered_where}
 use Rattle.flame_spec.specs.Scopes.{Context, Sight, over_message, over_none, at_entry, in_scope, in_loop, in_value_of}
 use Rattle.flame_spec.specs.Scopes.{after_name, after_items, after_parameters, given_at, is_local, is_outside}
-use Rattle.flame_spec.specs.Scopes.{is_open_over}
+use Rattle.flame_spec.specs.Scopes.{is_open_over, input_in, input_found}
 use Rattle.flame_spec.specs.StatementFaults.{is_taken, declared_faults, item_faults, items_faults, parameters_faults}
 use Rattle.flame_spec.specs.StatementFaults.{optional_stored_faults}
 use Rattle.flame_spec.specs.StatementFaults.{is_input, opened, start_faults}
 use Rattle.flame_spec.specs.ExpressionFaults.{fault_where}
 use Rattle.flame_spec.specs.Trees.{Declared}
-use Rattle.flame_lookup.specs.Sources.{input_in}
-use Rattle.flame_body.specs.WordSlots.{input_found, number_found}
+use Rattle.flame_body.specs.WordSlots.{number_found}
 use Rattle.flame_body.specs.FunctionBodies.{widths_in, input_width}
 use Rattle.flame_body.specs.FitLaws.{Suits}
 use Rattle.flame_body.specs.BodyFits.{Around, at_beginning, in_plain_loop, in_input_loop, is_inside}

@@ -1,6 +1,8 @@
--- When the calls of helpers in a numbered tree have as many arguments as the helpers take. It speaks of numbers alone.
-use Rattle.std.specs.Prelude.{ℕ, ◌==◌, nat_lt, List, map, length, slice_index_or, Bool, true, ◌&&◌, Option, Some, None}
+-- When the calls of helpers in a numbered tree pass a test of the number of the helper and of how many arguments it gets,
+-- and when these are as many as the helper takes. It speaks of numbers alone.
+use Rattle.std.specs.Prelude.{ℕ, List, map, length, Bool, true, ◌&&◌, Option, Some, None}
 use Rattle.std.specs.List.{list_all}
+use Rattle.flame_spec.specs.Definitions.{takes}
 use Rattle.flame_body.specs.declared.slots.SlotDeed.{SlotDeed}
 use Rattle.flame_body.specs.declared.slots.SlotDeed.TheVariants.{Calls}
 use Rattle.flame_body.specs.declared.slots.SlotExpr.{SlotExpr}
@@ -10,64 +12,63 @@ use Rattle.flame_body.specs.declared.slots.SlotAssign.{SlotAssign}
 use Rattle.flame_body.specs.declared.slots.SlotStmt.{SlotStmt, fold-SlotStmt}
 use Rattle.flame_body.specs.declared.slots.SlotStmt.TheOpen.{SlotStmt-F, SlotArm-F, SlotHead-F}
 
--- a call of the helper of this number: there is a helper of the number, and it takes as many arguments [C, 6.5.2.2]
-abbrev pub call_fits : List ℕ → ℕ → List SlotExpr → Bool
-call_fits counts helper arguments =
-    nat_lt helper (length counts) && (length arguments == slice_index_or counts helper 0)
-
 -- what a call statement does, where it calls a helper [C, 6.5.2.2]
-abbrev pub deed_calls_fit : List ℕ → SlotDeed → List SlotExpr → Bool
-deed_calls_fit counts (Calls line helper) arguments = call_fits counts helper arguments
-deed_calls_fit counts _ arguments = true
+abbrev pub deed_calls_pass : (ℕ → ℕ → Bool) → SlotDeed → List SlotExpr → Bool
+deed_calls_pass passes (Calls line helper) arguments = passes helper (length arguments)
+deed_calls_pass passes _ arguments = true
 
 -- what is stored, where a helper returns it [C, 6.5.2.2]
-abbrev pub stored_calls_fit : List ℕ → SlotValue → Bool
-stored_calls_fit counts (Plain e) = true
-stored_calls_fit counts (Call line helper arguments) = call_fits counts helper arguments
+abbrev pub stored_calls_pass : (ℕ → ℕ → Bool) → SlotValue → Bool
+stored_calls_pass passes (Plain e) = true
+stored_calls_pass passes (Call line helper arguments) = passes helper (length arguments)
 
 -- what a local begins with, if it does [own]
-abbrev pub initial_calls_fit : List ℕ → Option SlotValue → Bool
-initial_calls_fit counts None = true
-initial_calls_fit counts (Some value) = stored_calls_fit counts value
+abbrev pub initial_calls_pass : (ℕ → ℕ → Bool) → Option SlotValue → Bool
+initial_calls_pass passes None = true
+initial_calls_pass passes (Some value) = stored_calls_pass passes value
 
 -- an assignment that may be missing [own]
-abbrev pub step_calls_fit : List ℕ → Option SlotAssign → Bool
-step_calls_fit counts None = true
-step_calls_fit counts (Some a) = stored_calls_fit counts a.value
+abbrev pub step_calls_pass : (ℕ → ℕ → Bool) → Option SlotAssign → Bool
+step_calls_pass passes None = true
+step_calls_pass passes (Some a) = stored_calls_pass passes a.value
 
--- the calls in each of these statements fit [own]
-abbrev pub all_calls_fit : List Bool → Bool
-all_calls_fit statements = list_all (λ statement. statement) statements
+-- the calls in each of these statements pass [own]
+abbrev pub all_calls_pass : List Bool → Bool
+all_calls_pass statements = list_all (λ statement. statement) statements
 
--- a statement, of whose parts it is known whether their calls fit [own]
-abbrev pub statement_calls_step : List ℕ → SlotStmt-F Bool Bool Bool → Bool
-statement_calls_step counts SlotStmt-F.Empty = true
-statement_calls_step counts (SlotStmt-F.Declare items) = list_all (λ item. initial_calls_fit counts item.value) items
-statement_calls_step counts (SlotStmt-F.Assign a) = stored_calls_fit counts a.value
-statement_calls_step counts (SlotStmt-F.Call deed arguments) = deed_calls_fit counts deed arguments
-statement_calls_step counts (SlotStmt-F.Block body) = all_calls_fit body
-statement_calls_step counts (SlotStmt-F.If arms otherwise) = all_calls_fit arms && all_calls_fit otherwise
-statement_calls_step counts (SlotStmt-F.While line test body) = all_calls_fit body
-statement_calls_step counts (SlotStmt-F.For line head body) = head && all_calls_fit body
-statement_calls_step counts (SlotStmt-F.Do line body test) = all_calls_fit body
-statement_calls_step counts (SlotStmt-F.Loop line input body) = all_calls_fit body
-statement_calls_step counts (SlotStmt-F.Return e) = true
-statement_calls_step counts SlotStmt-F.Break = true
-statement_calls_step counts SlotStmt-F.Continue = true
+-- a statement, of whose parts it is known whether their calls pass [own]
+abbrev pub statement_calls_step : (ℕ → ℕ → Bool) → SlotStmt-F Bool Bool Bool → Bool
+statement_calls_step passes SlotStmt-F.Empty = true
+statement_calls_step passes (SlotStmt-F.Declare items) = list_all (λ item. initial_calls_pass passes item.value) items
+statement_calls_step passes (SlotStmt-F.Assign a) = stored_calls_pass passes a.value
+statement_calls_step passes (SlotStmt-F.Call deed arguments) = deed_calls_pass passes deed arguments
+statement_calls_step passes (SlotStmt-F.Block body) = all_calls_pass body
+statement_calls_step passes (SlotStmt-F.If arms otherwise) = all_calls_pass arms && all_calls_pass otherwise
+statement_calls_step passes (SlotStmt-F.While line test body) = all_calls_pass body
+statement_calls_step passes (SlotStmt-F.For line head body) = head && all_calls_pass body
+statement_calls_step passes (SlotStmt-F.Do line body test) = all_calls_pass body
+statement_calls_step passes (SlotStmt-F.Loop line input body) = all_calls_pass body
+statement_calls_step passes (SlotStmt-F.Return e) = true
+statement_calls_step passes SlotStmt-F.Break = true
+statement_calls_step passes SlotStmt-F.Continue = true
 
 -- the body of a test [own]
 abbrev pub arm_calls_step : SlotArm-F Bool Bool Bool → Bool
-arm_calls_step arm = all_calls_fit arm.body
+arm_calls_step arm = all_calls_pass arm.body
 
 -- the head of a `for` [own]
-abbrev pub head_calls_step : List ℕ → SlotHead-F Bool Bool Bool → Bool
-head_calls_step counts head = all_calls_fit head.first && step_calls_fit counts head.step
+abbrev pub head_calls_step : (ℕ → ℕ → Bool) → SlotHead-F Bool Bool Bool → Bool
+head_calls_step passes head = all_calls_pass head.first && step_calls_pass passes head.step
 
--- the calls of helpers in a statement fit, where the helper of each number takes so many arguments [own]
-abbrev pub statement_calls_fit : List ℕ → SlotStmt → Bool
-statement_calls_fit counts =
-    fold-SlotStmt Bool Bool Bool (statement_calls_step counts) arm_calls_step (head_calls_step counts)
+-- the calls of helpers in a statement pass [own]
+abbrev pub statement_calls_pass : (ℕ → ℕ → Bool) → SlotStmt → Bool
+statement_calls_pass passes =
+    fold-SlotStmt Bool Bool Bool (statement_calls_step passes) arm_calls_step (head_calls_step passes)
 
--- the calls of helpers in the statements of a body fit [own]
-abbrev pub calls_fit : List ℕ → List SlotStmt → Bool
-calls_fit counts tree = all_calls_fit (map (statement_calls_fit counts) tree)
+-- the calls of helpers in the statements of a body pass [own]
+abbrev pub tree_calls_pass : (ℕ → ℕ → Bool) → List SlotStmt → Bool
+tree_calls_pass passes tree = all_calls_pass (map (statement_calls_pass passes) tree)
+
+-- the calls of helpers in the statements of a body fit, where the helpers take these numbers of arguments [C, 6.5.2.2]
+abbrev pub tree_calls_fit : List ℕ → List SlotStmt → Bool
+tree_calls_fit counts tree = tree_calls_pass (takes counts) tree

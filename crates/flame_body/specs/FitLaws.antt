@@ -1,18 +1,18 @@
 -- What holds of numbered trees: without check faults an expression and the body of a C function fit, and calls have the
 -- arguments that their helpers take.
-use Rattle.std.specs.Prelude.{◌≡◌, ℕ, List, [], map, length, true, None, Some, is_some}
+use Rattle.std.specs.Prelude.{◌≡◌, ℕ, List, [], map, length, slice_get, Bool, true, None, Some, is_some}
 use Rattle.flame_spec.specs.declared.models.Input.{Input}
 use Rattle.flame_spec.specs.declared.models.MessageType.{MessageType}
 use Rattle.flame_spec.specs.CheckFaults.{definition_faults}
 use Rattle.flame_spec.specs.Definitions.{Definition}
 use Rattle.flame_spec.specs.ExpressionFaults.{expression_faults}
-use Rattle.flame_spec.specs.Scopes.{Context, Sight, at_entry, after_parameters, given_at, is_local, is_open_over}
-use Rattle.flame_spec.specs.Trees.{Expression}
-use Rattle.flame_lookup.specs.Sources.{input_in}
+use Rattle.flame_spec.specs.HelperFaults.{statements_call}
+use Rattle.flame_spec.specs.Scopes.{Context, context_for, Sight, at_entry, after_parameters, given_at, is_local, is_open_over, input_in}
+use Rattle.flame_spec.specs.Trees.{Expression, Statements}
 use Rattle.flame_body.specs.declared.slots.SlotStmt.{SlotStmt}
 use Rattle.flame_body.specs.FunctionBodies.{widths_in}
 use Rattle.flame_body.specs.NumberedTrees.{numbered, numbered_statements}
-use Rattle.flame_body.specs.BodyCalls.{calls_fit}
+use Rattle.flame_body.specs.BodyCalls.{tree_calls_pass, tree_calls_fit}
 use Rattle.flame_body.specs.BodyFits.{Around, is_inside, fits, tree_fits}
 
 -- what a place has round it is that of what it sees: the widths are those of its function; no local has a name that the
@@ -25,9 +25,9 @@ pub record Suits (context : Context) (sight : Sight) (around : Around) : Type 0 
   pub inside : (message : MessageType) (n : ℕ) (input : Input) → is_open_over sight message ≡ true
       → input_in context.runs message ≡ Some (n, input) → is_inside n around ≡ true
 
--- the same place; its file is for check faults alone [own]
+-- what the words of a body go by there, whatever its file [own]
 abbrev pub unfiled : Context → Context
-unfiled context = record context { file = 0 }
+unfiled context = context_for context.model context.helpers context.runs
 
 -- an expression without check faults fits, with numbers in place of names [own]
 abbrev pub ExpressionsFit : Type 0
@@ -50,10 +50,27 @@ DefinitionsFit =
     → definition_faults context d ≡ []
     → tree_fits (widths_in context.model context.runs) (numbered_definition context d) ≡ true
 
+-- of each helper that the body calls, the number and how many parameters it has pass the test [own]
+abbrev pub CalledPass : (ℕ → ℕ → Bool) → Context → Statements → Type 0
+CalledPass passes context body =
+    (h : ℕ) (helper : Definition)
+    → slice_get context.helpers h ≡ Some helper
+    → statements_call context h body ≡ true
+    → passes h (length helper.parameters) ≡ true
+
+-- in a C function without check faults, what passes of the helpers that its body calls passes of the calls of the
+-- numbered body: they are the same, and each has as many arguments as the helper has parameters [C, 6.5.2.2]
+abbrev pub CallsPass : Type 0
+CallsPass =
+    (passes : ℕ → ℕ → Bool) (context : Context) (d : Definition)
+    → definition_faults context d ≡ []
+    → CalledPass passes context d.body
+    → tree_calls_pass passes (numbered_definition context d) ≡ true
+
 -- in a C function without check faults each call of a helper has as many arguments as the helper has parameters
 -- [C, 6.5.2.2]
 abbrev pub CallsFit : Type 0
 CallsFit =
     (context : Context) (d : Definition)
     → definition_faults context d ≡ []
-    → calls_fit (map (λ h. length h.parameters) context.helpers) (numbered_definition context d) ≡ true
+    → tree_calls_fit (map (λ h. length h.parameters) context.helpers) (numbered_definition context d) ≡ true

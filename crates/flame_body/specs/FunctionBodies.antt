@@ -9,7 +9,7 @@ use Rattle.flame_spec.specs.Definitions.{Definition, helpers, body_of}
 use Rattle.flame_spec.specs.Functions.{Place, functions}
 use Rattle.flame_spec.specs.KnownNames.{variables_in}
 use Rattle.flame_spec.specs.Lists.{each}
-use Rattle.flame_spec.specs.Scopes.{Context, at_entry, after_parameters}
+use Rattle.flame_spec.specs.Scopes.{Context, context_for, at_entry, after_parameters}
 use Rattle.flame_body.specs.declared.slots.SlotStmt.{SlotStmt}
 use Rattle.flame_body.specs.NumberedTrees.{numbered_statements}
 
@@ -46,10 +46,9 @@ widths_in model (Some place) = record {
 
 -- ---- bodies
 
--- what the words of a body go by: of the function of this place, or of a helper. The number of a file is for check
--- faults alone, and 0 here [own]
+-- what the words of a body go by in these files: of the function of this place, or of a helper [own]
 abbrev pub words_of : Model → List file.Unit → Option Place → Context
-words_of model units runs = record { model = model; helpers = helpers model units; runs = runs; file = 0 }
+words_of model units runs = context_for model (helpers model units) runs
 
 -- the body of the function of this number; that of `idle` is empty [FLAME User Manual]
 abbrev pub function_body : Model → List file.Unit → ℕ → Place → NumberedBody

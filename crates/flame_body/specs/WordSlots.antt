@@ -2,16 +2,13 @@
 -- default for a word that stands for nothing, which a body without check faults does not have.
 use Rattle.std.specs.Prelude.{ℕ, List, [], ◌∷◌, length, Option, Some, None, if◌then◌else◌}
 use Rattle.std.specs.Str.{bytes_eq}
-use Rattle.flame_spec.specs.declared.models.Input.{Input}
-use Rattle.flame_spec.specs.declared.models.MessageType.{MessageType}
 use Rattle.flame_spec.specs.declared.models.Variable.{Variable}
 use Rattle.flame_spec.specs.CallFaults.{Deed, sets, sends, bears, calls, deed_of}
 use Rattle.flame_spec.specs.Definitions.{helper_named}
 use Rattle.flame_spec.specs.ExpressionFaults.{member_read}
-use Rattle.flame_spec.specs.Functions.{Place}
 use Rattle.flame_spec.specs.LookUps.{Given, in_memory, constant, iteration, memory_got, message_read, message_looped}
-use Rattle.flame_spec.specs.Scopes.{Context, Sight, names_seen, memory_at, messages_at, given_at}
-use Rattle.flame_lookup.specs.Sources.{input_in}
+use Rattle.flame_spec.specs.Scopes.{Context, Sight, names_seen, memory_at, messages_at, given_at, input_found}
+use Rattle.flame_spec.specs.Columns.{elements}
 use Rattle.flame_body.specs.declared.slots.Cells.{Cells}
 use Rattle.flame_body.specs.declared.slots.Slot.{Slot}
 use Rattle.flame_body.specs.declared.slots.Slot.TheVariants.{Local, Memory, Constant, Iteration}
@@ -63,15 +60,10 @@ target_at context sight word = target_or_given (local_number (names_seen sight) 
 
 -- ---- arrays
 
--- how many elements a variable has: a single variable has none [own]
-abbrev pub elements_by : Option ℕ → ℕ
-elements_by None = 0
-elements_by (Some length) = length
-
 -- where the array stands that was found; of none no element of the first column [own]
 abbrev pub cells_found : Option (ℕ × Variable) → Cells
 cells_found None = record { column = 0; length = 0 }
-cells_found (Some found) = record { column = found.0; length = elements_by found.1.length }
+cells_found (Some found) = record { column = found.0; length = elements found.1.length }
 
 -- where the array stands that the model gives [own]
 abbrev pub cells_given : Option Given → Cells
@@ -102,11 +94,6 @@ abbrev pub got_column : Context → List ℕ → ℕ
 got_column context word = (span_found (memory_got (memory_at context) word)).column
 
 -- ---- inputs
-
--- the input by which the function of this place reads the message that was found [XMML]
-abbrev pub input_found : Option Place → Option (ℕ × MessageType) → Option (ℕ × Input)
-input_found runs None = None
-input_found runs (Some message) = input_in runs message.1
 
 -- the number of what was found; of nothing the first [own]
 abbrev pub number_found : {X : Type 0} → Option (ℕ × X) → ℕ

@@ -1,7 +1,7 @@
 //! What holds of numbered trees and of bodies.
 
 ghost use Rattle.flame_body.specs.BodyLaws.{BodiesByNumber};
-ghost use Rattle.flame_body.specs.FitLaws.{CallsFit, DefinitionsFit, ExpressionsFit};
+ghost use Rattle.flame_body.specs.FitLaws.{CallsFit, CallsPass, DefinitionsFit, ExpressionsFit};
 
 /// An expression without check faults fits, with numbers in place of names.
 pub fn expressions_fit()
@@ -14,10 +14,11 @@ pub fn definitions_fit()
     ensures { DefinitionsFit }
 {}
 
-/// In a C function without check faults each call of a helper has as many arguments as the helper has parameters (C,
-/// 6.5.2.2).
+/// In a C function without check faults the calls of helpers are, with numbers in place of names, those of its source,
+/// and each has as many arguments as the helper has parameters (C, 6.5.2.2).
 pub fn calls_fit()
-    ensures { CallsFit }
+    ensures passing { CallsPass }
+    ensures fitting { CallsFit }
 {}
 
 /// The body of each number is that of the function, or of the helper, of that number, and there are no more bodies.

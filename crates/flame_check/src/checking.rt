@@ -41,7 +41,8 @@ fn refuse(alloc: Global, tables: &Tables<'_>) -> Result<(), Fail<CheckFault>>
 /// of the model's functions and of the helpers with numbers in place of names. A helper is a C function with parameters
 /// that has no name of a function of the model.
 ///
-/// Each body is walked twice: once for its faults, and once for its numbers. Names are looked up in hashed tables.
+/// Each C function is walked for its faults, once for each function of the model that it is one for and once where it is
+/// a helper, and again for the numbers of each body. Names are looked up in hashed tables.
 ///
 /// # Errors
 ///

@@ -14,10 +14,10 @@ ghost use Rattle.flame_body.specs.FunctionBodies.{helper_body, helper_bodies};
 ghost use Rattle.flame_body.specs.NumberedTrees.{numbered_statements};
 ghost use Rattle.flame_walk.specs.WordPlaces.{words_at};
 
-use crate::rows::{Rows, number};
+use crate::rows::Rows;
 use flame_body::Body;
 use flame_body::laws::definitions_fit;
-use flame_lookup::{CFunction, Tables, Transition, Words};
+use flame_lookup::{CFunction, Tables, Transition, Words, number};
 use flame_rows::{Fail, Seq};
 use flame_spec::{CheckFault, Function, Widths};
 use flame_walk::definition;

@@ -1,57 +1,18 @@
 //! Widths of rows.
 
-ghost use Rattle.std.specs.Prelude.{◌≡◌, ℕ, List, IfOk, OnOk, None, Some, map, slice_get, string_bytes, unwrap_or};
-ghost use Rattle.std.specs.Prelude.{if◌then◌else◌};
+ghost use Rattle.std.specs.Prelude.{◌≡◌, ℕ, List, IfOk, None, Some, map, slice_get, unwrap_or};
 ghost use Rattle.std.specs.HashMap.{get_by_text};
-ghost use Rattle.std.specs.Str.{bytes_eq};
-ghost use Rattle.flame_spec.specs.Columns.{width, width_of};
+ghost use Rattle.flame_spec.specs.Columns.{width};
 ghost use Rattle.flame_spec.specs.KnownNames.{variables_in};
 ghost use Rattle.flame_lookup.specs.WordsFound.{place_found};
 ghost use Rattle.flame_body.specs.FunctionBodies.{widths_in, input_width};
 
-use flame_lookup::Transition;
+use flame_lookup::{Table, Transition, number, put, width};
 use flame_rows::{NoMemory, Seq};
-use flame_spec::{AgentType, Input, MessageType, Variable, Widths};
+use flame_spec::{AgentType, Input, MessageType, Widths};
 use std::alloc::Global;
 use std::collections::HashMap;
 use std::marker::Model;
-
-/// For each name a width.
-type Named = HashMap<String, u32>;
-
-/// The count as a number of 32 bits.
-pub(crate) fn number(count: usize) -> Result<u32, NoMemory>
-    ensures { IfOk result (λ number. number ≡ count) }
-{
-    match u32::try_from(count) {
-        Ok(number) => Ok(number),
-        Err(_) => Err(NoMemory),
-    }
-}
-
-/// How many numbers of a row the variable takes.
-fn width_of(variable: &Variable) -> u32
-    ensures { result ≡ width_of variable.now }
-{
-    match variable.length {
-        Some(length) => length,
-        None => 1,
-    }
-}
-
-/// The width of a row of these variables.
-fn width(variables: &[Variable]) -> Result<u32, NoMemory>
-    ensures { IfOk result (λ total. total ≡ width variables.now) }
-{
-    let mut total = 0u32;
-    for variable in variables {
-        match total.checked_add(width_of(variable)) {
-            Some(more) => total = more,
-            None => return Err(NoMemory),
-        }
-    }
-    Ok(total)
-}
 
 /// The widths of these message types.
 fn message_widths(alloc: Global, messages: &[MessageType]) -> Result<Vec<u32>, NoMemory>
@@ -77,17 +38,8 @@ fn agent_widths(alloc: Global, agents: &[AgentType]) -> Result<Vec<u32>, NoMemor
     Ok(widths)
 }
 
-/// From now on the name has this width.
-fn put(table: &mut Named, name: String, width: u32) -> Result<(), NoMemory>
-    ensures { OnOk result ((q : List ℕ)
-        → get_by_text table.new q ≡ (if bytes_eq (string_bytes name) q then Some width else get_by_text table.old q)) }
-{
-    table.insert(name, width)?;
-    Ok(())
-}
-
 /// For each name the width of the first of these message types that has it.
-fn widths_by_name(alloc: Global, messages: &[MessageType]) -> Result<Named, NoMemory>
+fn widths_by_name(alloc: Global, messages: &[MessageType]) -> Result<Table<u32>, NoMemory>
     ensures { IfOk result (λ table. (name : List ℕ)
         → unwrap_or (get_by_text table name) 0 ≡ width (variables_in messages.now name)) }
 {
@@ -110,7 +62,7 @@ pub(crate) struct Rows<'a> {
     constants: u32,
     messages: Vec<u32>,
     agents: Vec<u32>,
-    named: Named,
+    named: Table<u32>,
 }
 
 impl<'a> Model for Rows<'a> {

@@ -1,21 +1,20 @@
 -- Runs of valid codes end, and leave no more fuel than they began with.
-use Rattle.std.proofs.Common.{◌≡◌, ℕ, zero, suc, ◌+◌, ◌<◌, ◌≤◌, Bool, true, false, ◌&&◌, ◌==◌, List, [], ◌∷◌, length, Option, Some, None, refl, sym, ap, ◌∙◌, subst, arith}
-use Rattle.std.specs.Prelude.{ℤ, slice_get}
+use Rattle.std.proofs.Common.{◌≡◌, ℕ, zero, suc, ◌<◌, ◌≤◌, Bool, true, false, ◌==◌, List, [], ◌∷◌, length, Option, Some, None, refl, sym, ap, ◌∙◌, subst, arith}
+use Rattle.std.specs.Prelude.{ℤ, slice_get, slice_index}
 use Rattle.std.specs.List.{list_all}
 use Rattle.std.specs.Option.{option_map_or}
-use Rattle.std.proofs.lemmas.Bool.{and_parts, eqb-true}
+use Rattle.std.proofs.lemmas.Bool.{and_parts, eqb-true, ltb-true}
 use Rattle.std.proofs.lemmas.Option.{slice_get_within}
-use Rattle.flame_spec.specs.declared.faults.Fault.{Fault}
 use Rattle.flame_spec.specs.declared.outcomes.Effect.{Effect}
 use Rattle.flame_spec.specs.declared.outcomes.Outcome.{Outcome}
-use Rattle.flame_spec.specs.declared.outcomes.Outcome.TheVariants.{Ended, Faulted}
+use Rattle.flame_spec.specs.declared.outcomes.Outcome.TheVariants.{Ended}
 use Rattle.flame_code.specs.declared.instrs.Instr.{Instr}
 use Rattle.flame_code.specs.declared.instrs.Instr.TheVariants.{Call}
 use Rattle.flame_code.specs.Feeds.{Fed}
 use Rattle.flame_code.specs.InputRows.{rows_of, HaveWidths}
 use Rattle.flame_code.specs.Routines.{Routine, none_delivered}
 use Rattle.flame_code.specs.Validity.{starts, IsValid}
-use Rattle.flame_code.specs.HelperCodes.{HelperCodes, AreHelpers, call_fits, calls_fit, sees_nothing, fits}
+use Rattle.flame_code.specs.HelperCodes.{HelperCodes, AreHelpers, calls_below, call_fits, calls_fit, sees_nothing}
 use Rattle.flame_code.specs.Machine.{Given, Config, End, returned, faulted, Turn, on, over, calls, stuck, step}
 use Rattle.flame_code.specs.Meanings.{Runs, last, more, back, fall, entry, resumed, begun, Means, Entry, outcome_of, memory_after}
 use Rattle.flame_code.specs.CodeLaws.{IsReady}
@@ -64,6 +63,11 @@ all_at test (x ∷ xs) (suc p) i all e = all_at test xs p i (and_parts _ _ all).
 
 pub call_counts : (parameters : List ℕ) (r : Routine) (p l h n : ℕ) → calls_fit parameters r ≡ true → slice_get r.instrs p ≡ Some (Call l h n) → slice_get parameters h ≡ Some n
 call_counts parameters r p l h n fit at = count_there parameters h n (slice_get parameters h) refl (all_at (call_fits parameters) r.instrs p (Call l h n) fit at)
+
+-- a call goes to a smaller height
+pub call_falls : (heights : List ℕ) (height : ℕ) (r : Routine) (p l h n : ℕ) → list_all (calls_below heights height) r.instrs ≡ true → slice_get r.instrs p ≡ Some (Call l h n) → slice_index heights h < height
+call_falls heights height r p l h n below at =
+    ltb-true (slice_index heights h) height (all_at (calls_below heights height) r.instrs p (Call l h n) below at)
 
 some_routine : (rs : List Routine) (h : ℕ) → h < length rs → (r : Routine) × (slice_get rs h ≡ Some r)
 some_routine [] h lt = absurd (omega arith)

@@ -1,21 +1,21 @@
 -- Labels that fit show that a code is valid.
 use Rattle.std.proofs.Common.{◌≡◌, ◌≢◌, ℕ, zero, suc, ◌+◌, ◌-◌, ◌<◌, ◌≤◌, ◌==◌, Bool, true, false, not, cond, ◌&&◌, ◌||◌, List, [], ◌∷◌, length, drop, Option, Some, None, refl, sym, ap, ◌∙◌, subst, arith, ◌⊎◌, inl, inr, ⊎_elim}
-use Rattle.std.specs.Prelude.{slice_get, slice_index, nat_lt, nat_le}
-use Rattle.std.specs.List.{list_all, list_any}
+use Rattle.std.specs.Prelude.{slice_get, nat_le}
+use Rattle.std.specs.List.{list_all}
 use Rattle.std.specs.Option.{option_map_or}
-use Rattle.std.proofs.lemmas.Bool.{and_parts, cases_Bool, cases_lt, false_from_ne_true, eqb-true, ltb-true, leb-true}
+use Rattle.std.proofs.lemmas.Bool.{and_parts, false_from_ne_true, eqb-true, ltb-true, leb-true}
 use Rattle.std.proofs.lemmas.Option.{slice_get_within}
 use Rattle.std.proofs.Math.ListN.{drop_of_length-le}
 use Rattle.flame_spec.specs.declared.outcomes.Widths.{Widths}
 use Rattle.flame_code.specs.declared.instrs.Instr.{Instr}
-use Rattle.flame_code.specs.declared.instrs.Instr.TheVariants.{Push, Dup, Drop, Loc, SetLoc, Mem, SetMem, MemAt, SetMemAt}
-use Rattle.flame_code.specs.declared.instrs.Instr.TheVariants.{Const, Iter, Field, FieldAt, Neg, Not, Add, Sub, Mul, Div, Rem}
-use Rattle.flame_code.specs.declared.instrs.Instr.TheVariants.{Lt, Gt, Le, Ge, Eq, Ne, Jump, JumpZero, JumpNotZero, Pay}
-use Rattle.flame_code.specs.declared.instrs.Instr.TheVariants.{Enter, Next, Leave, Send, Bear, Call, Return}
+use Rattle.flame_code.specs.declared.instrs.Instr.TheVariants.{Mem, SetMem, MemAt, SetMemAt}
+use Rattle.flame_code.specs.declared.instrs.Instr.TheVariants.{Const, Field, FieldAt}
+use Rattle.flame_code.specs.declared.instrs.Instr.TheVariants.{Pay}
+use Rattle.flame_code.specs.declared.instrs.Instr.TheVariants.{Enter, Next, Leave, Send, Bear, Return}
 use Rattle.flame_code.specs.declared.labels.Label.{Label}
 use Rattle.flame_code.specs.Routines.{Routine, takes, leaves, goes_on, target, reads, Delivered, passed, jumped, IsWithin}
-use Rattle.flame_code.specs.Validity.{Moves, Path, starts, goes, jumps, SpendsFuel, GoesForward, IsValid}
-use Rattle.flame_code.specs.Labels.{has_input, has_passed, has_jumped, fits_at, goes_fit, spends, forward_fit, target_fit, is_within, place_fits, all_fit, starts_fit, is_return, ends_fit, labels_fit}
+use Rattle.flame_code.specs.Validity.{Path, starts, goes, jumps, SpendsFuel, GoesForward, IsValid}
+use Rattle.flame_code.specs.Labels.{has_input, has_passed, has_jumped, fits_at, goes_fit, spends, forward_fit, target_fit, is_within, place_fits, all_fit, starts_fit, is_return, labels_fit}
 
 either : (a b : Bool) → (a || b) ≡ true → (a ≡ true) ⊎ (b ≡ true)
 either true b e = inl refl

@@ -1,15 +1,11 @@
 -- The stack of a run of valid code is never higher than the code is long.
-use Rattle.std.proofs.Common.{◌≡◌, ◌≢◌, ℕ, zero, suc, ◌+◌, ◌<◌, ◌≤◌, Bool, true, false, cond, ◌==◌, List, length, Some, refl, sym, ap, ◌∙◌, subst, arith, ◌⊎◌, inl, inr, ⊎_elim}
-use Rattle.std.specs.Prelude.{slice_get}
+use Rattle.std.proofs.Common.{◌≡◌, ◌≢◌, ℕ, zero, suc, ◌+◌, ◌<◌, ◌≤◌, true, false, cond, ◌==◌, length, sym, ap, ◌∙◌, subst, arith, ◌⊎◌, inl, inr, ⊎_elim}
 use Rattle.std.proofs.lemmas.Bool.{cases_lt, cases_Bool, eqb-true, eq-eqb}
 use Rattle.flame_spec.specs.declared.outcomes.Widths.{Widths}
 use Rattle.flame_code.specs.declared.instrs.Instr.{Instr}
-use Rattle.flame_code.specs.declared.instrs.Instr.TheVariants.{Push, Dup, Drop, Loc, SetLoc, Mem, SetMem, MemAt, SetMemAt}
-use Rattle.flame_code.specs.declared.instrs.Instr.TheVariants.{Const, Iter, Field, FieldAt, Neg, Not, Add, Sub, Mul, Div, Rem}
-use Rattle.flame_code.specs.declared.instrs.Instr.TheVariants.{Lt, Gt, Le, Ge, Eq, Ne, Jump, JumpZero, JumpNotZero, Pay}
-use Rattle.flame_code.specs.declared.instrs.Instr.TheVariants.{Enter, Next, Leave, Send, Bear, Call, Return}
-use Rattle.flame_code.specs.Routines.{Routine, takes_and_leaves, takes, leaves, Delivered}
-use Rattle.flame_code.specs.Validity.{Moves, Path, starts, goes, jumps, IsValid}
+use Rattle.flame_code.specs.declared.instrs.Instr.TheVariants.{Push}
+use Rattle.flame_code.specs.Routines.{Routine, takes, leaves, Delivered}
+use Rattle.flame_code.specs.Validity.{Path, starts, goes, jumps, IsValid}
 use Rattle.flame_code.specs.Machine.{Config}
 use Rattle.flame_code.specs.Stands.{Stands}
 use Rattle.flame_code.proofs.Safety.{path_within}

@@ -1,8 +1,8 @@
 -- A step of valid code is possible, keeps what the run stands on, and spends what is left of it.
-use Rattle.std.proofs.Common.{◌≡◌, ◌≢◌, ℕ, zero, suc, ◌+◌, ◌-◌, ◌*◌, ◌<◌, ◌≤◌, Bool, true, false, cond, List, [], ◌∷◌, ◌++◌, length, take, drop, map, Option, Some, None, refl, sym, ap, ◌∙◌, subst, arith, ◌⊎◌, ⊎_elim, length-drop}
+use Rattle.std.proofs.Common.{◌≡◌, ◌≢◌, ℕ, zero, suc, ◌+◌, ◌-◌, ◌*◌, ◌<◌, ◌≤◌, Bool, true, false, cond, List, [], ◌∷◌, ◌++◌, length, take, drop, Option, Some, None, refl, sym, ap, ◌∙◌, subst, arith, ⊎_elim, length-drop}
 use Rattle.std.specs.Prelude.{ℤ, pos, negsuc, Result, Ok, Err, slice_get, slice_set, slice_index, reverse, nat_le}
 use Rattle.std.specs.Ordering.{int_eq}
-use Rattle.std.proofs.lemmas.Bool.{cases_lt, cond-true, le-leb, lt-ltb, le-ltb, cond-false, cases_Bool}
+use Rattle.std.proofs.lemmas.Bool.{cases_lt, cond-true, le-leb, lt-ltb, le-ltb}
 use Rattle.std.proofs.lemmas.Option.{slice_get_within}
 use Rattle.std.proofs.lemmas.List.{length-set}
 use Rattle.std.proofs.Math.Nat.{mul-le-mul_right}
@@ -10,7 +10,6 @@ use Rattle.flame_ops.specs.declared.integers.Cause.{Cause}
 use Rattle.flame_ops.specs.declared.integers.Op.{Op}
 use Rattle.flame_ops.specs.declared.integers.Op.TheVariants as op
 use Rattle.flame_ops.specs.Integers.{applied, negated, truth}
-use Rattle.flame_spec.specs.declared.outcomes.Widths.{Widths}
 use Rattle.flame_spec.specs.declared.outcomes.Sent.{Sent}
 use Rattle.flame_spec.specs.declared.outcomes.Born.{Born}
 use Rattle.flame_spec.specs.Conditions.{number_at}
@@ -19,12 +18,12 @@ use Rattle.flame_code.specs.declared.instrs.Instr.TheVariants.{Push, Dup, Drop, 
 use Rattle.flame_code.specs.declared.instrs.Instr.TheVariants.{Const, Iter, Field, FieldAt, Neg, Not, Add, Sub, Mul, Div, Rem}
 use Rattle.flame_code.specs.declared.instrs.Instr.TheVariants.{Lt, Gt, Le, Ge, Eq, Ne, Jump, JumpZero, JumpNotZero, Pay}
 use Rattle.flame_code.specs.declared.instrs.Instr.TheVariants.{Enter, Next, Leave, Send, Bear, Call, Return}
-use Rattle.flame_code.specs.Feeds.{Fed, with_come, with_input, with_more, at_start, has_next, at_next, field}
+use Rattle.flame_code.specs.Feeds.{with_come, with_more, at_start, has_next, at_next, field}
 use Rattle.flame_code.specs.InputRows.{rows_of, HaveWidths}
-use Rattle.flame_code.specs.Routines.{Routine, takes_and_leaves, takes, leaves, goes_on, target, Delivered, delivery, passed, jumped, reads, IsWithin}
+use Rattle.flame_code.specs.Routines.{Routine, takes_and_leaves, takes, leaves, goes_on, target, Delivered, passed, jumped}
 use Rattle.flame_code.specs.Validity.{Moves, Path, starts, goes, jumps, SpendsFuel, GoesForward, IsValid}
-use Rattle.flame_code.specs.Machine.{Locals, set_local, Given, Config, End, returned, faulted, Turn, on, over, calls, stuck}
-use Rattle.flame_code.specs.Machine.{next, goto, with_top, with_two, with_row, push_held, operate, by_zero, element_of, with_element, push_found, store, pay_from, deliver, act, step}
+use Rattle.flame_code.specs.Machine.{Locals, set_local, Given, Config, returned, faulted, Turn, on, over, calls, stuck}
+use Rattle.flame_code.specs.Machine.{next, goto, with_top, with_two, with_row, push_held, operate, element_of, with_element, push_found, pay_from, deliver, act, step}
 use Rattle.flame_code.specs.Meanings.{resumed}
 use Rattle.flame_code.specs.Stands.{AreCurrent, Stands}
 use Rattle.flame_code.proofs.InputMoves.{rows-at_start, rows-at_next, stays_current, left_current, comes_current, field_there}

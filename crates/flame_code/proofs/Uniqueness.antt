@@ -1,10 +1,9 @@
 -- A run has one end.
-use Rattle.std.proofs.Common.{◌≡◌, ℕ, List, Some, refl, sym, ap, ◌∙◌, subst}
-use Rattle.std.specs.Prelude.{ℤ, slice_get}
-use Rattle.flame_spec.specs.declared.faults.Fault.{Fault}
+use Rattle.std.proofs.Common.{◌≡◌, List, sym, ap, ◌∙◌, subst}
+use Rattle.std.specs.Prelude.{ℤ}
 use Rattle.flame_spec.specs.declared.outcomes.Outcome.{Outcome}
 use Rattle.flame_code.specs.Routines.{Routine}
-use Rattle.flame_code.specs.Machine.{Given, Config, End, returned, faulted, Turn, on, over, calls, step}
+use Rattle.flame_code.specs.Machine.{Given, Config, End, returned, faulted}
 use Rattle.flame_code.specs.Meanings.{Runs, last, more, back, fall, entry, resumed, Means, Entry, outcome_of}
 
 module _ (g : Given) (helpers : List Routine) where

@@ -1,9 +1,8 @@
 -- Codes of helpers, and which codes they fit.
-use Rattle.std.specs.Prelude.{◌≡◌, ℕ, ◌+◌, ◌<◌, ◌≤◌, ◌==◌, List, [], length, slice_get, slice_index}
+use Rattle.std.specs.Prelude.{◌≡◌, ℕ, ◌≤◌, ◌==◌, nat_lt, List, length, slice_get, slice_index}
 use Rattle.std.specs.List.{list_all}
-use Rattle.std.specs.Prelude.{Bool, true, false, ◌&&◌, Option, Some, None}
-use Rattle.std.specs.Option.{option_map_or}
-use Rattle.flame_spec.specs.declared.outcomes.Widths.{Widths}
+use Rattle.std.specs.Prelude.{Bool, true, ◌&&◌, Some}
+use Rattle.flame_spec.specs.Definitions.{takes}
 use Rattle.flame_spec.specs.HelperFaults.{deepest_calls}
 use Rattle.flame_code.specs.declared.instrs.Instr.{Instr}
 use Rattle.flame_code.specs.declared.instrs.Instr.TheVariants.{Call}
@@ -16,10 +15,14 @@ pub record HelperCodes : Type 0 where
 
 -- ---- calls
 
+-- where the instruction is a call, it passes a test of the number of the helper and of how many arguments it gets [own]
+abbrev pub call_passes : (ℕ → ℕ → Bool) → Instr → Bool
+call_passes passes (Call l h n) = passes h n
+call_passes passes instr = true
+
 -- a call has as many arguments as the helper that it names has parameters [C, 6.5.2.2]
 abbrev pub call_fits : List ℕ → Instr → Bool
-call_fits parameters (Call l h n) = option_map_or (λ count. count == n) (slice_get parameters h) false
-call_fits parameters instr = true
+call_fits parameters instr = call_passes (takes parameters) instr
 
 -- all calls of the code name helpers and have the right counts of arguments [C, 6.5.2.2]
 abbrev pub calls_fit : List ℕ → Routine → Bool
@@ -34,9 +37,8 @@ sees_nothing r =
     && ((length r.widths.messages == 0) && (length r.widths.agents == 0)))
 
 -- the instruction calls only helpers of a smaller height than this [own]
-abbrev pub CallsBelow : List ℕ → ℕ → Instr → Type 0
-CallsBelow heights height (Call l h n) = slice_index heights h < height
-CallsBelow heights height instr = Unit {0}
+abbrev pub calls_below : List ℕ → ℕ → Instr → Bool
+calls_below heights height instr = call_passes (λ h n. nat_lt (slice_index heights h) height) instr
 
 -- a helper may have this height: it is 1 more than the greatest height of the helpers that it calls, and 1 where it
 -- calls none, so it is at least 1, and at most 64 [own]
@@ -47,8 +49,7 @@ IsHeight height = (1 ≤ height) × (height ≤ deepest_calls)
 abbrev pub AreHeights : List Routine → List ℕ → Type 0
 AreHeights routines heights =
     (h : ℕ) (r : Routine) → slice_get routines h ≡ Some r
-    → IsHeight (slice_index heights h)
-    × ((p : ℕ) (i : Instr) → slice_get r.instrs p ≡ Some i → CallsBelow heights (slice_index heights h) i)
+    → IsHeight (slice_index heights h) × (list_all (calls_below heights (slice_index heights h)) r.instrs ≡ true)
 
 -- these are helpers of one another [own]
 pub record AreHelpers (helpers : HelperCodes) : Type 0 where

@@ -1,14 +1,14 @@
 -- Labels that show that a code is valid: for each place the height of the stack, and inputs of which a row was delivered.
-use Rattle.std.specs.Prelude.{◌≡◌, ℕ, zero, suc, ◌+◌, ◌-◌, ◌==◌, List, [], ◌∷◌, length, slice_get, slice_index, nat_lt, nat_le}
+use Rattle.std.specs.Prelude.{ℕ, ◌+◌, ◌-◌, ◌==◌, List, [], ◌∷◌, length, slice_get, slice_index, nat_lt, nat_le}
 use Rattle.std.specs.Prelude.{Bool, true, false, not, ◌&&◌, ◌||◌, Option, Some, None}
 use Rattle.std.specs.List.{list_all, list_any}
 use Rattle.std.specs.Option.{option_map_or}
 use Rattle.flame_spec.specs.declared.outcomes.Widths.{Widths}
 use Rattle.flame_code.specs.declared.instrs.Instr.{Instr}
-use Rattle.flame_code.specs.declared.instrs.Instr.TheVariants.{Push, Dup, Drop, Loc, SetLoc, Mem, SetMem, MemAt, SetMemAt}
-use Rattle.flame_code.specs.declared.instrs.Instr.TheVariants.{Const, Iter, Field, FieldAt, Neg, Not, Add, Sub, Mul, Div, Rem}
-use Rattle.flame_code.specs.declared.instrs.Instr.TheVariants.{Lt, Gt, Le, Ge, Eq, Ne, Jump, JumpZero, JumpNotZero, Pay}
-use Rattle.flame_code.specs.declared.instrs.Instr.TheVariants.{Enter, Next, Leave, Send, Bear, Call, Return}
+use Rattle.flame_code.specs.declared.instrs.Instr.TheVariants.{Mem, SetMem, MemAt, SetMemAt}
+use Rattle.flame_code.specs.declared.instrs.Instr.TheVariants.{Const, Field, FieldAt}
+use Rattle.flame_code.specs.declared.instrs.Instr.TheVariants.{Pay}
+use Rattle.flame_code.specs.declared.instrs.Instr.TheVariants.{Enter, Next, Leave, Send, Bear, Return}
 use Rattle.flame_code.specs.declared.labels.Label.{Label}
 use Rattle.flame_code.specs.Routines.{Routine, takes, leaves, goes_on, target, reads}
 

@@ -1,7 +1,7 @@
 -- The machine, one step at a time.
 use Rattle.std.specs.Prelude.{ℕ, zero, suc, ◌+◌, ◌==◌, ℤ, pos, negsuc, List, [], ◌∷◌, ◌++◌, length, take, drop, reverse}
-use Rattle.std.specs.Prelude.{nat_lt, nat_le, Bool, true, false, not, if◌then◌else◌, Option, Some, None, Result, Ok, Err}
-use Rattle.std.specs.Prelude.{slice_get, slice_set, slice_index, slice_index_or}
+use Rattle.std.specs.Prelude.{nat_lt, nat_le, Bool, true, false, if◌then◌else◌, Option, Some, None, Result, Ok, Err}
+use Rattle.std.specs.Prelude.{slice_get, slice_set, slice_index}
 use Rattle.std.specs.Ordering.{int_eq}
 use Rattle.flame_ops.specs.declared.integers.Cause.{Cause}
 use Rattle.flame_ops.specs.declared.integers.Cause.TheVariants.{Fuel, BadIndex}

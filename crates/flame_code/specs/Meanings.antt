@@ -7,7 +7,7 @@ use Rattle.flame_spec.specs.declared.outcomes.Outcome.TheVariants.{Ended, Faulte
 use Rattle.flame_code.specs.Feeds.{Fed}
 use Rattle.flame_code.specs.InputRows.{rows_of, HaveWidths}
 use Rattle.flame_code.specs.Routines.{Routine}
-use Rattle.flame_code.specs.Machine.{Given, Config, first_locals, End, returned, faulted, Turn, on, over, calls, step}
+use Rattle.flame_code.specs.Machine.{Given, Config, first_locals, End, returned, faulted, on, over, calls, step}
 
 -- ---- runs
 

@@ -41,8 +41,9 @@ fn call_fits(parameters: &[u32], instr: &Instr) -> bool
     }
 }
 
-/// Whether all calls name helpers with the right counts of arguments.
-fn calls_fit(parameters: &[u32], code: &Code) -> bool
+/// Whether all calls of the code name helpers with the right counts of arguments, where the helpers have these numbers of
+/// parameters, in order.
+pub fn calls_fit(parameters: &[u32], code: &Code) -> bool
     ensures { result ≡ fitting_calls parameters.now code.now }
 {
     code.instrs().iter().all(

@@ -12,6 +12,6 @@ mod tests;
 
 pub use codes::Code;
 pub use feeds::Feed;
-pub use helpers::Helpers;
+pub use helpers::{Helpers, calls_fit};
 pub use instrs::Instr;
 pub use labels::{Label, labelled, labels_fit};

@@ -1,6 +1,6 @@
 //! Laws of the code of bodies. A law is its contract: it computes nothing.
 
-ghost use Rattle.flame_compile.specs.CodeCalls.{CodeCallsFit};
+ghost use Rattle.flame_compile.specs.CodeCalls.{CodeCallsFit, CodeCallsPass};
 ghost use Rattle.flame_compile.specs.Sizes.{ExpressionsAreSized, StatementsAreSized};
 ghost use Rattle.flame_compile.specs.ValidCodes.{CodesAreValid};
 
@@ -16,7 +16,9 @@ pub fn codes_are_valid()
     ensures { CodesAreValid }
 {}
 
-/// Where the calls of helpers in a body fit the helpers' numbers of parameters, those in its code do.
+/// Where the calls of helpers in a body pass a test of the helper's number and of how many arguments it gets, those in
+/// its code do; so where they fit the helpers' numbers of parameters, those in its code do.
 pub fn code_calls_fit()
-    ensures { CodeCallsFit }
+    ensures passing { CodeCallsPass }
+    ensures fitting { CodeCallsFit }
 {}

@@ -1,11 +1,14 @@
 -- The promise: what was read holds, passes and sorts exactly as what is written does.
-use Rattle.std.specs.Prelude.{◌≡◌, ℤ, pos, List, [], Bool}
+use Rattle.std.specs.Prelude.{◌≡◌, ℤ, pos, List, [], Bool, Option, Some, None}
+use Rattle.std.specs.List.{AllZip}
 use Rattle.flame_spec.specs.declared.conditions.Condition.{Condition}
+use Rattle.flame_spec.specs.declared.models.Model.{Model}
 use Rattle.flame_spec.specs.declared.models.TimeUnit.{TimeUnit}
 use Rattle.flame_spec.specs.declared.models.AgentType.{AgentType}
 use Rattle.flame_spec.specs.declared.models.MessageType.{MessageType}
 use Rattle.flame_spec.specs.declared.models.Sort.{Sort}
 use Rattle.flame_spec.specs.Conditions.{condition_holds, filter_passes}
+use Rattle.flame_spec.specs.Functions.{functions}
 use Rattle.flame_spec.specs.Views.{Key, key_of}
 use Rattle.flame_cond.specs.declared.forms.Test.{Test}
 use Rattle.flame_cond.specs.declared.keys.SortBy.{SortBy}
@@ -37,3 +40,29 @@ SaysFilter test condition agent message =
 -- what was read is the key of the sort that is written [own]
 abbrev pub SaysKey : SortBy → Sort → MessageType → Type 0
 SaysKey by sort message = key_by by ≡ key_of message sort
+
+-- ---- what may be missing
+
+-- a condition was read from what is written, or there is neither [own]
+abbrev pub IsConditionOf : Option Test → Option Condition → AgentType → List TimeUnit → Type 0
+IsConditionOf None None agent units = Unit {0}
+IsConditionOf (Some test) (Some condition) agent units = SaysCondition test condition agent units
+IsConditionOf _ _ agent units = ⊥
+
+-- a filter was read from what is written, or there is neither [own]
+abbrev pub IsFilterOf : Option Test → Option Condition → AgentType → MessageType → Type 0
+IsFilterOf None None agent message = Unit {0}
+IsFilterOf (Some filter) (Some condition) agent message = SaysFilter filter condition agent message
+IsFilterOf _ _ agent message = ⊥
+
+-- a key was read from the sort that is written, or there is neither [own]
+abbrev pub IsKeyOf : Option SortBy → Option Sort → MessageType → Type 0
+IsKeyOf None None message = Unit {0}
+IsKeyOf (Some by) (Some sort) message = SaysKey by sort message
+IsKeyOf _ _ message = ⊥
+
+-- the conditions of the model's functions in document order, as they were read [own]
+abbrev pub AreConditionsOf : List (Option Test) → Model → Type 0
+AreConditionsOf conditions model =
+    AllZip
+    (λ place read. IsConditionOf read place.function.condition place.type model.units) (functions model) conditions

@@ -13,7 +13,7 @@ use Rattle.flame_code.specs.Machine.{Given, Config, returned as given_back}
 use Rattle.flame_code.specs.Meanings.{Entry, Means, begun, entry}
 use Rattle.flame_code.specs.Routines.{Routine}
 use Rattle.flame_code.specs.Validity.{IsValid}
-use Rattle.flame_code.proofs.Endings.{AreValid, call_counts, call_named, entry_stands, run_fell}
+use Rattle.flame_code.proofs.Endings.{AreValid, call_counts, call_falls, call_named, entry_stands, run_fell}
 use Rattle.flame_code.proofs.Uniqueness.{one_meaning}
 use Rattle.flame_compile.proofs.LabelledBodies.{emitted_valid}
 use Rattle.flame_sense.specs.Scenes.{Gave, gave, failed}
@@ -121,8 +121,10 @@ module _ (g : Given) (helpers : HelperCodes) (bodies : List NumberedBody) (are :
       let before = scene g body [] (answers levels) in
       let rows = (entry_stands (code_of body) values fuel (are.helping.blind h (code_of body) named)).rows in
       let within : Within levels (code_of body) = λ p line k n there.
-      let less = (are.helping.bounded h (code_of body) named).1 p (Call line k n) there in
-      (let lower : height k < height h = less in omega (arith, lower, low)) in
+      let lower : height k < height h =
+      call_falls are.helping.heights (height h) (code_of body) p line k n (are.helping.bounded h (code_of body) named).1
+      there in
+      omega (arith, lower, low) in
       let helps = below body [] (are.helping.fitting h (code_of body) named) within in
       let follows : Follows (opened body before (entry values fuel)) (entered values fuel) (entry values fuel) =
       record {

@@ -16,8 +16,7 @@ use Rattle.flame_faithful.specs.Likeness.{Current}
 -- ---- helpers
 
 -- the helper's code, with these arguments and this fuel, ends as the answer says, and leaves no more fuel than there
--- was
--- [C, 6.5.2.2; fuel: own]
+-- was [C, 6.5.2.2; fuel: own]
 abbrev pub AnswerRuns : Running → Routine → List ℤ → ℕ → Gave → Type 0
 AnswerRuns run helper values fuel (gave v left) =
     (d : Config) × (d.fuel ≡ left) × (left ≤ fuel) × Runs run.given run.helpers helper (entry values fuel) (given_back v
@@ -26,8 +25,7 @@ AnswerRuns run helper values fuel (failed fault) =
     Runs run.given run.helpers helper (entry values fuel) (fell fault)
 
 -- a call of the helper of this number on this line, with these arguments and this fuel, ends as the answer says:
--- without
--- fuel it is a fault, and else it takes one unit [C, 6.5.2.2; fuel: own]
+-- without fuel it is a fault, and else it takes one unit [C, 6.5.2.2; fuel: own]
 abbrev pub Answered : Running → ℕ → ℕ → List ℤ → ℕ → Gave → Type 0
 Answered run line h values zero answer = answer ≡ failed (no_fuel line)
 Answered run line h values (suc fuel) answer =
@@ -42,10 +40,8 @@ pub record Helps (run : Running) (before : NumberedScene) : Type 0 where
 -- ---- where statements stand
 
 -- what stays as it is while the statements of a scope run: what they have round them and before them, the inputs as
--- they
--- were, how many locals there are at least and how much fuel at most, what is on the stack, and the places where
--- `break`
--- and `continue` go [own]
+-- they were, how many locals there are at least and how much fuel at most, what is on the stack, and the places where
+-- `break` and `continue` go [own]
 pub record Frame : Type 0 where
   pub around : Around
   pub before : NumberedScene
@@ -57,8 +53,7 @@ pub record Frame : Type 0 where
   pub again : ℕ
 
 -- what the statements have before them is what is given to the run; each open loop stands at a row; and calls of
--- helpers
--- end as they have to [own]
+-- helpers end as they have to [own]
 pub record IsSound (run : Running) (f : Frame) : Type 0 where
   pub constants : run.given.constants ≡ f.before.constants
   pub iteration : run.given.iteration ≡ f.before.iteration

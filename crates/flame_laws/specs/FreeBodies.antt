@@ -8,12 +8,11 @@ use Rattle.flame_spec.specs.declared.outcomes.Outcome.TheVariants.{Ended, Faulte
 use Rattle.flame_spec.specs.CallFaults.{Deed, sets, sends, bears, calls, deed_of}
 use Rattle.flame_spec.specs.Definitions.{helpers, body_of}
 use Rattle.flame_spec.specs.Functions.{Place}
-use Rattle.flame_spec.specs.Scopes.{Context}
+use Rattle.flame_spec.specs.Scopes.{Context, context_for}
 use Rattle.flame_spec.specs.Trees.{Stored, plain, called, Statement, empty, declare, assign, call, block, branch}
 use Rattle.flame_spec.specs.Trees.{while, for, do_while, loop_over, return, break, continue}
 use Rattle.flame_spec.specs.Trees.{Statements, no_more, also, Arms, no_arms, arm}
 use Rattle.flame_sense.specs.RangeLaws.{Each, IfAny}
-use Rattle.flame_sense.specs.Scenes.{context_for}
 use Rattle.flame_sense.specs.Outcomes.{place_of, outcome_over}
 
 -- what is stored is the value of an expression, and not that of a helper

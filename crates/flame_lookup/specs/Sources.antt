@@ -1,12 +1,9 @@
 -- What tables are made of, and where a body stands.
-use Rattle.std.specs.Prelude.{ℕ, List, map, take, reverse, Option, Some, None}
-use Rattle.flame_spec.specs.declared.models.Input.{Input}
-use Rattle.flame_spec.specs.declared.models.MessageType.{MessageType}
+use Rattle.std.specs.Prelude.{ℕ, List, map, take, reverse, Option}
 use Rattle.flame_spec.specs.declared.models.Model.{Model}
 use Rattle.flame_spec.specs.declared.trees.Unit as file
 use Rattle.flame_spec.specs.Definitions.{Definition, helpers}
 use Rattle.flame_spec.specs.Functions.{Place}
-use Rattle.flame_spec.specs.LookUps.{input_of}
 use Rattle.flame_spec.specs.Scopes.{Context}
 
 -- a model and its function files [own]
@@ -28,11 +25,6 @@ context_at standing = record {
   runs = standing.runs;
   file = standing.file;
 }
-
--- the input by which the function of this place, where there is one, reads the message [XMML]
-abbrev pub input_in : Option Place → MessageType → Option (ℕ × Input)
-input_in None message = None
-input_in (Some place) message = input_of place.function message
 
 -- the names of the first so many C functions, the last of them first [own]
 abbrev pub names_before : ℕ → List Definition → List (List ℕ)

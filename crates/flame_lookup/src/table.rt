@@ -16,7 +16,7 @@ use std::alloc::Global;
 use std::collections::HashMap;
 
 /// For each word what it stands for.
-pub(crate) type Table<V> = HashMap<String, V>;
+pub type Table<V> = HashMap<String, V>;
 
 /// What words name.
 pub(crate) trait Named {
@@ -59,18 +59,18 @@ impl Named for Input {
     }
 }
 
-/// The place as a number of 32 bits.
-pub(crate) fn number(place: usize) -> Result<u32, NoMemory>
-    ensures { IfOk result (λ number. number ≡ place) }
+/// The count as a number of 32 bits. `NoMemory` comes where it has more.
+pub fn number(count: usize) -> Result<u32, NoMemory>
+    ensures { IfOk result (λ number. number ≡ count) }
 {
-    match u32::try_from(place) {
+    match u32::try_from(count) {
         Ok(number) => Ok(number),
         Err(_) => Err(NoMemory),
     }
 }
 
 /// From now on the word stands for the value.
-pub(crate) fn put<V: Drop>(table: &mut Table<V>, word: String, value: V) -> Result<(), NoMemory>
+pub fn put<V: Drop>(table: &mut Table<V>, word: String, value: V) -> Result<(), NoMemory>
     ensures { OnOk result ((q : List ℕ)
         → get_by_text table.new q ≡ (if bytes_eq (string_bytes word) q then Some value else get_by_text table.old q)) }
 {
@@ -110,6 +110,18 @@ pub(crate) fn numbered<'a, T: Named>(
     Ok(table)
 }
 
+/// For each name the first of these messages that has it, with its number.
+pub fn messages_by_name<'a>(
+    alloc: Global,
+    messages: &'a [MessageType],
+) -> Result<Table<Found<'a, MessageType>>, NoMemory>
+    ensures { IfOk result (λ table. (name : List ℕ)
+        → option_map item_found (get_by_text table name)
+        ≡ numbered_where (λ message. bytes_eq message.name name) messages.now) }
+{
+    numbered(alloc, Form::Same, messages)
+}
+
 /// How many numbers of a row the variable takes.
 fn width_of(variable: &Variable) -> u32
     ensures { result ≡ width_of variable.now }
@@ -120,8 +132,8 @@ fn width_of(variable: &Variable) -> u32
     }
 }
 
-/// The width of a row of these variables.
-fn width(variables: &[Variable]) -> Result<u32, NoMemory>
+/// The width of a row of these variables. `NoMemory` comes where it has more than 32 bits.
+pub fn width(variables: &[Variable]) -> Result<u32, NoMemory>
     ensures { IfOk result (λ total. total ≡ width variables.now) }
 {
     let mut total = 0u32;

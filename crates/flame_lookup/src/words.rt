@@ -6,8 +6,8 @@ ghost use Rattle.flame_spec.specs.Definitions.{helper_named};
 ghost use Rattle.flame_spec.specs.ExpressionFaults.{member_read};
 ghost use Rattle.flame_spec.specs.Functions.{Place};
 ghost use Rattle.flame_spec.specs.LookUps.{memory_named, memory_got, memory_set, message_read, message_looped};
-ghost use Rattle.flame_spec.specs.Scopes.{given_at, memory_at, messages_at};
-ghost use Rattle.flame_lookup.specs.Sources.{context_at, input_in};
+ghost use Rattle.flame_spec.specs.Scopes.{given_at, memory_at, messages_at, input_in};
+ghost use Rattle.flame_lookup.specs.Sources.{context_at};
 ghost use Rattle.flame_lookup.specs.WordsFound.{item_found, given_found, deed_found, place_found};
 
 use crate::found::{Act, Found, Meant, Transition};

@@ -2,17 +2,15 @@
 use Rattle.std.proofs.Common.{◌≡◌, ℕ, zero, suc, ◌==◌, Bool, true, ◌&&◌, ℤ, List, [], ◌∷◌, length, get_or, Some, refl, sym, ap, ◌∙◌, subst, arith}
 use Rattle.std.specs.Prelude.{slice_get, slice_index, nat_le, IsTrue}
 use Rattle.std.specs.List.{list_all, zip}
-use Rattle.std.proofs.lemmas.Bool.{and_parts, eqb-true, eq-eqb, ltb-true, leb-true}
+use Rattle.std.proofs.lemmas.Bool.{and_parts, eqb-true, eq-eqb, leb-true}
 use Rattle.std.proofs.lemmas.Option.{slice_get_within, slice_get-get_or, get_or_from_slice_get}
 use Rattle.flame_spec.specs.HelperFaults.{deepest_calls}
-use Rattle.flame_code.specs.declared.instrs.Instr.{Instr}
-use Rattle.flame_code.specs.declared.instrs.Instr.TheVariants.{Call}
-use Rattle.flame_code.specs.HelperCodes.{HelperCodes, CallsBelow, AreHelpers, calls_fit, sees_nothing}
+use Rattle.flame_code.specs.HelperCodes.{HelperCodes, AreHelpers, calls_below, calls_fit, sees_nothing}
 use Rattle.flame_code.specs.InputRows.{HaveWidths, rows_of}
 use Rattle.flame_code.specs.Routines.{Routine}
 use Rattle.flame_machine.specs.declared.lists.Cursor.{Cursor}
 use Rattle.flame_machine.specs.Cursors.{feeds_of}
-use Rattle.flame_machine.specs.Fitting.{calls_below, helper_fits, heights_fit, rows_fit}
+use Rattle.flame_machine.specs.Fitting.{helper_fits, heights_fit, rows_fit}
 
 -- ---- tests of lists
 
@@ -41,10 +39,6 @@ zip_at test (x ∷ xs) (y ∷ ys) each =
     ∙ zip_at test xs ys (λ k z found. each (suc k) z found)
 
 -- ---- helpers
-
-below_of : (heights : List ℕ) (height : ℕ) (i : Instr) → calls_below heights height i ≡ true → CallsBelow heights height i
-below_of heights height (Call l h n) e = ltb-true _ _ e
-below_of heights height i e = tt
 
 five : (a b c d e : Bool) → ((a && b) && (c && (d && e))) ≡ true → (a ≡ true) × (b ≡ true) × (c ≡ true) × (d ≡ true) × (e ≡ true)
 five a b c d e h =
@@ -75,8 +69,7 @@ module _ (helpers : HelperCodes) (heights : List ℕ) (fit : heights_fit helpers
     heights = heights;
     bounded = λ h r found. (
       (leb-true _ _ (parts_of h r found).0, leb-true _ _ (parts_of h r found).1),
-      λ p i at. below_of heights (slice_index heights h) i
-          (at_all (calls_below heights (slice_index heights h)) r.instrs p i (parts_of h r found).2 at),
+      (parts_of h r found).2,
     );
     fitting = λ h r found. (parts_of h r found).3;
     blind = λ h r found. (parts_of h r found).4;

@@ -1,19 +1,12 @@
 -- Tests of what a run asks of its callers: that codes are helpers of one another, and that rows have the widths that a
 -- code sees.
-use Rattle.std.specs.Prelude.{ℕ, ◌==◌, ℤ, List, length, slice_index, nat_lt, nat_le, Bool, true, ◌&&◌}
+use Rattle.std.specs.Prelude.{ℕ, ◌==◌, ℤ, List, length, nat_le, Bool, ◌&&◌}
 use Rattle.std.specs.List.{list_all, zip}
 use Rattle.flame_spec.specs.HelperFaults.{deepest_calls}
-use Rattle.flame_code.specs.declared.instrs.Instr.{Instr}
-use Rattle.flame_code.specs.declared.instrs.Instr.TheVariants.{Call}
-use Rattle.flame_code.specs.HelperCodes.{HelperCodes, calls_fit, sees_nothing}
+use Rattle.flame_code.specs.HelperCodes.{HelperCodes, calls_below, calls_fit, sees_nothing}
 use Rattle.flame_code.specs.Routines.{Routine}
 
 -- ---- helpers whose heights are given
-
--- the instruction calls only helpers of a smaller height than this [own]
-abbrev pub calls_below : List ℕ → ℕ → Instr → Bool
-calls_below heights height (Call l h n) = nat_lt (slice_index heights h) height
-calls_below heights height instr = true
 
 -- a helper of this height has one that helpers may have, calls only helpers of a smaller height and with the right counts
 -- of arguments, and sees no memory, no inputs, no messages and no agent types [own]

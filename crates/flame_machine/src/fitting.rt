@@ -2,14 +2,13 @@
 
 ghost use Rattle.std.specs.Prelude.{◌≡◌, ◌==◌, if◌then◌else◌, ℕ, ℤ, IsTrue, Some, None, slice_index};
 ghost use Rattle.std.specs.List.{list_all, zip};
-ghost use Rattle.flame_code.specs.HelperCodes.{HelperCodes, call_fits as fitting_call, calls_fit as fitting_calls};
-ghost use Rattle.flame_code.specs.HelperCodes.{sees_nothing as sees_none};
+ghost use Rattle.flame_code.specs.HelperCodes.{HelperCodes, calls_below as below, sees_nothing as sees_none};
 ghost use Rattle.flame_code.specs.Meanings.{FitsEntry};
 ghost use Rattle.flame_code.specs.Routines.{Routine};
-ghost use Rattle.flame_machine.specs.Fitting.{calls_below as below, helper_fits as fitting, heights_fit as fitting_heights};
+ghost use Rattle.flame_machine.specs.Fitting.{helper_fits as fitting, heights_fit as fitting_heights};
 
 use crate::lists::Lists;
-use flame_code::{Code, Helpers, Instr};
+use flame_code::{Code, Helpers, Instr, calls_fit};
 use flame_rows::{Row, Seq};
 
 /// The greatest height of a helper.
@@ -43,30 +42,6 @@ fn all_below(heights: &[u32], height: u32, code: &Code) -> bool
         |instr: &Instr| -> bool
             ensures { result ≡ below heights.entry.now height instr.now }
         { calls_below(heights, height, instr) },
-    )
-}
-
-/// Whether the instruction, where it is a call, names a helper with the right count of arguments.
-fn call_fits(parameters: &[u32], instr: &Instr) -> bool
-    ensures { result ≡ fitting_call parameters.now instr.now }
-{
-    match instr {
-        Instr::Call(_, helper, count) => match parameters.get(*helper as usize) {
-            Some(parameters) => *parameters == *count,
-            None => false,
-        },
-        _ => true,
-    }
-}
-
-/// Whether all calls name helpers with the right counts of arguments.
-fn calls_fit(parameters: &[u32], code: &Code) -> bool
-    ensures { result ≡ fitting_calls parameters.now code.now }
-{
-    code.instrs().iter().all(
-        |instr: &Instr| -> bool
-            ensures { result ≡ fitting_call parameters.entry.now instr.now }
-        { call_fits(parameters, instr) },
     )
 }
 

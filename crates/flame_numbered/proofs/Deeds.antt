@@ -1,9 +1,9 @@
 -- What a call statement is that does something.
-use Rattle.std.proofs.Common.{◌≡◌, ℕ, List, [], ◌∷◌, Option, Some, None, refl, ap, ◌∙◌, sym}
+use Rattle.std.proofs.Common.{◌≡◌, ℕ, List, Option, Some, None, refl, ◌∙◌, sym}
 use Rattle.flame_spec.specs.declared.models.AgentType.{AgentType}
 use Rattle.flame_spec.specs.declared.models.MessageType.{MessageType}
 use Rattle.flame_spec.specs.declared.models.Variable.{Variable}
-use Rattle.flame_spec.specs.CallFaults.{Deed, sets, sends, bears, calls, called_by, added_in, born_or_called, sent_or_else, set_or_else, deed_of}
+use Rattle.flame_spec.specs.CallFaults.{Deed, sends, bears, calls, called_by, added_in, born_or_called, sent_or_else, set_or_else, deed_of}
 use Rattle.flame_spec.specs.Definitions.{Definition, helper_named}
 use Rattle.flame_spec.specs.Functions.{Place}
 use Rattle.flame_spec.specs.LookUps.{memory_set, message_sent, agent_born}

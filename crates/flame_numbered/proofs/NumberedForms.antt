@@ -1,5 +1,5 @@
 -- What each form of a numbered tree gives and does.
-use Rattle.std.proofs.Common.{◌≡◌, ℕ, List, [], map, Option, Some, None, rules}
+use Rattle.std.proofs.Common.{◌≡◌, ℕ, List, [], map, rules}
 use Rattle.std.specs.Prelude.{ℤ, Ok, slice_index_or}
 use Rattle.flame_spec.specs.declared.trees.Sign.{Sign}
 use Rattle.flame_spec.specs.Conditions.{number_at}
@@ -16,8 +16,8 @@ use Rattle.flame_body.specs.declared.slots.SlotStmt.{SlotStmt, Empty, Declare, A
 use Rattle.flame_body.specs.declared.slots.SlotArm.{SlotArm}
 use Rattle.flame_body.specs.declared.slots.SlotHead.{SlotHead}
 use Rattle.flame_sense.specs.Scenes.{Progress}
-use Rattle.flame_sense.specs.Expressions.{on_value, signs_value, one_of}
-use Rattle.flame_sense.specs.Ends.{End, went_on, broke, continued, returned, with_value, with_values, on_to, as_scope}
+use Rattle.flame_sense.specs.Expressions.{on_value, signs_value}
+use Rattle.flame_sense.specs.Ends.{went_on, broke, continued, returned, with_value, with_values, on_to, as_scope}
 use Rattle.flame_sense.specs.Loops.{turn, loop}
 use Rattle.flame_numbered.specs.NumberedScenes.{NumberedScene, standing_at, slot_value, slot_numbers, span_numbers}
 use Rattle.flame_numbered.specs.NumberedMeaning.{ExpressionMeaning, Indexing, one_value, chained, all_value, any_value, element_of, meaning_of, value_of}

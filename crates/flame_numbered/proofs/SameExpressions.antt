@@ -1,18 +1,18 @@
 -- An expression without check faults gives the same with numbers in place of names.
-use Rattle.std.proofs.Common.{◌≡◌, ℕ, Bool, true, false, cond, List, [], ◌∷◌, ◌++◌, map, Option, Some, None, refl, sym, ap, ◌∙◌}
+use Rattle.std.proofs.Common.{◌≡◌, ℕ, cond, List, [], ◌∷◌, ◌++◌, map, Option, Some, None, refl, sym, ap, ◌∙◌}
 use Rattle.std.specs.Prelude.{ℤ, pos, Result, Ok, Err}
 use Rattle.flame_ops.specs.Integers.{applied}
 use Rattle.flame_spec.specs.declared.faults.Fault.{Fault}
 use Rattle.flame_spec.specs.declared.models.Variable.{Variable}
 use Rattle.flame_spec.specs.CallFaults.{whole_faults, argument_faults, arguments_faults}
-use Rattle.flame_spec.specs.ExpressionFaults.{unknown_faults, indexed_faults, row_faults, field_at_faults, expression_faults, parts_faults, links_faults}
+use Rattle.flame_spec.specs.ExpressionFaults.{unknown_faults, indexed_faults, field_at_faults, expression_faults, parts_faults, links_faults}
 use Rattle.flame_spec.specs.Scopes.{Context, Sight}
 use Rattle.flame_spec.specs.Trees.{Expression, number, name, field, get, at, field_at, signed, chain, all_of, any_of}
 use Rattle.flame_spec.specs.Trees.{Expressions, no_parts, part, Links, no_links, link}
 use Rattle.flame_body.specs.WordSlots.{slot_at, cells_at, field_span, field_cells, got_column, input_read}
 use Rattle.flame_body.specs.NumberedTrees.{numbered, numbered_parts, numbered_links}
 use Rattle.flame_body.specs.FitLaws.{unfiled}
-use Rattle.flame_sense.specs.Scenes.{Scene, Progress, row_read}
+use Rattle.flame_sense.specs.Scenes.{Scene, Progress}
 use Rattle.flame_sense.specs.Expressions.{on_value, at_line, holds, signs_value, element_value, one_of, values_and, argument_values, values_of}
 use Rattle.flame_sense.specs.Expressions.{chain_value as chain_named, all_value as all_named, any_value as any_named, value_of as value_named}
 use Rattle.flame_sense.specs.Agreement.{Agrees}

@@ -1,29 +1,26 @@
 -- Calls of helpers end, and functions come out, the same with numbers in place of names.
-use Rattle.std.proofs.Common.{◌≡◌, ℕ, zero, suc, Bool, true, false, List, [], ◌∷◌, ◌++◌, map, length, Option, Some, None, refl, sym, ap, ◌∙◌, subst, arith}
-use Rattle.std.specs.Prelude.{ℤ, pos, slice_get, reverse, option_map, not, is_some}
+use Rattle.std.proofs.Common.{◌≡◌, ℕ, zero, suc, true, List, [], ◌∷◌, ◌++◌, map, length, Some, None, refl, sym, ap, ◌∙◌, subst, arith}
+use Rattle.std.specs.Prelude.{ℤ, slice_get, reverse, option_map}
 use Rattle.std.specs.List.{list_any}
 use Rattle.std.specs.Str.{bytes_eq}
 use Rattle.std.proofs.lemmas.List.{reverse-append, append_assoc, append-nil}
 use Rattle.flame_spec.specs.declared.models.Model.{Model}
 use Rattle.flame_spec.specs.declared.models.MessageType.{MessageType}
-use Rattle.flame_spec.specs.declared.outcomes.Source.{Source}
 use Rattle.flame_spec.specs.declared.trees.Parameter.{Parameter}
 use Rattle.flame_spec.specs.declared.trees.Unit as file
 use Rattle.flame_spec.specs.CheckFaults.{check_faults}
 use Rattle.flame_spec.specs.Definitions.{Definition, helpers, helper_named, body_of}
-use Rattle.flame_spec.specs.Functions.{Place, functions}
 use Rattle.flame_spec.specs.HelperFaults.{helper_context, deepest_calls}
 use Rattle.flame_spec.specs.Scopes.{Context, Sight, is_over, at_entry, after_parameters, after_name}
 use Rattle.flame_spec.specs.StatementFaults.{parameters_faults, statements_faults}
 use Rattle.flame_body.specs.declared.slots.SlotStmt.{SlotStmt}
-use Rattle.flame_body.specs.FunctionBodies.{NumberedBody, widths_in, function_body, helper_body, helper_bodies}
-use Rattle.flame_body.specs.FitLaws.{unfiled}
+use Rattle.flame_body.specs.FunctionBodies.{widths_in, helper_body, helper_bodies}
 use Rattle.flame_body.proofs.Columned.{numbered-at}
 use Rattle.flame_body.proofs.NumberedBodies.{bodies-by-number}
-use Rattle.flame_sense.specs.Scenes.{Scene, Local, Progress, Gave, gave, failed}
+use Rattle.flame_sense.specs.Scenes.{Scene, Local}
 use Rattle.flame_sense.specs.Ends.{End, went_on, broke, continued, returned, faulted}
 use Rattle.flame_sense.specs.Statements.{meanings}
-use Rattle.flame_sense.specs.HelperCalls.{gives, parameter_locals, helper_scene, entered as entered_named, calls_within, helper_calls}
+use Rattle.flame_sense.specs.HelperCalls.{gives, parameter_locals, helper_scene, entered as entered_named, calls_within}
 use Rattle.flame_sense.specs.Outcomes.{start, finished, scene_of, outcome_at}
 use Rattle.flame_sense.specs.Agreement.{Agrees}
 use Rattle.flame_sense.specs.AcceptedMeaning.{place_in}
@@ -31,7 +28,7 @@ use Rattle.flame_sense.proofs.Agreeing.{function_begins, helper_begins}
 use Rattle.flame_sense.proofs.Checked.{function_checked, helper_checked}
 use Rattle.flame_numbered.specs.NumberedScenes.{NumberedScene, nameless}
 use Rattle.flame_numbered.specs.NumberedMeaning.{runs_of}
-use Rattle.flame_numbered.specs.NumberedOutcomes.{beginning, entered, body_gives, answers_within, helper_answers, numbered_outcome}
+use Rattle.flame_numbered.specs.NumberedOutcomes.{beginning, entered, body_gives, answers_within, helper_answers}
 use Rattle.flame_numbered.specs.NumberedLaws.{OutcomesAreNumbered}
 use Rattle.flame_numbered.proofs.BaredLocals.{bare}
 use Rattle.flame_numbered.proofs.BaredEnds.{bared, bared_end}

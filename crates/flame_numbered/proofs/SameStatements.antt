@@ -1,41 +1,39 @@
 -- Statements without check faults do the same with numbers in place of names.
 use Rattle.std.proofs.Common.{◌≡◌, ℕ, Bool, true, false, cond, List, [], ◌∷◌, ◌++◌, map, Option, Some, None, refl, sym, ap, ◌∙◌, subst}
-use Rattle.std.specs.Prelude.{ℤ, pos, is_some, not, slice_index_or, option_map, Ok}
-use Rattle.std.specs.List.{list_any}
+use Rattle.std.specs.Prelude.{ℤ, is_some, not, slice_index_or, option_map}
 use Rattle.std.specs.Str.{bytes_eq}
 use Rattle.std.proofs.lemmas.Bool.{not-false}
 use Rattle.flame_ops.specs.Ascii.{capitals}
 use Rattle.flame_spec.specs.declared.faults.CheckKind.TheVariants.{NotInput}
 use Rattle.flame_spec.specs.declared.models.Input.{Input}
 use Rattle.flame_spec.specs.declared.models.MessageType.{MessageType}
-use Rattle.flame_spec.specs.ExpressionFaults.{expression_faults, optional_faults, fault_where}
+use Rattle.flame_spec.specs.ExpressionFaults.{expression_faults, optional_faults}
 use Rattle.flame_spec.specs.Functions.{Place}
-use Rattle.flame_spec.specs.LookUps.{message_looped, input_of}
-use Rattle.flame_spec.specs.Scopes.{Context, Loop, over_message, over_none, Sight, in_scope, in_loop, after_items, after, after_all, after_name, messages_at}
-use Rattle.flame_spec.specs.StatementFaults.{is_input, start_faults, opened, finish_faults, optional_assignment_faults, statement_faults, statements_faults, arms_faults}
+use Rattle.flame_spec.specs.LookUps.{message_looped}
+use Rattle.flame_spec.specs.Scopes.{Context, Loop, over_message, over_none, Sight, in_scope, in_loop, after_items, after, after_all, after_name, messages_at, input_found, input_in}
+use Rattle.flame_spec.specs.StatementFaults.{is_input, start_faults, opened, optional_assignment_faults, statement_faults, statements_faults, arms_faults}
 use Rattle.flame_spec.specs.Trees.{Expression, Declared, Assigned}
 use Rattle.flame_spec.specs.Trees.{Statement, empty, declare, assign, call, block, branch, while, for, do_while, loop_over, return, break, continue}
 use Rattle.flame_spec.specs.Trees.{Statements, no_more, also, Arms, no_arms, arm}
-use Rattle.flame_lookup.specs.Sources.{input_in}
-use Rattle.flame_body.specs.WordSlots.{deed_at, input_found, input_looped, number_found}
+use Rattle.flame_body.specs.WordSlots.{deed_at, input_looped, number_found}
 use Rattle.flame_body.specs.NumberedTrees.{numbered, numbered_parts, numbered_assignment, numbered_items, numbered_statement, numbered_statements, numbered_arms}
 use Rattle.flame_body.specs.FitLaws.{unfiled}
-use Rattle.flame_sense.specs.Scenes.{Scene, Progress, Current}
+use Rattle.flame_sense.specs.Scenes.{Scene, Progress}
 use Rattle.flame_sense.specs.Expressions.{holds, value_of as value_named}
-use Rattle.flame_sense.specs.Ends.{End, went_on, broke, continued, returned, with_value, on_to, as_scope}
-use Rattle.flame_sense.specs.Loops.{turn, loop, each_row as each_current}
+use Rattle.flame_sense.specs.Ends.{End, returned, with_value, on_to, as_scope}
+use Rattle.flame_sense.specs.Loops.{loop, each_row as each_current}
 use Rattle.flame_sense.specs.Statements.{meaning, meanings, first_arm as first_named, test_value as test_named, step_of as step_named}
-use Rattle.flame_sense.specs.Statements.{input_for, rows_of, currents_of, loop_currents, inside}
+use Rattle.flame_sense.specs.Statements.{rows_of, currents_of, loop_currents, inside}
 use Rattle.flame_sense.specs.Outcomes.{message_named}
 use Rattle.flame_sense.specs.Agreement.{message_loop, Agrees}
-use Rattle.flame_sense.specs.AcceptedMeaning.{WentOnAgrees, EndAgrees}
+use Rattle.flame_sense.specs.AcceptedMeaning.{WentOnAgrees}
 use Rattle.flame_sense.proofs.Agreeing.{first_none, second_none, no_fault, named_first, statement_agrees, statements_agree, end_agrees, scope_agrees, inside_agree}
 use Rattle.flame_sense.proofs.Naming.{body_names}
 use Rattle.flame_numbered.specs.NumberedScenes.{NumberedScene, standing_at}
 use Rattle.flame_numbered.specs.NumberedMeaning.{value_of, scope, first_arm, test_value, step_of, nothing, Run, in_turn, each_row, run_of, arm_of, runs_of}
 use Rattle.flame_numbered.proofs.NumberedForms.{run-Empty, run-Declare, run-Assign, run-Call, run-Block, run-If, run-While, run-For, run-Do, run-Loop, run-Return}
 use Rattle.flame_numbered.proofs.NumberedForms.{run-Break, run-Continue}
-use Rattle.flame_numbered.proofs.BaredEnds.{bared, bared_end, value-bared, scope-bared, on-bared, turn-bared, loop-bared, rows-bared, Alike, Stays}
+use Rattle.flame_numbered.proofs.BaredEnds.{bared, bared_end, value-bared, scope-bared, on-bared, turn-bared, loop-bared, rows-bared, Alike}
 use Rattle.flame_numbered.proofs.SameWords.{Matches}
 use Rattle.flame_numbered.proofs.SameExpressions.{value-same}
 use Rattle.flame_numbered.proofs.SameStores.{assignment-same, step-same, call-same, items-same}
@@ -91,13 +89,9 @@ turns-there :
     → input_in place.runs found.1 ≡ Some input
     → loop_currents word scene ≡ map (λ row. record { message = found.0; row = row }) (slice_index_or scene.readings input.0 [])
 turns-there place scene word found input there looped is =
-    ap (λ (c : Context). currents_of (message_looped (messages_at c) word) (rows_of (input_for c.runs (message_looped (messages_at c) word)) scene)) there
-    ∙ ap (λ m. currents_of m (rows_of (input_for place.runs m) scene)) looped
-    ∙ ap (λ o. map (λ row. record { message = found.0; row = row }) (rows_of o scene)) (by_runs place.runs ∙ is)
-  where
-    by_runs : (runs : Option Place) → input_for runs (Some found) ≡ input_in runs found.1
-    by_runs None = refl
-    by_runs (Some p) = refl
+    ap (λ (c : Context). currents_of (message_looped (messages_at c) word) (rows_of (input_found c.runs (message_looped (messages_at c) word)) scene)) there
+    ∙ ap (λ m. currents_of m (rows_of (input_found place.runs m) scene)) looped
+    ∙ ap (λ o. map (λ row. record { message = found.0; row = row }) (rows_of o scene)) is
 
 input-there :
     (runs : Option Place) (message : MessageType)

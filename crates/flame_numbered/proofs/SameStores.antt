@@ -1,11 +1,10 @@
 -- What is stored, declared, assigned and done is the same with numbers in place of names.
-use Rattle.std.proofs.Common.{◌≡◌, ℕ, Bool, true, false, cond, ◌||◌, List, [], ◌∷◌, ◌++◌, map, length, Option, Some, None, refl, sym, ap, ◌∙◌, arith}
-use Rattle.std.specs.Prelude.{ℤ, pos, is_some, slice_index_or, option_map, Ok}
+use Rattle.std.proofs.Common.{◌≡◌, ℕ, true, cond, ◌||◌, List, [], ◌∷◌, ◌++◌, map, length, Option, Some, None, refl, sym, ap, ◌∙◌, arith}
+use Rattle.std.specs.Prelude.{ℤ, pos, is_some, slice_index_or, option_map}
 use Rattle.flame_ops.specs.declared.integers.Op.{Op}
 use Rattle.flame_ops.specs.Integers.{applied}
 use Rattle.flame_spec.specs.declared.models.AgentType.{AgentType}
 use Rattle.flame_spec.specs.declared.models.MessageType.{MessageType}
-use Rattle.flame_spec.specs.declared.models.Variable.{Variable}
 use Rattle.flame_spec.specs.declared.faults.CheckKind.TheVariants.{ReadOnly}
 use Rattle.flame_spec.specs.CallFaults.{Deed, sets, sends, bears, calls, called_by, deed_of, places_of, arguments_faults, deed_faults, call_faults}
 use Rattle.flame_spec.specs.Columns.{width}
@@ -20,7 +19,7 @@ use Rattle.flame_spec.specs.Trees.{Expressions, Stored, plain, called, Indexed, 
 use Rattle.flame_body.specs.declared.slots.SlotTarget.{SlotTarget}
 use Rattle.flame_body.specs.declared.slots.SlotTarget.TheVariants as target
 use Rattle.flame_body.specs.WordSlots.{local_number, slot_or_given, target_or_given, target_at, cells_at, deed_slot, deed_at, helper_at, number_found}
-use Rattle.flame_body.specs.NumberedTrees.{numbered, numbered_parts, numbered_index, numbered_stored, numbered_target, numbered_assignment, numbered_items}
+use Rattle.flame_body.specs.NumberedTrees.{numbered_parts, numbered_index, numbered_stored, numbered_target, numbered_assignment, numbered_items}
 use Rattle.flame_body.specs.FunctionBodies.{widths_in}
 use Rattle.flame_body.specs.FitLaws.{unfiled}
 use Rattle.flame_body.proofs.Columned.{numbered-at, mapped-at}
@@ -29,16 +28,16 @@ use Rattle.flame_sense.specs.Expressions.{at_line, value_of as value_named, valu
 use Rattle.flame_sense.specs.Ends.{End, went_on, with_value, with_values, after_call}
 use Rattle.flame_sense.specs.Statements.{helped, set_local, set_found, set_column, set_name, with_column, with_local as with_named, fitted, step_of as step_named}
 use Rattle.flame_sense.specs.Statements.{by_value as by_named, by_initial as by_first, declarations as declared, assignment as assigned, done as done_named}
-use Rattle.flame_sense.specs.Statements.{assigned_by as assigned_named, with_message as sent_named, with_birth as born_named}
+use Rattle.flame_sense.specs.Statements.{assigned_by as assigned_named}
 use Rattle.flame_sense.specs.Agreement.{names_of, Agrees}
-use Rattle.flame_sense.specs.AcceptedMeaning.{PlaceFinds, room, Fits}
+use Rattle.flame_sense.specs.AcceptedMeaning.{PlaceFinds, room}
 use Rattle.flame_sense.proofs.Agreeing.{first_none, second_none, true≢false, item_agrees, inside_agree}
 use Rattle.flame_sense.proofs.Finding.{memory_there, place_finds}
 use Rattle.flame_sense.proofs.Fitting.{stored_finds, call_does}
 use Rattle.flame_numbered.specs.NumberedScenes.{NumberedScene, cell_column, local_at, slot_value}
-use Rattle.flame_numbered.specs.NumberedMeaning.{value_of, argument_numbers, by_value, by_initial, with_local, declarations, with_local_at}
+use Rattle.flame_numbered.specs.NumberedMeaning.{argument_numbers, by_value, by_initial, declarations, with_local_at}
 use Rattle.flame_numbered.specs.NumberedMeaning.{plainly_assigned, element_assigned, assigned_by, assignment, done, step_of}
-use Rattle.flame_numbered.proofs.BaredLocals.{bare, no-value, value-found, set-found}
+use Rattle.flame_numbered.proofs.BaredLocals.{no-value, value-found, set-found}
 use Rattle.flame_numbered.proofs.BaredEnds.{bared, bared_end, value-bared, values-bared, column-bared, call-bared, fuelled}
 use Rattle.flame_numbered.proofs.SameWords.{Matches, memory_of, memory-of, name-same, cells-same}
 use Rattle.flame_numbered.proofs.SameExpressions.{value-same, arguments-same}

@@ -1,36 +1,33 @@
 -- What words stand for has the value that the words have.
-use Rattle.std.proofs.Common.{◌≡◌, ℕ, zero, ◌+◌, Bool, true, false, cond, ◌||◌, List, [], ◌∷◌, ◌++◌, length, Option, Some, None, IsTrue}
+use Rattle.std.proofs.Common.{◌≡◌, ℕ, ◌+◌, Bool, true, false, cond, ◌||◌, List, [], ◌∷◌, ◌++◌, length, Option, Some, None}
 use Rattle.std.proofs.Common.{refl, sym, ap, ◌∙◌, codes, arith}
 use Rattle.std.specs.Prelude.{ℤ, pos, negsuc, nat_lt, is_some, unwrap_or}
 use Rattle.std.specs.List.{list_any}
 use Rattle.std.specs.Str.{bytes_eq}
-use Rattle.std.proofs.lemmas.Bool.{and_parts, not-false}
+use Rattle.std.proofs.lemmas.Bool.{not-false}
 use Rattle.std.proofs.lemmas.Bool.Decides.{nat_tests}
 use Rattle.flame_spec.specs.declared.faults.CheckKind.TheVariants.{NotArray, UnknownCall}
-use Rattle.flame_spec.specs.declared.models.Input.{Input}
 use Rattle.flame_spec.specs.declared.models.MessageType.{MessageType}
 use Rattle.flame_spec.specs.declared.models.Variable.{Variable}
 use Rattle.flame_spec.specs.Conditions.{number_at}
 use Rattle.flame_spec.specs.Definitions.{Definition, helper_named}
 use Rattle.flame_spec.specs.ExpressionFaults.{unknown_faults, indexed_faults, getter_faults, row_faults, names_array, member_of, member_read}
-use Rattle.flame_spec.specs.Functions.{Place}
 use Rattle.flame_spec.specs.LookUps.{Given, in_memory, constant, iteration, memory_named, constant_named, is_iteration, given_beside, given_by}
 use Rattle.flame_spec.specs.LookUps.{memory_got, message_read}
-use Rattle.flame_spec.specs.Scopes.{Context, Loop, Sight, names_seen, memory_at, messages_at, given_at, is_over}
-use Rattle.flame_lookup.specs.Sources.{input_in}
-use Rattle.flame_body.specs.WordSlots.{local_number, slot_or_given, slot_given, slot_at, elements_by, cells_found, cells_given, cells_at, span_found}
-use Rattle.flame_body.specs.WordSlots.{field_span, field_cells, got_column, input_found, input_read, number_found}
+use Rattle.flame_spec.specs.Scopes.{Context, Loop, Sight, names_seen, memory_at, messages_at, given_at, is_over, input_in, input_found}
+use Rattle.flame_body.specs.WordSlots.{local_number, slot_or_given, slot_given, slot_at, cells_found, cells_given, cells_at, span_found}
+use Rattle.flame_body.specs.WordSlots.{field_span, field_cells, got_column, input_read, number_found}
 use Rattle.flame_body.specs.FunctionBodies.{widths_in}
 use Rattle.flame_body.specs.FitLaws.{unfiled}
 use Rattle.flame_body.proofs.FittedExpressions.{row-found}
 use Rattle.flame_sense.specs.Scenes.{Scene, Progress, local_value, value_given, named, array_named, value_found, got, row_over, row_found, row_read, field_value}
-use Rattle.flame_sense.specs.Scenes.{elements, element_column, numbers_of}
+use Rattle.flame_sense.specs.Scenes.{element_column, numbers_of}
 use Rattle.flame_sense.specs.Outcomes.{message_named}
 use Rattle.flame_sense.specs.Agreement.{names_of, Agrees}
 use Rattle.flame_sense.proofs.Agreeing.{no_fault, true≢false, named_first}
 use Rattle.flame_sense.proofs.Finding.{given_there, memory_there, messages_there, named_there, array_there, given_array}
 use Rattle.flame_numbered.specs.NumberedScenes.{NumberedScene, slot_value, slot_numbers, span_numbers, cell_column}
-use Rattle.flame_numbered.proofs.BaredLocals.{bare, no-value, value-found}
+use Rattle.flame_numbered.proofs.BaredLocals.{no-value, value-found}
 use Rattle.flame_numbered.proofs.BaredEnds.{bared}
 
 -- what a numbered body has before it is what the named one has at a place in these loops
@@ -72,17 +69,13 @@ memory-of None constants word = by_constant (constant_named constants word)
 
 -- ---- elements
 
-elements-same : (o : Option ℕ) → elements_by o ≡ elements o
-elements-same None = refl
-elements-same (Some n) = refl
-
 none-below : (n : ℕ) → nat_lt n 0 ≡ false
 none-below n = grind (arith, nat_tests)
 
 pub found-cells : (o : Option (ℕ × Variable)) (i : ℤ) → cell_column (cells_found o) i ≡ element_column o i
 found-cells None (pos n) = ap (λ b. cond b (Some (0 + n)) None) (none-below n)
 found-cells None (negsuc n) = refl
-found-cells (Some found) (pos n) = ap (λ k. cond (nat_lt n k) (Some (found.0 + n)) None) (elements-same found.1.length)
+found-cells (Some found) (pos n) = refl
 found-cells (Some found) (negsuc n) = refl
 
 given-cells : (g : Option Given) → cells_given g ≡ cells_found (memory_of g)

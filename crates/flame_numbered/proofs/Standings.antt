@@ -1,5 +1,5 @@
 -- What a numbered body has before it inside a loop over a message.
-use Rattle.std.proofs.Common.{◌≡◌, ℕ, suc, ◌+◌, Bool, true, false, cond, ◌||◌, List, [], ◌∷◌, Option, Some, None, refl, sym, ap, ◌∙◌, subst, arith}
+use Rattle.std.proofs.Common.{◌≡◌, ℕ, Bool, true, false, cond, ◌||◌, List, ◌∷◌, Option, Some, None, refl, sym, ap, ◌∙◌, arith}
 use Rattle.std.specs.Prelude.{ℤ, ◌==◌, is_some, slice_get}
 use Rattle.std.specs.List.{list_any}
 use Rattle.std.specs.Str.{bytes_eq}
@@ -8,11 +8,10 @@ use Rattle.flame_spec.specs.declared.models.Input.{Input}
 use Rattle.flame_spec.specs.declared.models.MessageType.{MessageType}
 use Rattle.flame_spec.specs.Functions.{Place}
 use Rattle.flame_spec.specs.Lists.{numbered_where}
-use Rattle.flame_spec.specs.Scopes.{Context, Loop, over_message, Sight, messages_at, is_over}
-use Rattle.flame_lookup.specs.Sources.{input_in}
+use Rattle.flame_spec.specs.Scopes.{Context, Loop, over_message, messages_at, is_over, input_in}
 use Rattle.flame_body.specs.WordSlots.{number_found}
 use Rattle.flame_body.proofs.Columned.{numbered-at}
-use Rattle.flame_sense.specs.Scenes.{Scene, Current, row_over}
+use Rattle.flame_sense.specs.Scenes.{Scene, row_over}
 use Rattle.flame_sense.specs.Statements.{inside}
 use Rattle.flame_sense.specs.Outcomes.{message_named}
 use Rattle.flame_sense.proofs.Agreeing.{same_bytes, bytes_same, true≢false}

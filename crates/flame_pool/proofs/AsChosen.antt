@@ -16,7 +16,8 @@ use Rattle.flame_spec.specs.Choice.{permits, leaves, may_take, functions_out, ch
 use Rattle.flame_cond.specs.declared.forms.Test.{Test}
 use Rattle.flame_pool.specs.Choosing.{lets_through, admits, first_place}
 use Rattle.flame_pool.specs.Parting.{whose}
-use Rattle.flame_pool.specs.PoolLaws.{permits_at, IsReadOf, ChoiceIsFirstOut, PlaceIsChoice, WhoseAreTakers}
+use Rattle.flame_cond.specs.Said.{IsConditionOf}
+use Rattle.flame_pool.specs.PoolLaws.{permits_at, ChoiceIsFirstOut, PlaceIsChoice, WhoseAreTakers}
 use Rattle.flame_pool.proofs.Parts.{is_same, is_other}
 
 -- ---- the first of all that pass two tests is the first, of those that pass one, that passes the other
@@ -112,7 +113,7 @@ whose-map passes chosen (memory ∷ pool) =
 -- ---- conditions
 
 read_lets : (read : Option Test) (condition : Option Condition) (agent : AgentType) (units : List TimeUnit) (memory : List ℤ) (iteration : ℤ)
-    → IsReadOf read condition agent units
+    → IsConditionOf read condition agent units
     → lets_through read memory iteration ≡ permits agent units condition memory iteration
 read_lets None None agent units memory iteration says = refl
 read_lets None (Some condition) agent units memory iteration says = absurd says
@@ -121,7 +122,7 @@ read_lets (Some test) (Some condition) agent units memory iteration says = says 
 
 module _ (units : List TimeUnit) (memory : List ℤ) (iteration : ℤ) where
   admits-at : (places : List Place) (conditions : List (Option Test))
-      → AllZip (λ place read. IsReadOf read place.function.condition place.type units) places conditions
+      → AllZip (λ place read. IsConditionOf read place.function.condition place.type units) places conditions
       → (k : ℕ) (place : Place)
       → slice_get places k ≡ Some place
       → admits conditions iteration memory k ≡ permits place.type units place.function.condition memory iteration

@@ -1,15 +1,12 @@
 -- What the choices by numbers are in the model's own words.
-use Rattle.std.specs.Prelude.{◌≡◌, ℕ, ◌==◌, not, ℤ, List, Bool, false, Option, Some, None}
-use Rattle.std.specs.List.{AllZip, find, filter, slice_get}
+use Rattle.std.specs.Prelude.{◌≡◌, ℕ, ◌==◌, not, ℤ, List, Bool, false, Option, Some}
+use Rattle.std.specs.List.{find, filter, slice_get}
 use Rattle.std.specs.Option.{option_map_or}
 use Rattle.flame_spec.specs.declared.models.Model.{Model}
-use Rattle.flame_spec.specs.declared.models.TimeUnit.{TimeUnit}
-use Rattle.flame_spec.specs.declared.models.AgentType.{AgentType}
-use Rattle.flame_spec.specs.declared.conditions.Condition.{Condition}
 use Rattle.flame_spec.specs.Functions.{functions}
 use Rattle.flame_spec.specs.Choice.{permits, functions_out, choice, is_chosen, takers}
 use Rattle.flame_cond.specs.declared.forms.Test.{Test}
-use Rattle.flame_cond.specs.Said.{SaysCondition}
+use Rattle.flame_cond.specs.Said.{AreConditionsOf}
 use Rattle.flame_pool.specs.Choosing.{first_place, choices_of}
 use Rattle.flame_pool.specs.Parting.{whose}
 
@@ -29,17 +26,6 @@ ChoiceIsFirstOut =
     (model : Model) (agent : ℕ) (state : List ℕ) (memory : List ℤ) (iteration : ℤ)
     → choice model agent state memory iteration
     ≡ find (permits_at model memory iteration) (functions_out model agent state)
-
--- what was read says the function's condition; there is nothing where the function has none [own]
-abbrev pub IsReadOf : Option Test → Option Condition → AgentType → List TimeUnit → Type 0
-IsReadOf None None agent units = Unit {0}
-IsReadOf (Some test) (Some condition) agent units = SaysCondition test condition agent units
-IsReadOf _ _ agent units = ⊥
-
--- the conditions of the model's functions in document order, as they were read [own]
-abbrev pub AreConditionsOf : List (Option Test) → Model → Type 0
-AreConditionsOf conditions model =
-    AllZip (λ place read. IsReadOf read place.function.condition place.type model.units) (functions model) conditions
 
 -- with the functions out of a state, the place that is chosen is that of the agent's choice
 abbrev pub PlaceIsChoice : Type 0

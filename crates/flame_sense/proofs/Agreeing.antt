@@ -20,7 +20,7 @@ use Rattle.flame_spec.specs.HelperFaults.{helper_context}
 use Rattle.flame_spec.specs.KnownNames.{is_among}
 use Rattle.flame_spec.specs.Lists.{numbered_from, numbered_where}
 use Rattle.flame_spec.specs.LookUps.{message_looped}
-use Rattle.flame_spec.specs.Scopes.{Context, over_message, over_none, Sight, at_entry, after_parameters, after_name, names_seen}
+use Rattle.flame_spec.specs.Scopes.{Context, over_message, over_none, Sight, at_entry, after_parameters, after_name, names_seen, input_found}
 use Rattle.flame_spec.specs.Scopes.{after_items, after, after_all, in_value_of, in_loop, messages_at, given_at}
 use Rattle.flame_spec.specs.Scopes.{is_local}
 use Rattle.flame_spec.specs.Scopes.{in_scope as scoped}
@@ -32,7 +32,7 @@ use Rattle.flame_spec.specs.Trees.{loop_over, return, break, continue}
 use Rattle.flame_spec.specs.Trees.{Statements, no_more, also}
 use Rattle.flame_sense.specs.Scenes.{Scene, Local, Progress, Current, Calls}
 use Rattle.flame_sense.specs.Ends.{End, went_on, broke, continued, returned, faulted, as_scope}
-use Rattle.flame_sense.specs.Statements.{with_local, input_for, rows_of, currents_over, loop_currents, inside}
+use Rattle.flame_sense.specs.Statements.{with_local, rows_of, currents_over, loop_currents, inside}
 use Rattle.flame_sense.specs.Statements.{meaning, meanings}
 use Rattle.flame_sense.specs.HelperCalls.{parameter_locals, helper_scene, entered}
 use Rattle.flame_sense.specs.Kept.{Leaves}
@@ -372,7 +372,7 @@ turn_agrees place sight scene s word found current a looped c = record {
 
     stands : current.message ≡ found.0
     stands =
-        turn_stands found.0 (rows_of (input_for scene.context.runs (Some found)) scene) current
+        turn_stands found.0 (rows_of (input_found scene.context.runs (Some found)) scene) current
         (subst (λ o. Contains (currents_over o scene) current) same c)
 
 -- ---- the start

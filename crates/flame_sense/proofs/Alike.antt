@@ -1,12 +1,11 @@
 -- Where calls end alike, bodies mean the same.
-use Rattle.std.proofs.Common.{◌≡◌, ℕ, zero, suc, ◌+◌, ◌<◌, ◌≤◌, Bool, true, false, ◌||◌, cond, List, [], ◌∷◌}
-use Rattle.std.proofs.Common.{length, Option, Some, None, refl, sym, ap, ◌∙◌, subst, arith}
-use Rattle.std.specs.Prelude.{ℤ, pos, slice_get, ◌==◌, Result, Ok, unwrap_or}
+use Rattle.std.proofs.Common.{◌≡◌, ℕ, Bool, true, ◌||◌, cond, List, [], ◌∷◌}
+use Rattle.std.proofs.Common.{Option, Some, None, refl, sym, ap, ◌∙◌, subst}
+use Rattle.std.specs.Prelude.{ℤ, pos, slice_get, Ok, unwrap_or}
 use Rattle.std.specs.Str.{bytes_eq}
 use Rattle.std.proofs.lemmas.Bool.{or_left, or_right, eq-eqb}
 use Rattle.flame_ops.specs.declared.integers.Op.{Op}
 use Rattle.flame_ops.specs.Integers.{applied}
-use Rattle.flame_spec.specs.declared.faults.Fault.{Fault}
 use Rattle.flame_spec.specs.declared.models.AgentType.{AgentType}
 use Rattle.flame_spec.specs.declared.models.MessageType.{MessageType}
 use Rattle.flame_spec.specs.declared.models.Input.{Input}
@@ -21,14 +20,14 @@ use Rattle.flame_spec.specs.HelperFaults.{is_call_of, stored_calls, optional_cal
 use Rattle.flame_spec.specs.HelperFaults.{statement_calls, statements_call, arms_call}
 use Rattle.flame_spec.specs.LookUps.{Given, in_memory, constant, iteration, memory_set, message_sent, agent_born}
 use Rattle.flame_spec.specs.LookUps.{message_looped}
-use Rattle.flame_spec.specs.Scopes.{Context, memory_at, messages_at, given_at}
+use Rattle.flame_spec.specs.Scopes.{Context, memory_at, messages_at, given_at, input_found}
 use Rattle.flame_spec.specs.Trees.{Expression, number, name, field, get, at, field_at, signed, chain, all_of, any_of}
 use Rattle.flame_spec.specs.Trees.{Expressions, no_parts, part, Links, no_links, link}
 use Rattle.flame_spec.specs.Trees.{Stored, plain, called, Indexed, Declared, Assigned}
 use Rattle.flame_spec.specs.Trees.{Statement, empty, declare, assign, call, block, branch, while, for, do_while}
 use Rattle.flame_spec.specs.Trees.{loop_over, return, break, continue}
 use Rattle.flame_spec.specs.Trees.{Statements, no_more, also, Arms, no_arms, arm}
-use Rattle.flame_sense.specs.Scenes.{Scene, Progress, Current, Calls, local_value, value_given, named, array_named}
+use Rattle.flame_sense.specs.Scenes.{Scene, Progress, Calls, local_value, value_given, named, array_named}
 use Rattle.flame_sense.specs.Scenes.{element_column, numbers_of, row_read}
 use Rattle.flame_sense.specs.Expressions.{on_value, at_line, holds, signs_value, element_value, value_of}
 use Rattle.flame_sense.specs.Expressions.{chain_value, all_value, any_value, one_of, argument_values, values_and}
@@ -36,8 +35,8 @@ use Rattle.flame_sense.specs.Expressions.{values_of}
 use Rattle.flame_sense.specs.Ends.{End, went_on, returned, with_value, with_values, after_call, on_to, as_scope}
 use Rattle.flame_sense.specs.Loops.{turn, loop, each_row}
 use Rattle.flame_sense.specs.Statements.{helped, by_value, by_initial, declarations, set_name, set_column}
-use Rattle.flame_sense.specs.Statements.{with_local, with_column, assigned_by, assignment, done, test_value}
-use Rattle.flame_sense.specs.Statements.{step_of, input_for, rows_of, currents_of, loop_currents, inside, meaning}
+use Rattle.flame_sense.specs.Statements.{with_local, with_column, assigned_by, done, test_value}
+use Rattle.flame_sense.specs.Statements.{step_of, rows_of, currents_of, loop_currents, inside, meaning}
 use Rattle.flame_sense.specs.Statements.{meanings, first_arm}
 use Rattle.flame_sense.proofs.Running.{IsThere}
 use Rattle.flame_sense.proofs.Sending.{found_get}
@@ -65,7 +64,7 @@ rows_alike (Some input) other scene = refl
 currents_alike : (word : List ℕ) (other : Calls) (scene : Scene) → loop_currents word scene ≡ loop_currents word (calling other scene)
 currents_alike word other scene = λ i.
     currents_of (message_looped (messages_at scene.context) word)
-    (rows_alike (input_for scene.context.runs (message_looped (messages_at scene.context) word)) other scene i)
+    (rows_alike (input_found scene.context.runs (message_looped (messages_at scene.context) word)) other scene i)
 
 mutual
   pub value_alike : (e : Expression) (other : Calls) (scene : Scene) (s : Progress) → value_of e scene s ≡ value_of e (calling other scene) s

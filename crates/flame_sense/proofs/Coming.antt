@@ -1,8 +1,7 @@
 -- Wherever a run comes, the progress agrees with the place, and the part has no check faults.
-use Rattle.std.proofs.Common.{◌≡◌, ℕ, List, [], ◌∷◌, ◌++◌, map, Contains, Option, Some, None, refl, sym, ap, ◌∙◌}
-use Rattle.std.proofs.Common.{subst, arith, suc, zero}
+use Rattle.std.proofs.Common.{◌≡◌, ℕ, List, [], ◌∷◌, Contains, Option, Some, None, refl, sym, ap, ◌∙◌}
+use Rattle.std.proofs.Common.{subst, arith, suc}
 use Rattle.std.specs.Prelude.{ℤ, pos, slice_get}
-use Rattle.flame_spec.specs.declared.faults.Fault.{Fault}
 use Rattle.flame_spec.specs.declared.models.MessageType.{MessageType}
 use Rattle.flame_spec.specs.declared.outcomes.Source.{Source}
 use Rattle.flame_spec.specs.CheckFaults.{check_faults}
@@ -20,16 +19,16 @@ use Rattle.flame_spec.specs.StatementFaults.{statements_faults, arms_faults}
 use Rattle.flame_spec.specs.Trees.{Expression, Stored, Declared, Assigned}
 use Rattle.flame_spec.specs.Trees.{Statement, empty, declare, assign, call, block, branch, while, for, do_while}
 use Rattle.flame_spec.specs.Trees.{loop_over, return, break, continue}
-use Rattle.flame_spec.specs.Trees.{Statements, also, Arms, no_arms, arm}
+use Rattle.flame_spec.specs.Trees.{Statements, no_arms, arm}
 use Rattle.flame_sense.specs.Scenes.{Scene, Progress, Current, Calls}
-use Rattle.flame_sense.specs.Ends.{End, went_on, broke, continued, returned, faulted, as_scope}
-use Rattle.flame_sense.specs.Statements.{by_initial, with_local, step_of, input_for, rows_of, currents_over}
-use Rattle.flame_sense.specs.Statements.{loop_currents, inside, meaning, meanings}
+use Rattle.flame_sense.specs.Ends.{End, went_on, as_scope}
+use Rattle.flame_sense.specs.Statements.{by_initial, with_local, step_of, currents_over}
+use Rattle.flame_sense.specs.Statements.{loop_currents, inside, meanings}
 use Rattle.flame_sense.specs.HelperCalls.{helper_scene, entered}
 use Rattle.flame_sense.specs.Kept.{Leaves}
 use Rattle.flame_sense.specs.Outcomes.{start, scene_of, place_of}
-use Rattle.flame_sense.specs.Agreement.{names_of, LoopsStand, Agrees}
-use Rattle.flame_sense.specs.AcceptedMeaning.{place_in, WentOnAgrees, EndAgrees, StoredFinds, Finds}
+use Rattle.flame_sense.specs.Agreement.{names_of, Agrees}
+use Rattle.flame_sense.specs.AcceptedMeaning.{place_in, WentOnAgrees, StoredFinds, Finds}
 use Rattle.flame_sense.specs.RunLaws.{Stage, doing, running, testing, declaring, looping, stepping, turning}
 use Rattle.flame_sense.specs.RunLaws.{TurnEnds, by_its_end, by_continue}
 use Rattle.flame_sense.specs.RunLaws.{Comes, arrived, to_first, to_later, to_items, to_next_item, to_block}

@@ -1,5 +1,5 @@
 -- Calls that may be open inside one another beyond the greatest height make no difference.
-use Rattle.std.proofs.Common.{◌≡◌, ℕ, zero, suc, ◌+◌, ◌<◌, ◌≤◌, true, List, [], ◌∷◌, length, Option, Some, None}
+use Rattle.std.proofs.Common.{◌≡◌, ℕ, zero, suc, ◌<◌, ◌≤◌, true, List, [], ◌∷◌, length, Some}
 use Rattle.std.proofs.Common.{refl, sym, ap, ◌∙◌, arith}
 use Rattle.std.specs.Prelude.{ℤ, slice_get}
 use Rattle.flame_spec.specs.declared.models.Model.{Model}
@@ -8,13 +8,13 @@ use Rattle.flame_spec.specs.Definitions.{Definition, helpers}
 use Rattle.flame_spec.specs.Functions.{Place}
 use Rattle.flame_spec.specs.HelperFaults.{helper_context, caller_calls, is_called_by, call_height, deepest_calls}
 use Rattle.flame_spec.specs.Trees.{Statements}
-use Rattle.flame_sense.specs.Scenes.{Scene, Progress, Calls}
+use Rattle.flame_sense.specs.Scenes.{Progress}
 use Rattle.flame_sense.specs.Statements.{meanings}
 use Rattle.flame_sense.specs.HelperCalls.{gives, entered, helper_scene, calls_within, helper_calls}
 use Rattle.flame_sense.specs.Outcomes.{scene_of}
 use Rattle.flame_sense.specs.AcceptedMeaning.{place_in}
 use Rattle.flame_sense.specs.DepthLaws.{HaveHeights}
-use Rattle.flame_sense.proofs.Alike.{AreAlike, statements_alike}
+use Rattle.flame_sense.proofs.Alike.{statements_alike}
 
 within : {X : Type 0} (xs : List X) (k : ℕ) (x : X) → slice_get xs k ≡ Some x → k < length xs
 within [] k x e = cc

@@ -18,13 +18,12 @@ use Rattle.flame_spec.specs.Functions.{Place}
 use Rattle.flame_spec.specs.KnownNames.{is_among}
 use Rattle.flame_spec.specs.LookUps.{iteration, memory_named, constant_named, is_iteration, given_beside, given_by}
 use Rattle.flame_spec.specs.LookUps.{memory_got, message_read, message_looped}
-use Rattle.flame_spec.specs.Scopes.{Context, Loop, Sight, memory_at, messages_at, given_at, is_local, is_name_of, laid}
+use Rattle.flame_spec.specs.Scopes.{Context, Loop, Sight, memory_at, messages_at, given_at, is_local, is_name_of, laid, input_found}
 use Rattle.flame_spec.specs.Scopes.{is_visible, is_over, is_open_over}
 use Rattle.flame_spec.specs.StatementFaults.{is_only_read, is_read_only, is_input, start_faults, subscript_faults}
 use Rattle.flame_spec.specs.Trees.{Expression, number, name, field, get, at, field_at, signed, chain, all_of, any_of}
 use Rattle.flame_spec.specs.Trees.{Expressions, no_parts, part, Links, no_links, link, Indexed}
 use Rattle.flame_sense.specs.Scenes.{Scene, Local, Progress, Current, local_value, array_named}
-use Rattle.flame_sense.specs.Statements.{input_for}
 use Rattle.flame_sense.specs.Outcomes.{message_named}
 use Rattle.flame_sense.specs.Agreement.{names_of, LoopsStand, no_loops, plain_loop, message_loop, Agrees}
 use Rattle.flame_sense.specs.AcceptedMeaning.{IsNamed, IsArrayNamed, IsOverOne, IsRowRead, Finds, PartsFind}
@@ -308,22 +307,22 @@ module _ (place : Context) (sight : Sight) (scene : Scene) (s : Progress) (a : A
   pub input_there :
       (line : ℕ) (word : List ℕ)
       → start_faults place sight (message_looped (messages_at place) word) line word ≡ []
-      → IsTrue (is_some (input_for scene.context.runs (message_looped (messages_at scene.context) word)))
+      → IsTrue (is_some (input_found scene.context.runs (message_looped (messages_at scene.context) word)))
   input_there line word none =
-      ap (λ (c : Context). is_some (input_for c.runs (message_looped (messages_at c) word))) a.there
+      ap (λ (c : Context). is_some (input_found c.runs (message_looped (messages_at c) word))) a.there
       ∙ by_message (message_looped (messages_at place) word) none
     where
       by_runs :
           (runs : Option Place) (found : ℕ × MessageType)
           → is_input runs found.1 ≡ true
-          → is_some (input_for runs (Some found)) ≡ true
+          → is_some (input_found runs (Some found)) ≡ true
       by_runs None found e = cc
       by_runs (Some p) found e = e
 
       by_message :
           (o : Option (ℕ × MessageType))
           → start_faults place sight o line word ≡ []
-          → is_some (input_for place.runs o) ≡ true
+          → is_some (input_found place.runs o) ≡ true
       by_message None n = cc
       by_message (Some found) n =
           by_runs place.runs found

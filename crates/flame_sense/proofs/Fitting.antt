@@ -1,25 +1,25 @@
 -- How many numbers arguments stand for.
 use Rattle.std.proofs.Common.{◌≡◌, ℕ, zero, suc, ◌+◌, Bool, true, false, cond, List, [], ◌∷◌, ◌++◌, length, Option}
-use Rattle.std.proofs.Common.{Some, None, refl, sym, ap, ◌∙◌, subst, arith}
-use Rattle.std.specs.Prelude.{ℤ, pos, not, is_some, ◌==◌, Result, Ok, Err}
+use Rattle.std.proofs.Common.{Some, None, refl, sym, ap, ◌∙◌, arith}
+use Rattle.std.specs.Prelude.{ℤ, not, is_some, ◌==◌, Result, Ok, Err}
 use Rattle.std.proofs.lemmas.Bool.{not-false, eqb-true}
 use Rattle.std.proofs.lemmas.List.{length-append}
 use Rattle.flame_spec.specs.declared.faults.Fault.{Fault}
 use Rattle.flame_spec.specs.declared.models.Variable.{Variable}
-use Rattle.flame_spec.specs.declared.faults.CheckKind.TheVariants.{UnknownCall, WrongCount, NotOutput, NeedsIndex}
+use Rattle.flame_spec.specs.declared.faults.CheckKind.TheVariants.{WrongCount, NeedsIndex}
 use Rattle.flame_spec.specs.declared.faults.CheckKind.TheVariants.{WrongLength, ReadOnly}
 use Rattle.flame_spec.specs.CallFaults.{Deed, sets, sends, bears, calls, called_by, deed_of, places_of, wanted}
 use Rattle.flame_spec.specs.CallFaults.{count, length_found, length_given, length_of_argument, is_length}
 use Rattle.flame_spec.specs.CallFaults.{whole_faults, argument_faults, arguments_faults, sets_array}
-use Rattle.flame_spec.specs.CallFaults.{sends_no_output, deed_faults, call_faults, called_faults}
+use Rattle.flame_spec.specs.CallFaults.{deed_faults, call_faults}
 use Rattle.flame_spec.specs.Columns.{width_by, width_of, width, is_array}
 use Rattle.flame_spec.specs.Definitions.{Definition, helper_named}
-use Rattle.flame_spec.specs.ExpressionFaults.{fault_where, unknown_faults, bare_faults, gives_array, names_array}
+use Rattle.flame_spec.specs.ExpressionFaults.{fault_where, unknown_faults, gives_array, names_array}
 use Rattle.flame_spec.specs.ExpressionFaults.{row_faults, is_found_array, member_read, expression_faults}
 use Rattle.flame_spec.specs.ExpressionFaults.{parts_faults}
-use Rattle.flame_spec.specs.LookUps.{Given, in_memory, constant, iteration, memory_named, constant_named}
+use Rattle.flame_spec.specs.LookUps.{iteration, memory_named, constant_named}
 use Rattle.flame_spec.specs.LookUps.{is_iteration, given_beside, given_by}
-use Rattle.flame_spec.specs.Scopes.{Context, Sight, memory_at, given_at}
+use Rattle.flame_spec.specs.Scopes.{Context, Sight, memory_at}
 use Rattle.flame_spec.specs.StatementFaults.{is_read_only, stored_faults, subscript_faults, assignment_faults}
 use Rattle.flame_spec.specs.Trees.{Expression, number, name, field, get, at, field_at, signed, chain, all_of, any_of}
 use Rattle.flame_spec.specs.Trees.{Expressions, no_parts, part, Stored, plain, called, Assigned}
@@ -29,8 +29,8 @@ use Rattle.flame_sense.specs.Expressions.{value_of, one_of, argument_values, val
 use Rattle.flame_sense.specs.Statements.{fitted}
 use Rattle.flame_sense.specs.Agreement.{Agrees}
 use Rattle.flame_sense.specs.AcceptedMeaning.{IsNamed, Finds, PartsFind, room, Fits, StoredFinds, PlaceFinds}
-use Rattle.flame_sense.proofs.Agreeing.{first_none, second_none, no_fault, nothing_there, true≢false}
-use Rattle.flame_sense.proofs.Finding.{array_there, given_array, named_there, row_there, got_there}
+use Rattle.flame_sense.proofs.Agreeing.{first_none, second_none, no_fault, nothing_there}
+use Rattle.flame_sense.proofs.Finding.{array_there, named_there, row_there, got_there}
 use Rattle.flame_sense.proofs.Finding.{expression_finds, parts_find, place_finds}
 
 -- ---- numbers of rows

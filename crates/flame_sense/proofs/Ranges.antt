@@ -1,11 +1,9 @@
 -- Values are within int.
 use Rattle.std.proofs.Common.{◌≡◌, ℕ, zero, suc, ◌+◌, Bool, true, false, cond, List, [], ◌∷◌, ◌++◌, Option, Some}
-use Rattle.std.proofs.Common.{None, refl, sym, ap, ◌∙◌, subst, get_or, IfOk}
-use Rattle.std.specs.Prelude.{ℤ, pos, negsuc, neg_ℤ, not, slice_get, slice_set, slice_index_or, unwrap_or, is_some}
+use Rattle.std.proofs.Common.{None, refl, subst, IfOk}
+use Rattle.std.specs.Prelude.{ℤ, pos, neg_ℤ, not, slice_get, slice_set, unwrap_or}
 use Rattle.std.specs.Prelude.{Result, Ok, Err, ◌==◌}
 use Rattle.std.specs.Str.{bytes_eq}
-use Rattle.std.specs.Ordering.{int_eq}
-use Rattle.std.specs.List.{filter, find}
 use Rattle.flame_ops.specs.declared.integers.Cause.{Cause}
 use Rattle.flame_ops.specs.declared.integers.Op.{Op}
 use Rattle.flame_ops.specs.declared.integers.Cause.TheVariants.{Overflow}
@@ -19,21 +17,20 @@ use Rattle.flame_spec.specs.declared.outcomes.Born.{Born}
 use Rattle.flame_spec.specs.declared.trees.Sign.{Sign}
 use Rattle.flame_spec.specs.declared.trees.SignKind.{SignKind}
 use Rattle.flame_spec.specs.declared.trees.SignKind.TheVariants.{Minus, Plus, Bang}
-use Rattle.flame_spec.specs.Columns.{width_of}
 use Rattle.flame_spec.specs.Conditions.{number_at}
 use Rattle.flame_spec.specs.Definitions.{Definition}
 use Rattle.flame_spec.specs.ExpressionFaults.{member_read}
 use Rattle.flame_spec.specs.LookUps.{Given, in_memory, constant, iteration, memory_got, message_read}
-use Rattle.flame_spec.specs.Scopes.{Context, memory_at, messages_at, given_at}
+use Rattle.flame_spec.specs.Scopes.{memory_at, messages_at, given_at}
 use Rattle.flame_spec.specs.Trees.{Expression, number, name, field, get, at, field_at, signed, chain, all_of, any_of}
 use Rattle.flame_spec.specs.Trees.{Expressions, no_parts, part, Links, no_links, link}
 use Rattle.flame_sense.specs.Scenes.{Scene, Progress, Local, Current, Calls, gave, local_value, value_given, named}
-use Rattle.flame_sense.specs.Scenes.{array_named, value_found, got, row_over, row_found, row_read, field_value}
+use Rattle.flame_sense.specs.Scenes.{array_named, value_found, row_over, row_found, row_read, field_value}
 use Rattle.flame_sense.specs.Scenes.{element_column, numbers_from, numbers_by, numbers_of}
 use Rattle.flame_sense.specs.Expressions.{on_value, at_line, holds, signed_by, signs_value, element_value, value_of}
 use Rattle.flame_sense.specs.Expressions.{chain_value, all_value, any_value, one_of, argument_values, values_and}
 use Rattle.flame_sense.specs.Expressions.{values_of}
-use Rattle.flame_sense.specs.Statements.{fitted, set_local}
+use Rattle.flame_sense.specs.Statements.{fitted}
 use Rattle.flame_sense.specs.RangeLaws.{IsInt, Each, AreInts, WritesInts, PartsWriteInts, LinksWriteInts}
 use Rattle.flame_sense.specs.RangeLaws.{BodyWritesInts, AllWriteInts}
 

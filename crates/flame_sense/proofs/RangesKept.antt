@@ -1,7 +1,7 @@
 -- Statements keep numbers within int.
-use Rattle.std.proofs.Common.{◌≡◌, ℕ, zero, suc, ◌-◌, Bool, true, false, cond, List, [], ◌∷◌, ◌++◌, map, drop}
-use Rattle.std.proofs.Common.{length, Option, Some, None, refl, sym, ap, ◌∙◌, subst}
-use Rattle.std.specs.Prelude.{ℤ, pos, slice_get, slice_index_or, is_some, Result, Ok, Err}
+use Rattle.std.proofs.Common.{◌≡◌, ℕ, zero, suc, ◌-◌, Bool, true, false, cond, List, [], ◌∷◌, map, drop}
+use Rattle.std.proofs.Common.{length, Option, Some, None, refl, subst}
+use Rattle.std.specs.Prelude.{ℤ, pos, slice_index_or, is_some, Result, Ok, Err}
 use Rattle.std.specs.Str.{bytes_eq}
 use Rattle.std.specs.List.{filter, find}
 use Rattle.flame_ops.specs.declared.integers.Op.{Op}
@@ -24,22 +24,22 @@ use Rattle.flame_spec.specs.Definitions.{body_in, body_of}
 use Rattle.flame_spec.specs.Functions.{Place}
 use Rattle.flame_spec.specs.HelperFaults.{deepest_calls}
 use Rattle.flame_spec.specs.LookUps.{memory_named, message_looped}
-use Rattle.flame_spec.specs.Scopes.{memory_at, messages_at}
+use Rattle.flame_spec.specs.Scopes.{memory_at, messages_at, input_found}
 use Rattle.flame_spec.specs.Trees.{Expression, Stored, plain, called, Indexed, Declared, Assigned}
 use Rattle.flame_spec.specs.Trees.{Statement, empty, declare, assign, call, block, branch, while, for, do_while}
 use Rattle.flame_spec.specs.Trees.{loop_over, return, break, continue}
 use Rattle.flame_spec.specs.Trees.{Statements, no_more, also, Arms, no_arms, arm}
-use Rattle.flame_sense.specs.Scenes.{Scene, Progress, Local, Current, Gave, gave, failed, Calls, local_value, named}
+use Rattle.flame_sense.specs.Scenes.{Scene, Progress, Local, Current, Gave, gave, failed, local_value, named}
 use Rattle.flame_sense.specs.Scenes.{array_named, element_column}
 use Rattle.flame_sense.specs.Expressions.{at_line, holds, value_of, values_of}
 use Rattle.flame_sense.specs.Ends.{End, went_on, broke, continued, returned, faulted, no_fuel, with_value}
 use Rattle.flame_sense.specs.Ends.{with_values, after_call, on_to, outside, leave, as_scope}
 use Rattle.flame_sense.specs.Loops.{pay_from, after_turn, turn, turns, each_row}
 use Rattle.flame_sense.specs.Statements.{helped, by_value, by_initial, declarations, set_local, set_found, set_name}
-use Rattle.flame_sense.specs.Statements.{set_column, with_local, with_column, assigned_by, done, fitted, test_value}
-use Rattle.flame_sense.specs.Statements.{step_of, input_for, rows_of, currents_of, loop_currents, inside, meaning}
+use Rattle.flame_sense.specs.Statements.{set_column, with_local, with_column, assigned_by, done, test_value}
+use Rattle.flame_sense.specs.Statements.{step_of, rows_of, currents_of, loop_currents, inside, meaning}
 use Rattle.flame_sense.specs.Statements.{meanings, first_arm}
-use Rattle.flame_sense.specs.HelperCalls.{gives, parameter_locals, entered, helper_scene, calls_within, helper_calls}
+use Rattle.flame_sense.specs.HelperCalls.{gives, parameter_locals, entered, helper_scene, calls_within}
 use Rattle.flame_sense.specs.Outcomes.{start, ended, finished, scene_of, outcome_at, place_of, outcome_over}
 use Rattle.flame_sense.specs.RangeLaws.{IsInt, Each, AreInts, WritesInts, IfAny, StoredWritesInts}
 use Rattle.flame_sense.specs.RangeLaws.{AssignedWritesInts, StatementWritesInts, BodyWritesInts, ArmsWriteInts}
@@ -352,7 +352,7 @@ found_rows (Some message) rows are = current_rows message.0 rows are
 looped_rows : (word : List ℕ) (scene : Scene) → SceneInts scene → Each (λ (current : Current). AreInts current.row) (loop_currents word scene)
 looped_rows word scene known =
     found_rows (message_looped (messages_at scene.context) word) _
-    (input_rows (input_for scene.context.runs (message_looped (messages_at scene.context) word)) scene known)
+    (input_rows (input_found scene.context.runs (message_looped (messages_at scene.context) word)) scene known)
 
 inside_ints : (current : Current) (scene : Scene) → SceneInts scene → AreInts current.row → SceneInts (inside current scene)
 inside_ints current scene known are = record {

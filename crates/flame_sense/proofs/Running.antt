@@ -1,5 +1,5 @@
 -- What each call statement without check faults keeps, every statement without them keeps.
-use Rattle.std.proofs.Common.{◌≡◌, ℕ, zero, suc, List, [], ◌∷◌, ◌++◌, length, refl, Bool, true, false, cond, Option}
+use Rattle.std.proofs.Common.{◌≡◌, ℕ, zero, suc, List, [], ◌∷◌, length, Bool, true, false, cond, Option}
 use Rattle.std.proofs.Common.{Some, None}
 use Rattle.std.specs.Prelude.{ℤ, pos, Result, Ok, Err, is_some}
 use Rattle.flame_ops.specs.declared.integers.Op.{Op}
@@ -9,23 +9,23 @@ use Rattle.flame_spec.specs.declared.models.Variable.{Variable}
 use Rattle.flame_spec.specs.CallFaults.{deed_of, call_faults}
 use Rattle.flame_spec.specs.Conditions.{number_at}
 use Rattle.flame_spec.specs.Definitions.{Definition, helper_named}
-use Rattle.flame_spec.specs.ExpressionFaults.{expression_faults, optional_faults}
+use Rattle.flame_spec.specs.ExpressionFaults.{expression_faults}
 use Rattle.flame_spec.specs.LookUps.{memory_named, message_looped}
-use Rattle.flame_spec.specs.Scopes.{Context, Sight, over_none, after, after_all, in_loop, memory_at, messages_at}
+use Rattle.flame_spec.specs.Scopes.{Context, Sight, over_none, after, after_all, in_loop, memory_at, messages_at, context_for}
 use Rattle.flame_spec.specs.Scopes.{in_scope as scoped}
 use Rattle.flame_spec.specs.StatementFaults.{start_faults, statement_faults, statements_faults, arms_faults, opened}
-use Rattle.flame_spec.specs.Trees.{Expression, Expressions, Stored, plain, called, Indexed, Declared, Assigned}
+use Rattle.flame_spec.specs.Trees.{Expressions, Stored, plain, called, Indexed, Declared, Assigned}
 use Rattle.flame_spec.specs.Trees.{Statement, empty, declare, assign, call, block, branch, while, for, do_while}
 use Rattle.flame_spec.specs.Trees.{loop_over, return, break, continue}
 use Rattle.flame_spec.specs.Trees.{Statements, no_more, also, Arms, no_arms, arm}
 use Rattle.flame_sense.specs.Scenes.{Scene, Progress, Local, Current, Gave, gave, failed, local_value, named}
-use Rattle.flame_sense.specs.Scenes.{array_named, element_column, context_for}
+use Rattle.flame_sense.specs.Scenes.{array_named, element_column}
 use Rattle.flame_sense.specs.Expressions.{at_line, holds, value_of, values_of}
 use Rattle.flame_sense.specs.Ends.{End, went_on, broke, continued, returned, faulted, no_fuel, with_value}
 use Rattle.flame_sense.specs.Ends.{with_values, after_call, on_to, leave, as_scope}
 use Rattle.flame_sense.specs.Loops.{pay_from, after_turn, turn, turns, each_row}
 use Rattle.flame_sense.specs.Statements.{helped, by_value, by_initial, declarations, set_local, set_found, set_name}
-use Rattle.flame_sense.specs.Statements.{set_column, with_local, with_column, assigned_by, assignment, done}
+use Rattle.flame_sense.specs.Statements.{set_column, with_column, assigned_by, done}
 use Rattle.flame_sense.specs.Statements.{test_value, step_of, loop_currents, inside, meaning, meanings, first_arm}
 use Rattle.flame_sense.specs.Kept.{Leaves}
 use Rattle.flame_sense.proofs.Agreeing.{first_none, second_none}

@@ -1,19 +1,18 @@
 -- The messages that are sent are of outputs of the function.
-use Rattle.std.proofs.Common.{◌≡◌, ℕ, zero, suc, ◌+◌, Bool, true, false, cond, List, [], ◌∷◌, ◌++◌, Option, Some}
+use Rattle.std.proofs.Common.{◌≡◌, ℕ, suc, ◌+◌, Bool, true, false, cond, List, [], ◌∷◌, ◌++◌, Option, Some}
 use Rattle.std.proofs.Common.{None, refl, sym, ap, ◌∙◌, subst, arith, codes}
-use Rattle.std.specs.Prelude.{ℤ, not, slice_get, option_map, ◌==◌}
+use Rattle.std.specs.Prelude.{ℤ, not, slice_get, ◌==◌}
 use Rattle.std.specs.Str.{bytes_eq}
-use Rattle.std.proofs.lemmas.Bool.{not-false, true_from_ne_false}
+use Rattle.std.proofs.lemmas.Bool.{not-false}
 use Rattle.flame_spec.specs.declared.models.AgentType.{AgentType}
 use Rattle.flame_spec.specs.declared.models.MessageType.{MessageType}
 use Rattle.flame_spec.specs.declared.models.Variable.{Variable}
 use Rattle.flame_spec.specs.declared.outcomes.Sent.{Sent}
 use Rattle.flame_spec.specs.declared.outcomes.Source.{Source}
-use Rattle.flame_spec.specs.declared.outcomes.Outcome.{Outcome}
 use Rattle.flame_spec.specs.declared.faults.CheckKind.TheVariants.{WrongCount, NotOutput, NeedsIndex}
 use Rattle.flame_spec.specs.CallFaults.{Deed, sets, sends, bears, calls, called_by, added_in, born_or_called}
-use Rattle.flame_spec.specs.CallFaults.{sent_or_else, set_or_else, deed_of, deed_faults, call_faults, count, wanted}
-use Rattle.flame_spec.specs.CallFaults.{is_no_output, sends_no_output}
+use Rattle.flame_spec.specs.CallFaults.{sent_or_else, set_or_else, deed_of, deed_faults, count, wanted}
+use Rattle.flame_spec.specs.CallFaults.{is_no_output}
 use Rattle.flame_spec.specs.CheckFaults.{check_faults}
 use Rattle.flame_spec.specs.Columns.{width}
 use Rattle.flame_spec.specs.Definitions.{Definition, helper_named, body_of}
@@ -24,7 +23,7 @@ use Rattle.flame_spec.specs.Lists.{numbered_from, numbered_where}
 use Rattle.flame_spec.specs.LookUps.{memory_set, message_sent, agent_born}
 use Rattle.flame_spec.specs.Scopes.{Context, Sight, at_entry, memory_at}
 use Rattle.flame_spec.specs.Trees.{Expressions}
-use Rattle.flame_sense.specs.Scenes.{Scene, Progress, context_for}
+use Rattle.flame_sense.specs.Scenes.{Progress}
 use Rattle.flame_sense.specs.Ends.{End, went_on, broke, continued, returned, faulted}
 use Rattle.flame_sense.specs.Expressions.{holds}
 use Rattle.flame_sense.specs.Statements.{fitted, done, meanings}
@@ -34,7 +33,7 @@ use Rattle.flame_sense.specs.AcceptedMeaning.{place_in}
 use Rattle.flame_sense.specs.OutputLaws.{IsOfOutput, AreOfOutputs, SentAre}
 use Rattle.flame_sense.proofs.Agreeing.{first_none, second_none, no_fault}
 use Rattle.flame_sense.proofs.Checked.{function_checked}
-use Rattle.flame_sense.proofs.Running.{IsCarried, IsThere, CallsCarry, given_carries, statements_carry}
+use Rattle.flame_sense.proofs.Running.{IsCarried, CallsCarry, given_carries, statements_carry}
 
 -- ---- what is found by its number
 

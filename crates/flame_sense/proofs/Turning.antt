@@ -6,9 +6,9 @@ use Rattle.flame_spec.specs.declared.models.Input.{Input}
 use Rattle.flame_spec.specs.declared.models.MessageType.{MessageType}
 use Rattle.flame_spec.specs.Functions.{Place}
 use Rattle.flame_spec.specs.LookUps.{message_looped, input_of}
-use Rattle.flame_spec.specs.Scopes.{messages_at}
+use Rattle.flame_spec.specs.Scopes.{messages_at, input_found}
 use Rattle.flame_sense.specs.Scenes.{Scene, Current}
-use Rattle.flame_sense.specs.Statements.{input_for, rows_of, currents_of, currents_over, loop_currents}
+use Rattle.flame_sense.specs.Statements.{rows_of, currents_of, currents_over, loop_currents}
 use Rattle.flame_sense.specs.declared.scene.Open.{the_lemmas}
 use Rattle.flame_sense.specs.declared.scene.Open.TheVariants.{Nothing}
 use Rattle.flame_sense.specs.StandsFor.{rows_seen, currents}
@@ -33,7 +33,7 @@ pub rows_there :
     → map (stands_at message.0) rows ≡ loop_currents word scene
 rows_there scene word place message input rows runs looped found seen = sym (
     ap (λ o. currents_over o scene) looped
-    ∙ ap (λ r. currents_of (Some message) (rows_of (input_for r (Some message)) scene)) runs
+    ∙ ap (λ r. currents_of (Some message) (rows_of (input_found r (Some message)) scene)) runs
     ∙ ap (currents_of (Some message)) (rows_by (input_of place.function message.1) scene input found ∙ sym seen)
     ∙ map-map _ _ rows)
 

@@ -1,12 +1,12 @@
 -- Columns lie within rows, and memories keep their lengths.
-use Rattle.std.proofs.Common.{◌≡◌, ℕ, zero, suc, ◌+◌, ◌<◌, ◌≤◌, Bool, true, false, cond, List, [], ◌∷◌, length, Option, Some, None, refl, sym, ap, ◌∙◌, arith, length-set}
+use Rattle.std.proofs.Common.{◌≡◌, ℕ, ◌+◌, ◌<◌, ◌≤◌, Bool, true, false, cond, List, [], ◌∷◌, Option, Some, None, refl, ap, ◌∙◌, arith, length-set}
 use Rattle.std.specs.Prelude.{ℤ, pos, negsuc, nat_lt}
 use Rattle.std.proofs.lemmas.Bool.{ltb-true}
 use Rattle.flame_spec.specs.declared.models.Model.{Model}
 use Rattle.flame_spec.specs.declared.models.Variable.{Variable}
-use Rattle.flame_spec.specs.Columns.{width_by, width_of, width, columned_from, columned_where}
+use Rattle.flame_spec.specs.Columns.{width_by, width_of, width, columned_from, columned_where, elements}
 use Rattle.flame_spec.specs.Trees.{Statements}
-use Rattle.flame_sense.specs.Scenes.{Scene, Progress, Calls, elements, element_column}
+use Rattle.flame_sense.specs.Scenes.{Scene, Progress, Calls, element_column}
 use Rattle.flame_sense.specs.Statements.{meanings}
 use Rattle.flame_sense.specs.Kept.{IsKept, IsKeptByPaying, Leaves}
 use Rattle.flame_sense.specs.WidthLaws.{KeepsLength}

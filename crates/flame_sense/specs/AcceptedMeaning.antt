@@ -14,7 +14,7 @@ use Rattle.flame_spec.specs.ExpressionFaults.{expression_faults, is_found_array,
 use Rattle.flame_spec.specs.Functions.{Place, functions}
 use Rattle.flame_spec.specs.HelperFaults.{helper_context}
 use Rattle.flame_spec.specs.LookUps.{memory_got, memory_named, message_read, message_looped}
-use Rattle.flame_spec.specs.Scopes.{Context, over_none, Sight, at_entry, after_parameters, after_name, after}
+use Rattle.flame_spec.specs.Scopes.{Context, over_none, Sight, at_entry, after_parameters, after_name, after, input_found}
 use Rattle.flame_spec.specs.Scopes.{after_all}
 use Rattle.flame_spec.specs.Scopes.{in_value_of, in_loop, memory_at, messages_at, given_at}
 use Rattle.flame_spec.specs.Scopes.{in_scope as scoped}
@@ -26,7 +26,7 @@ use Rattle.flame_spec.specs.Trees.{Stored, plain, called, Indexed, Declared, Ass
 use Rattle.flame_sense.specs.Scenes.{Scene, Progress, Current, Calls, local_value, array_named}
 use Rattle.flame_sense.specs.Expressions.{values_of}
 use Rattle.flame_sense.specs.Ends.{End, went_on, broke, continued, returned, faulted, as_scope}
-use Rattle.flame_sense.specs.Statements.{with_local, fitted, input_for, loop_currents, inside, meaning, meanings}
+use Rattle.flame_sense.specs.Statements.{with_local, fitted, loop_currents, inside, meaning, meanings}
 use Rattle.flame_sense.specs.HelperCalls.{helper_scene, entered}
 use Rattle.flame_sense.specs.Outcomes.{start, scene_of}
 use Rattle.flame_sense.specs.Agreement.{Agrees}
@@ -275,4 +275,4 @@ LoopsHaveInputs =
     (place : Context) (sight : Sight) (scene : Scene) (s : Progress) (line : ℕ) (word : List ℕ)
     → Agrees place sight scene s
     → start_faults place sight (message_looped (messages_at place) word) line word ≡ []
-    → IsTrue (is_some (input_for scene.context.runs (message_looped (messages_at scene.context) word)))
+    → IsTrue (is_some (input_found scene.context.runs (message_looped (messages_at scene.context) word)))

@@ -1,8 +1,8 @@
 -- Where a function runs as the check faults see it: what its progress has agrees with what the place sees.
 use Rattle.std.specs.Prelude.{◌≡◌, ℕ, ℤ, List, [], ◌∷◌, map, None, Some, IsTrue}
 use Rattle.flame_spec.specs.declared.models.MessageType.{MessageType}
-use Rattle.flame_spec.specs.Scopes.{Context, Loop, over_message, over_none, Sight, names_seen, messages_at, given_at, is_local}
-use Rattle.flame_sense.specs.Scenes.{Scene, Local, Progress, Current, context_for}
+use Rattle.flame_spec.specs.Scopes.{Context, Loop, over_message, over_none, Sight, names_seen, messages_at, given_at, is_local, context_for}
+use Rattle.flame_sense.specs.Scenes.{Scene, Local, Progress, Current}
 use Rattle.flame_sense.specs.Outcomes.{message_named}
 
 -- the names of these locals, the newest first [own]

@@ -5,7 +5,8 @@ use Rattle.flame_spec.specs.declared.models.Model.{Model}
 use Rattle.flame_spec.specs.declared.trees.Parameter.{Parameter}
 use Rattle.flame_spec.specs.Definitions.{Definition}
 use Rattle.flame_spec.specs.HelperFaults.{deepest_calls}
-use Rattle.flame_sense.specs.Scenes.{Scene, Progress, Local, Gave, gave, failed, Calls, context_for}
+use Rattle.flame_spec.specs.Scopes.{context_for}
+use Rattle.flame_sense.specs.Scenes.{Scene, Progress, Local, Gave, gave, failed, Calls}
 use Rattle.flame_sense.specs.Ends.{End, went_on, broke, continued, returned, faulted, no_fuel}
 use Rattle.flame_sense.specs.Statements.{meanings}
 

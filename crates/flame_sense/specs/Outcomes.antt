@@ -12,7 +12,8 @@ use Rattle.flame_spec.specs.Definitions.{helpers, body_of}
 use Rattle.flame_spec.specs.Functions.{functions, Place}
 use Rattle.flame_spec.specs.Lists.{numbered_where}
 use Rattle.flame_spec.specs.Views.{view_of}
-use Rattle.flame_sense.specs.Scenes.{Scene, Progress, context_for}
+use Rattle.flame_spec.specs.Scopes.{context_for}
+use Rattle.flame_sense.specs.Scenes.{Scene, Progress}
 use Rattle.flame_sense.specs.Expressions.{holds}
 use Rattle.flame_sense.specs.Ends.{End, went_on, broke, continued, returned, faulted}
 use Rattle.flame_sense.specs.Statements.{meanings}

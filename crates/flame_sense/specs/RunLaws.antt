@@ -1,20 +1,19 @@
 -- Where the run of a body comes, and that all that is named there is found. [own]
-use Rattle.std.specs.Prelude.{◌≡◌, ℕ, suc, ℤ, List, [], ◌∷◌, Option, Some, None, slice_get, is_some, IsTrue}
-use Rattle.flame_spec.specs.declared.models.Model.{Model}
+use Rattle.std.specs.Prelude.{◌≡◌, ℕ, ℤ, List, [], ◌∷◌, Option, Some, None, slice_get, is_some, IsTrue}
 use Rattle.flame_spec.specs.declared.outcomes.Source.{Source}
 use Rattle.flame_spec.specs.CallFaults.{Deed, deed_of}
 use Rattle.flame_spec.specs.CheckFaults.{check_faults}
 use Rattle.flame_spec.specs.Definitions.{Definition, helpers, body_of}
 use Rattle.flame_spec.specs.Functions.{Place}
 use Rattle.flame_spec.specs.LookUps.{message_looped}
-use Rattle.flame_spec.specs.Scopes.{messages_at}
+use Rattle.flame_spec.specs.Scopes.{messages_at, input_found}
 use Rattle.flame_spec.specs.Trees.{Expression, Expressions, Declared, Assigned}
 use Rattle.flame_spec.specs.Trees.{Statement, declare, assign, call, block, branch, while, for, do_while, loop_over}
 use Rattle.flame_spec.specs.Trees.{return}
 use Rattle.flame_spec.specs.Trees.{Statements, also, Arms, no_arms, arm}
 use Rattle.flame_sense.specs.Scenes.{Scene, Progress, Current, Calls}
 use Rattle.flame_sense.specs.Ends.{End, went_on, continued, as_scope}
-use Rattle.flame_sense.specs.Statements.{by_initial, with_local, step_of, input_for, loop_currents, inside}
+use Rattle.flame_sense.specs.Statements.{by_initial, with_local, step_of, loop_currents, inside}
 use Rattle.flame_sense.specs.Statements.{meaning, meanings}
 use Rattle.flame_sense.specs.HelperCalls.{helper_scene, entered}
 use Rattle.flame_sense.specs.Outcomes.{start, scene_of, place_of}
@@ -152,7 +151,7 @@ abbrev pub StatementFinds : Statement → Scene → Progress → Type 0
 StatementFinds (assign a) scene s = AssignedFinds a scene s
 StatementFinds (call line word arguments) scene s = DeedFound word arguments scene s
 StatementFinds (loop_over line word body end_line end_word) scene s =
-    IsTrue (is_some (input_for scene.context.runs (message_looped (messages_at scene.context) word)))
+    IsTrue (is_some (input_found scene.context.runs (message_looped (messages_at scene.context) word)))
 StatementFinds (return e) scene s = Finds e scene s
 StatementFinds _ scene s = Unit {0}
 

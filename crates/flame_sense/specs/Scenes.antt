@@ -4,15 +4,14 @@ use Rattle.std.specs.Prelude.{ℕ, zero, suc, ◌+◌, ◌==◌, ℤ, pos, negsu
 use Rattle.std.specs.Prelude.{unwrap_or, if◌then◌else◌}
 use Rattle.std.specs.Str.{bytes_eq}
 use Rattle.flame_spec.specs.declared.faults.Fault.{Fault}
-use Rattle.flame_spec.specs.declared.models.Model.{Model}
 use Rattle.flame_spec.specs.declared.models.MessageType.{MessageType}
 use Rattle.flame_spec.specs.declared.models.Variable.{Variable}
 use Rattle.flame_spec.specs.declared.outcomes.Sent.{Sent}
 use Rattle.flame_spec.specs.declared.outcomes.Born.{Born}
+use Rattle.flame_spec.specs.Columns.{elements}
 use Rattle.flame_spec.specs.Conditions.{number_at}
 use Rattle.flame_spec.specs.Definitions.{Definition}
 use Rattle.flame_spec.specs.ExpressionFaults.{member_read}
-use Rattle.flame_spec.specs.Functions.{Place}
 use Rattle.flame_spec.specs.LookUps.{Given, in_memory, constant, iteration, memory_named, memory_got, message_read}
 use Rattle.flame_spec.specs.Scopes.{Context, memory_at, messages_at, given_at}
 
@@ -43,11 +42,6 @@ pub record Scene : Type 0 where
   pub readings : List (List (List ℤ))
   pub open_loops : List Current
   pub answers : Calls
-
--- what the words of a body go by, where it is the body of this function of the model, or that of a helper, with no
--- function of the model; the number of a file is for check faults alone, and 0 here [own]
-abbrev pub context_for : Model → List Definition → Option Place → Context
-context_for model helpers runs = record { model = model; helpers = helpers; runs = runs; file = 0 }
 
 -- ---- what it changes
 
@@ -120,11 +114,6 @@ abbrev pub field_value : List ℕ → List ℕ → Scene → ℤ
 field_value word variable scene = value_found (member_read scene.context word variable) (row_read word scene)
 
 -- ---- arrays
-
--- how many elements there are: as many as the array is long, and none where it is no array [C, 6.7.6.2; no array: own]
-abbrev pub elements : Option ℕ → ℕ
-elements None = 0
-elements (Some length) = length
 
 -- the column of the element of this index, counted from 0, where the variable has one: an index is from 0 to the length
 -- less 1 [C, 6.5.2.1; bounds: own]

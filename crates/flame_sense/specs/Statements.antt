@@ -13,9 +13,8 @@ use Rattle.flame_spec.specs.CallFaults.{Deed, sets, sends, bears, calls, deed_of
 use Rattle.flame_spec.specs.Columns.{width}
 use Rattle.flame_spec.specs.Conditions.{number_at}
 use Rattle.flame_spec.specs.Definitions.{Definition, helper_named}
-use Rattle.flame_spec.specs.Functions.{Place}
-use Rattle.flame_spec.specs.LookUps.{memory_named, message_looped, input_of}
-use Rattle.flame_spec.specs.Scopes.{memory_at, messages_at}
+use Rattle.flame_spec.specs.LookUps.{memory_named, message_looped}
+use Rattle.flame_spec.specs.Scopes.{memory_at, messages_at, input_found}
 use Rattle.flame_spec.specs.Trees.{Expression, Stored, plain, called, Indexed, Declared, Assigned}
 use Rattle.flame_spec.specs.Trees.{Statement, empty, declare, assign, call, block, branch, while, for, do_while, loop_over, return, break, continue}
 use Rattle.flame_spec.specs.Trees.{Statements, no_more, also, Arms, no_arms, arm}
@@ -175,12 +174,6 @@ abbrev pub step_of : Option Assigned → Scene → Progress → End
 step_of None scene s = went_on s
 step_of (Some a) scene s = assignment a scene s
 
--- the input by which the function that runs reads the message that was found [XMML]
-abbrev pub input_for : Option Place → Option (ℕ × MessageType) → Option (ℕ × Input)
-input_for None message = None
-input_for (Some place) None = None
-input_for (Some place) (Some message) = input_of place.function message.1
-
 -- the rows of this input; of none there are none [own]
 abbrev pub rows_of : Option (ℕ × Input) → Scene → List (List ℤ)
 rows_of None scene = []
@@ -193,7 +186,7 @@ currents_of (Some message) rows = map (λ row. record { message = message.0; row
 
 -- the turns of a loop over this message: the rows of the input by which the function reads it [FLAME User Manual]
 abbrev pub currents_over : Option (ℕ × MessageType) → Scene → List Current
-currents_over message scene = currents_of message (rows_of (input_for scene.context.runs message) scene)
+currents_over message scene = currents_of message (rows_of (input_found scene.context.runs message) scene)
 
 -- the turns of a loop that is named so [FLAME User Manual]
 abbrev pub loop_currents : List ℕ → Scene → List Current

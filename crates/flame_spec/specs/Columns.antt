@@ -9,6 +9,11 @@ abbrev pub width_by : Option ℕ → ℕ
 width_by None = 1
 width_by (Some length) = length
 
+-- how many elements there are: as many as the array is long, and none where it is no array [C, 6.7.6.2; no array: own]
+abbrev pub elements : Option ℕ → ℕ
+elements None = 0
+elements (Some length) = length
+
 -- how many numbers of a row the variable takes [XMML]
 abbrev pub width_of : Variable → ℕ
 width_of variable = width_by variable.length

@@ -1,7 +1,8 @@
 -- The C functions of function files, and which of them are helpers.
-use Rattle.std.specs.Prelude.{ℕ, List, [], ◌∷◌, map, codes, Bool, true, false, not, ◌&&◌, Option, Some, None}
-use Rattle.std.specs.Prelude.{if◌then◌else◌}
+use Rattle.std.specs.Prelude.{ℕ, ◌==◌, List, [], ◌∷◌, map, slice_get, codes, Bool, true, false, not, ◌&&◌, Option}
+use Rattle.std.specs.Prelude.{Some, None, if◌then◌else◌}
 use Rattle.std.specs.List.{list_any, filter, find}
+use Rattle.std.specs.Option.{option_map_or}
 use Rattle.std.specs.Str.{bytes_eq}
 use Rattle.flame_spec.specs.declared.models.Model.{Model}
 use Rattle.flame_spec.specs.declared.models.Function.{Function}
@@ -84,6 +85,11 @@ helpers_among model ds = filter (is_helper model) ds
 -- the helpers of these files [own]
 abbrev pub helpers : Model → List file.Unit → List Definition
 helpers model units = helpers_among model (definitions units)
+
+-- there is a helper of this number and it takes so many arguments, where the helpers take these numbers of them, in
+-- order [C, 6.5.2.2]
+abbrev pub takes : List ℕ → ℕ → ℕ → Bool
+takes counts helper given = option_map_or (λ count. count == given) (slice_get counts helper) false
 
 -- the helper of this name, with its number [own]
 abbrev pub helper_named : List Definition → List ℕ → Option (ℕ × Definition)

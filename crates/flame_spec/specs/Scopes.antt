@@ -3,6 +3,7 @@
 use Rattle.std.specs.Prelude.{ℕ, List, [], ◌∷◌, ◌++◌, map, Bool, true, false, not, ◌&&◌, ◌||◌, Option, Some, None, is_some}
 use Rattle.std.specs.List.{list_any}
 use Rattle.std.specs.Str.{bytes_eq}
+use Rattle.flame_spec.specs.declared.models.Input.{Input}
 use Rattle.flame_spec.specs.declared.models.Model.{Model}
 use Rattle.flame_spec.specs.declared.models.MessageType.{MessageType}
 use Rattle.flame_spec.specs.declared.models.Variable.{Variable}
@@ -10,7 +11,7 @@ use Rattle.flame_spec.specs.declared.trees.Parameter.{Parameter}
 use Rattle.flame_spec.specs.Definitions.{Definition}
 use Rattle.flame_spec.specs.Functions.{Place}
 use Rattle.flame_spec.specs.KnownNames.{is_among}
-use Rattle.flame_spec.specs.LookUps.{Given, given}
+use Rattle.flame_spec.specs.LookUps.{Given, given, input_of}
 use Rattle.flame_spec.specs.Trees.{Declared, Statement, declare, Statements, no_more, also}
 
 -- where a body is checked: the model and its helpers, the function of the model that it is checked for, which a helper
@@ -20,6 +21,11 @@ pub record Context : Type 0 where
   pub helpers : List Definition
   pub runs : Option Place
   pub file : ℕ
+
+-- what the words of a body go by, of a function of the model or of a helper. The number of a file is for check faults
+-- alone, and 0 here [own]
+abbrev pub context_for : Model → List Definition → Option Place → Context
+context_for model helpers runs = record { model = model; helpers = helpers; runs = runs; file = 0 }
 
 -- the variables that the function of this place has [FLAME User Manual]
 abbrev pub memory_in : Option Place → List Variable
@@ -38,6 +44,16 @@ messages_in (Some place) model = model.messages
 -- the messages that the body knows; a helper knows none [FLAME User Manual; own]
 abbrev pub messages_at : Context → List MessageType
 messages_at context = messages_in context.runs context.model
+
+-- the input by which the function of this place, where there is one, reads the message [XMML]
+abbrev pub input_in : Option Place → MessageType → Option (ℕ × Input)
+input_in None message = None
+input_in (Some place) message = input_of place.function message
+
+-- the input by which the function of this place reads the message that was found [XMML]
+abbrev pub input_found : Option Place → Option (ℕ × MessageType) → Option (ℕ × Input)
+input_found runs None = None
+input_found runs (Some message) = input_in runs message.1
 
 -- what the model gives to the word there; locals are another matter [FLAME User Manual]
 abbrev pub given_at : Context → List ℕ → Option Given

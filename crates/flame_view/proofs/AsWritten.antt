@@ -8,8 +8,8 @@ use Rattle.flame_spec.specs.declared.models.Sort.{Sort}
 use Rattle.flame_spec.specs.Views.{is_read, key_of, view}
 use Rattle.flame_cond.specs.declared.keys.SortBy.{SortBy}
 use Rattle.flame_cond.specs.declared.forms.Test.{Test}
-use Rattle.flame_cond.specs.Said.{key_by}
-use Rattle.flame_view.specs.Compiled.{is_read_by, IsFilterOf, IsKeyOf, ViewIsAsWritten}
+use Rattle.flame_cond.specs.Said.{key_by, IsFilterOf, IsKeyOf}
+use Rattle.flame_view.specs.Compiled.{is_read_by, ViewIsAsWritten}
 
 is_read-as_written : (agent : AgentType) (message : MessageType) (condition : Option Condition) (filter : Option Test) (memory : List ℤ)
     → IsFilterOf filter condition agent message → is_read_by filter memory ≡ is_read agent message condition memory

@@ -8,7 +8,7 @@ use Rattle.flame_spec.specs.declared.models.Sort.{Sort}
 use Rattle.flame_spec.specs.Views.{view, view_of}
 use Rattle.flame_cond.specs.declared.keys.SortBy.{SortBy}
 use Rattle.flame_cond.specs.declared.forms.Test.{Test}
-use Rattle.flame_cond.specs.Said.{passes, key_by, SaysFilter, SaysKey}
+use Rattle.flame_cond.specs.Said.{passes, key_by, IsFilterOf, IsKeyOf}
 
 -- which rows pass with this memory: without a filter all [own]
 abbrev pub is_read_by : Option Test → List ℤ → List ℤ → Bool
@@ -24,18 +24,6 @@ abbrev pub view_by : Option Test → Option SortBy → List ℤ → List (List �
 view_by filter sort memory board = view (is_read_by filter memory) (option_map key_by sort) board
 
 -- ---- the natural sentence
-
--- a filter was read from what is written, or there is neither [own]
-abbrev pub IsFilterOf : Option Test → Option Condition → AgentType → MessageType → Type 0
-IsFilterOf None None agent message = Unit {0}
-IsFilterOf (Some filter) (Some condition) agent message = SaysFilter filter condition agent message
-IsFilterOf _ _ agent message = ⊥
-
--- a key was read from the sort that is written, or there is neither [own]
-abbrev pub IsKeyOf : Option SortBy → Option Sort → MessageType → Type 0
-IsKeyOf None None message = Unit {0}
-IsKeyOf (Some by) (Some sort) message = SaysKey by sort message
-IsKeyOf _ _ message = ⊥
 
 -- under a filter and a key that were read from what is written, the view by columns is the view by names [own]
 abbrev pub ViewIsAsWritten : Type 0

@@ -51,13 +51,6 @@ arguments-next context sight line word variables es i e wants h is by =
     ++ arguments_faults context sight line word (drop (i + 1) variables) (expressions (drop (i + 1) es)))
     (sym by)
 
--- no arguments have no faults
-pub arguments-end :
-    (context : Context) (sight : Sight) (line : ℕ) (word : List ℕ) (variables : List Variable)
-    → arguments_faults context sight line word variables no_parts ≡ []
-arguments-end context sight line word [] = refl
-arguments-end context sight line word (variable ∷ variables) = refl
-
 -- so many arguments are so many expressions
 pub count_expressions : (es : List Expr) → count (expressions es) ≡ length es
 count_expressions [] = refl

@@ -1,5 +1,5 @@
-use Rattle.std.proofs.Common.{◌≡◌, ◌∙◌, ◌+◌, ◌&&◌, Bool, true, false, sym, ap, drop}
-use Rattle.flame_code.specs.Labels.{all_fit, place_fits}
+use Rattle.std.proofs.Common.{◌∙◌, ◌+◌, ◌&&◌, Bool, sym, ap, drop}
+use Rattle.flame_code.specs.Labels.{all_fit}
 use Rattle.flame_code.specs.Routines.{Routine}
 use Rattle.flame_code.proofs.Labelling.{fit_more, lengths_differ}
 use Rattle.flame_code.proofs.labels.all_fit.Goals as goal

@@ -1,4 +1,4 @@
-use Rattle.std.proofs.Common.{◌≡◌, length, drop}
+use Rattle.std.proofs.Common.{◌≡◌, drop}
 use Rattle.flame_code.specs.Labels.{all_fit}
 use Rattle.flame_code.proofs.labels.all_fit.Given as goal
 

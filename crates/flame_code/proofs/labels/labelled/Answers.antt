@@ -1,4 +1,4 @@
-use Rattle.std.proofs.Common.{◌≡◌, ◌∙◌, sym, subst, List}
+use Rattle.std.proofs.Common.{◌∙◌, sym, subst, List}
 use Rattle.flame_code.specs.declared.instrs.Instr.{Instr}
 use Rattle.flame_code.specs.Validity.{IsValid}
 use Rattle.flame_code.proofs.Labelling.{labels_valid}
