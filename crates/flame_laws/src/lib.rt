@@ -1,5 +1,5 @@
 //! Laws and worked cases of what models and function files mean. A law is the contract of a function that computes
-//! nothing, so that an edit of a law proves this crate alone anew.
+//! nothing. Few crates stand on this one, so that an edit of a law proves few crates anew.
 #![tactic(auto)]
 
 mod accepted_laws;

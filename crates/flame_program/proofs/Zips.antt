@@ -1,0 +1,70 @@
+-- Two lists, place by place.
+use Rattle.std.proofs.Common.{◌≡◌, ℕ, zero, suc, ◌+◌, ◌<◌, List, [], ◌∷◌, ◌++◌, map, take, length, Some, refl, sym, ap, ◌∙◌, subst, arith}
+use Rattle.std.specs.Prelude.{slice_get, slice_index_or, option_map}
+use Rattle.std.specs.List.{AllZip}
+use Rattle.std.proofs.lemmas.Option.{slice_get-map, slice_get_read}
+
+-- one pair more at the end
+pub zip-more :
+    {A B : Type 0} (P : A → B → Type 0) (xs : List A) (ys : List B) (x : A) (y : B)
+    → AllZip P xs ys → P x y → AllZip P (xs ++ x ∷ []) (ys ++ y ∷ [])
+zip-more P [] [] x y all one = (one, all)
+zip-more P [] (b ∷ ys) x y all one = absurd (all)
+zip-more P (a ∷ xs) [] x y all one = absurd (all)
+zip-more P (a ∷ xs) (b ∷ ys) x y all one = (all.0, zip-more P xs ys x y all.1 one)
+
+-- one item more at the end of what is taken
+pub take-more :
+    {A : Type 0} (xs : List A) (k : ℕ) (x : A)
+    → slice_get xs k ≡ Some x → take (suc k) xs ≡ take k xs ++ x ∷ []
+take-more [] k x at = absurd (cc)
+take-more (y ∷ ys) zero x at = let same : y ≡ x = cc in ap (λ z. z ∷ []) same
+take-more (y ∷ ys) (suc k) x at = ap (λ zs. y ∷ zs) (take-more ys k x at)
+
+-- one pair more, where the first list is taken from the front
+pub zip-taken :
+    {A B : Type 0} (P : A → B → Type 0) (xs : List A) (k : ℕ) (ys : List B) (x : A) (y : B)
+    → slice_get xs k ≡ Some x
+    → AllZip P (take k xs) ys → P x y → AllZip P (take (k + 1) xs) (ys ++ y ∷ [])
+zip-taken P xs k ys x y at all one =
+    let next : k + 1 ≡ suc k = omega arith in
+    subst (λ zs. AllZip P zs (ys ++ y ∷ [])) (sym (ap (λ n. take n xs) next ∙ take-more xs k x at))
+    (zip-more P (take k xs) ys x y all one)
+
+-- what holds of the items in one place
+pub zip-at :
+    {A B : Type 0} (P : A → B → Type 0) (xs : List A) (ys : List B) (k : ℕ) (x : A) (y : B)
+    → AllZip P xs ys → slice_get xs k ≡ Some x → slice_get ys k ≡ Some y → P x y
+zip-at P [] ys k x y all at there = absurd (cc)
+zip-at P (a ∷ xs) [] k x y all at there = absurd (all)
+zip-at P (a ∷ xs) (b ∷ ys) zero x y all at there =
+    let one : a ≡ x = cc in
+    let two : b ≡ y = cc in
+    subst (λ z. P x z) two (subst (λ z. P z b) one all.0)
+zip-at P (a ∷ xs) (b ∷ ys) (suc k) x y all at there = zip-at P xs ys k x y all.1 at there
+
+-- where the first list has an item, the second has one
+pub zip-there :
+    {A B : Type 0} (P : A → B → Type 0) (xs : List A) (ys : List B) (k : ℕ) (x : A)
+    → AllZip P xs ys → slice_get xs k ≡ Some x → (y : B) × (slice_get ys k ≡ Some y)
+zip-there P [] ys k x all at = absurd (cc)
+zip-there P (a ∷ xs) [] k x all at = absurd (all)
+zip-there P (a ∷ xs) (b ∷ ys) zero x all at = (b, refl)
+zip-there P (a ∷ xs) (b ∷ ys) (suc k) x all at = zip-there P xs ys k x all.1 at
+
+-- where the second list has an item, the first has one
+pub zip-back :
+    {A B : Type 0} (P : A → B → Type 0) (xs : List A) (ys : List B) (k : ℕ) (y : B)
+    → AllZip P xs ys → slice_get ys k ≡ Some y → (x : A) × (slice_get xs k ≡ Some x)
+zip-back P xs [] k y all at = absurd (cc)
+zip-back P [] (b ∷ ys) k y all at = absurd (all)
+zip-back P (a ∷ xs) (b ∷ ys) zero y all at = (a, refl)
+zip-back P (a ∷ xs) (b ∷ ys) (suc k) y all at = zip-back P xs ys k y all.1 at
+
+-- an item of a mapped list, where it was read from the list
+pub mapped-there :
+    {A B : Type 0} (f : A → B) (xs : List A) (ys : List B) (k : ℕ) (x : A)
+    → map f xs ≡ ys → k < length xs → x ≡ slice_index_or xs k x → slice_get ys k ≡ Some (f x)
+mapped-there f xs ys k x same within is =
+    ap (λ zs. slice_get zs k) (sym same) ∙ slice_get-map f xs k
+    ∙ ap (option_map f) (slice_get_read xs (length xs) k x refl within is)

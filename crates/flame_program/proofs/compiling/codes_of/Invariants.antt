@@ -1,0 +1,6 @@
+use Rattle.std.proofs.Common.{◌≡◌, map, take}
+use Rattle.flame_faithful.specs.OutcomeLaws.{code_of}
+use Rattle.flame_program.proofs.compiling.codes_of.Given as goal
+
+abbrev pub invariant-loop-body : goal.invariant-loop-body
+invariant-loop-body l = l.codes.items ≡ map code_of (take l.body-index l.bodies)

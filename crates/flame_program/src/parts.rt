@@ -1,0 +1,71 @@
+//! What is made of a source.
+
+ghost use Rattle.std.specs.Prelude.{◌≡◌, IfOk, map};
+ghost use Rattle.flame_spec.specs.Accepted.{IsAccepted};
+ghost use Rattle.flame_spec.specs.Definitions.{helpers};
+ghost use Rattle.flame_body.specs.FunctionBodies.{function_bodies, helper_bodies};
+ghost use Rattle.flame_lookup.specs.WordsFound.{definition_found};
+ghost use Rattle.flame_program.specs.ProgramParts.{ArePartsOf};
+ghost use Rattle.flame_program.specs.SourceCodes.{helper_codes};
+
+use crate::compiling::{codes_of, parameters_of};
+use crate::reading::{Selector, conditions_of, selectors_of};
+use flame_body::Body;
+use flame_check::Checked;
+use flame_code::{Code, Helpers};
+use flame_cond::Cond;
+use flame_lookup::{CFunction, Tables};
+use flame_rows::{NoMemory, Seq};
+use flame_spec::Source;
+use std::alloc::Global;
+
+/// What is made of a source: the codes, conditions, filters and keys of its functions, and the codes of its helpers.
+#[derive(Drop)]
+pub(crate) struct Parts {
+    pub codes: Seq<Code>,
+    pub helpers: Helpers,
+    pub conditions: Seq<Option<Cond>>,
+    pub selectors: Seq<Seq<Selector>>,
+}
+
+/// The helpers of an accepted source, of which these are the bodies and the C functions.
+fn helpers_of(
+    alloc: Global,
+    source: &Source,
+    bodies: &[Body],
+    functions: &[CFunction<'_>],
+) -> Result<Helpers, NoMemory>
+    requires accepted { IsAccepted source.now }
+    requires bodies { bodies.now ≡ helper_bodies source.now.model source.now.units }
+    requires functions { map definition_found functions.now ≡ helpers source.now.model source.now.units }
+    ensures { IfOk result (λ helpers. helpers ≡ helper_codes source.now) }
+{
+    let codes = codes_of(alloc, bodies)?;
+    let parameters = parameters_of(alloc, functions)?;
+    Ok(Helpers::make(Seq::of(codes), Seq::of(parameters)))
+}
+
+/// The parts of an accepted source, of which these are the bodies. `NoMemory` comes too where 32 bits cannot number the
+/// parts of the model, the C functions, the parameters of a helper or the instructions of a body.
+pub(crate) fn parts_of(alloc: Global, source: &Source, checked: &Checked) -> Result<Parts, NoMemory>
+    requires accepted { IsAccepted source.now }
+    requires bodies { checked.now.bodies ≡ function_bodies source.now.model source.now.units }
+    requires helpers { checked.now.helpers ≡ helper_bodies source.now.model source.now.units }
+    ensures { IfOk result (λ parts.
+        ArePartsOf source.now parts.codes parts.helpers parts.conditions parts.selectors) }
+{
+    if !source.model.is_counted() {
+        return Err(NoMemory);
+    }
+    let tables = Tables::of(alloc, &source.model, &source.units)?;
+    let codes = codes_of(alloc, checked.bodies.items())?;
+    let helpers = helpers_of(alloc, source, checked.helpers.items(), tables.helpers())?;
+    let conditions = conditions_of(alloc, &source.model, tables.transitions())?;
+    let selectors = selectors_of(alloc, &source.model, tables.transitions())?;
+    Ok(Parts {
+        codes: Seq::of(codes),
+        helpers,
+        conditions: Seq::of(conditions),
+        selectors: Seq::of(selectors),
+    })
+}
