@@ -1,5 +1,5 @@
--- When the calls of helpers in a numbered tree pass a test of the number of the helper and of how many arguments it gets,
--- and when these are as many as the helper takes. It speaks of numbers alone.
+-- When the calls of helpers in a numbered tree pass a test of the helper's number and of how many arguments it gets, and
+-- when these are as many as the helper takes. It speaks of numbers alone.
 use Rattle.std.specs.Prelude.{ℕ, List, map, length, Bool, true, ◌&&◌, Option, Some, None}
 use Rattle.std.specs.List.{list_all}
 use Rattle.flame_spec.specs.Definitions.{takes}

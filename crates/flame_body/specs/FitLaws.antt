@@ -7,7 +7,8 @@ use Rattle.flame_spec.specs.CheckFaults.{definition_faults}
 use Rattle.flame_spec.specs.Definitions.{Definition}
 use Rattle.flame_spec.specs.ExpressionFaults.{expression_faults}
 use Rattle.flame_spec.specs.HelperFaults.{statements_call}
-use Rattle.flame_spec.specs.Scopes.{Context, context_for, Sight, at_entry, after_parameters, given_at, is_local, is_open_over, input_in}
+use Rattle.flame_spec.specs.Scopes.{Context, context_for, input_in, given_at}
+use Rattle.flame_spec.specs.Scopes.{Sight, at_entry, after_parameters, is_local, is_open_over}
 use Rattle.flame_spec.specs.Trees.{Expression, Statements}
 use Rattle.flame_body.specs.declared.slots.SlotStmt.{SlotStmt}
 use Rattle.flame_body.specs.FunctionBodies.{widths_in}
@@ -50,7 +51,7 @@ DefinitionsFit =
     → definition_faults context d ≡ []
     → tree_fits (widths_in context.model context.runs) (numbered_definition context d) ≡ true
 
--- of each helper that the body calls, the number and how many parameters it has pass the test [own]
+-- the test holds of each helper that the body calls, by its number, and of how many parameters it has [own]
 abbrev pub CalledPass : (ℕ → ℕ → Bool) → Context → Statements → Type 0
 CalledPass passes context body =
     (h : ℕ) (helper : Definition)
@@ -58,8 +59,8 @@ CalledPass passes context body =
     → statements_call context h body ≡ true
     → passes h (length helper.parameters) ≡ true
 
--- in a C function without check faults, what passes of the helpers that its body calls passes of the calls of the
--- numbered body: they are the same, and each has as many arguments as the helper has parameters [C, 6.5.2.2]
+-- in a C function without check faults, a test that holds of each helper that its body calls, and of how many parameters
+-- it has, holds of each call of the numbered body, and of how many arguments it has [C, 6.5.2.2]
 abbrev pub CallsPass : Type 0
 CallsPass =
     (passes : ℕ → ℕ → Bool) (context : Context) (d : Definition)

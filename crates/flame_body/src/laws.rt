@@ -14,8 +14,8 @@ pub fn definitions_fit()
     ensures { DefinitionsFit }
 {}
 
-/// In a C function without check faults the calls of helpers are, with numbers in place of names, those of its source,
-/// and each has as many arguments as the helper has parameters (C, 6.5.2.2).
+/// In a C function without check faults each call of a helper in its numbered body is of a helper that its source calls,
+/// and has as many arguments as the helper has parameters (C, 6.5.2.2).
 pub fn calls_fit()
     ensures passing { CallsPass }
     ensures fitting { CallsFit }

@@ -40,8 +40,7 @@ sees_nothing r =
 abbrev pub calls_below : List ℕ → ℕ → Instr → Bool
 calls_below heights height instr = call_passes (λ h n. nat_lt (slice_index heights h) height) instr
 
--- a helper may have this height: it is 1 more than the greatest height of the helpers that it calls, and 1 where it
--- calls none, so it is at least 1, and at most 64 [own]
+-- a helper may have this height: it is from 1 to 64 [own]
 abbrev pub IsHeight : ℕ → Type 0
 IsHeight height = (1 ≤ height) × (height ≤ deepest_calls)
 

@@ -1,4 +1,4 @@
--- That the calls of helpers in the code of a body are those in its tree.
+-- That what holds of the calls of helpers in the tree of a body holds of those in its code.
 use Rattle.std.specs.Prelude.{◌≡◌, ℕ, List, Bool, true}
 use Rattle.std.specs.List.{list_all}
 use Rattle.flame_spec.specs.declared.outcomes.Widths.{Widths}

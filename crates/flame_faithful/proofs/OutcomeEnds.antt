@@ -22,7 +22,7 @@ use Rattle.flame_numbered.specs.NumberedMeaning.{runs_of}
 use Rattle.flame_faithful.specs.CodeRuns.{Running, HasAt, at, Ends}
 use Rattle.flame_faithful.specs.LocalNumbers.{tree_numbered, all_add, numbering}
 use Rattle.flame_faithful.specs.Standings.{AnswerRuns, Frame, IsSound, Follows, Reached, Returned, Comes}
-use Rattle.flame_faithful.specs.OutcomeLaws.{code_of}
+use Rattle.flame_faithful.specs.CodeOutcomes.{code_of}
 use Rattle.flame_faithful.proofs.Going.{has_left, has_right, has_first, has_rest, performed}
 use Rattle.flame_faithful.proofs.FaithfulStatements.{statements-run}
 

@@ -23,7 +23,7 @@ use Rattle.flame_numbered.specs.NumberedMeaning.{runs_of}
 use Rattle.flame_numbered.specs.NumberedOutcomes.{beginning, entered, body_gives, answers_within, numbered_outcome}
 use Rattle.flame_faithful.specs.CodeRuns.{Ends}
 use Rattle.flame_faithful.specs.LocalNumbers.{tree_numbered}
-use Rattle.flame_faithful.specs.OutcomeLaws.{code_of, AreHelperBodies, IsFunctionBody, OutcomesRun}
+use Rattle.flame_faithful.specs.CodeOutcomes.{code_of, AreHelperBodies, IsFunctionBody, OutcomesRun}
 use Rattle.flame_faithful.specs.Standings.{AnswerRuns, Answered, Helps, IsSound, Follows}
 use Rattle.flame_faithful.proofs.OutcomeLocals.{entry_read, entry_long, index_found}
 use Rattle.flame_faithful.proofs.OutcomeEnds.{running, opened, body_closed, closed_answers, closed_finishes}

@@ -30,7 +30,7 @@ pushed (v ∷ vs) stack = pushed vs (v ∷ stack)
 abbrev pub Ends : Running → Config → End → Type 0
 Ends run c e = Runs run.given run.helpers run.routine c e
 
--- the run from the first configuration comes to the second: it ends as the run from there does [own]
+-- however the run from the second configuration ends, the run from the first ends so [own]
 abbrev pub Leads : Running → Config → Config → Type 0
 Leads run c d = (e : End) → Ends run d e → Ends run c e
 

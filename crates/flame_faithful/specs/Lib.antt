@@ -7,4 +7,4 @@ pub mod NamedLocals
 pub mod Likeness
 pub mod LocalNumbers
 pub mod Standings
-pub mod OutcomeLaws
+pub mod CodeOutcomes

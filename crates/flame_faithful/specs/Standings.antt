@@ -52,8 +52,8 @@ pub record Frame : Type 0 where
   pub leave : ℕ
   pub again : ℕ
 
--- what the statements have before them is what is given to the run; each open loop stands at a row; and calls of
--- helpers end as they have to [own]
+-- what the statements have before them is what is given to the run, with rows as wide as the code sees; each open loop
+-- stands at a row; and calls of helpers end as they have to [own]
 pub record IsSound (run : Running) (f : Frame) : Type 0 where
   pub constants : run.given.constants ≡ f.before.constants
   pub iteration : run.given.iteration ≡ f.before.iteration
@@ -63,8 +63,9 @@ pub record IsSound (run : Running) (f : Frame) : Type 0 where
   pub current : (input : ℕ) → is_inside input f.around ≡ true → Current f.around f.before input f.feeds
   pub helps : Helps run f.before
 
--- the configuration holds the progress; the locals behind those that there are may be any, and the inputs over which
--- loops are open are as they were [own]
+-- the configuration holds the progress; the locals behind those that there are may be any; the rows of the inputs are
+-- those that the statements have before them, and where loops are open over them they stand as they did; there are at
+-- least so many locals as the scope began with, and at most so much fuel [own]
 pub record Follows (f : Frame) (s : Progress) (c : Config) : Type 0 where
   pub memory : c.memory ≡ s.memory
   pub locals : (k : ℕ) → nat_lt k (length s.locals) ≡ true → c.locals k ≡ local_at k s.locals

@@ -3,7 +3,7 @@
 ghost use Rattle.flame_faithful.specs.FaithfulLaws.{ExpressionsRun, ArgumentsRun};
 ghost use Rattle.flame_faithful.specs.FaithfulLaws.{DeclarationsRun, AssignmentsRun, CallStatementsRun, StatementsRun};
 ghost use Rattle.flame_faithful.specs.NumberLaws.{DefinitionsNumbered};
-ghost use Rattle.flame_faithful.specs.OutcomeLaws.{OutcomesRun};
+ghost use Rattle.flame_faithful.specs.CodeOutcomes.{OutcomesRun};
 
 /// The code of an expression that fits, wherever it stands in a code, comes to its end with the expression's value on
 /// the stack, or ends in the expression's fault, from each configuration that holds what the expression reads.
@@ -29,15 +29,13 @@ pub fn assignments_run()
     ensures { AssignmentsRun }
 {}
 
-/// The code of a call statement that fits comes to what the statement comes to: it sets, sends, bears or calls a
-/// helper,
+/// The code of a call statement that fits comes to what the statement comes to: it sets, sends, bears or calls a helper,
 /// or comes to a fault. Calls of helpers end as the body's answers say.
 pub fn call_statements_run()
     ensures { CallStatementsRun }
 {}
 
-/// The code of statements that fit, whose locals are numbered rightly, comes to what the statements come to: to its
-/// end,
+/// The code of statements that fit, whose locals are numbered rightly, comes to what the statements come to: to its end,
 /// to where `break` or `continue` goes, to a returned value, or to a fault; with the same memory, messages, births and
 /// fuel. Calls of helpers end as the body's answers say.
 pub fn statements_run()

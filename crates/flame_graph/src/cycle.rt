@@ -1,6 +1,7 @@
 //! The cycle where nodes are left over.
 
-ghost use Rattle.std.specs.Prelude.{◌≡◌, ℕ, [], ◌+◌, ◌^◌, ◌<◌, ◌≤◌, ◌==◌, ◌&&◌, IfOk, None, Some, length, slice_index_or};
+ghost use Rattle.std.specs.Prelude.{◌≡◌, ℕ, [], ◌+◌, ◌^◌, ◌<◌, ◌≤◌, ◌==◌, ◌&&◌};
+ghost use Rattle.std.specs.Prelude.{IfOk, None, Some, length, slice_index_or};
 ghost use Rattle.std.specs.List.{All, position_or_len};
 ghost use Rattle.flame_spec.specs.Below.{first_below, is_in};
 ghost use Rattle.flame_spec.specs.ModelOrder.{order, step_back, walk_back, repeated_part, least_of, begun_with_least};

@@ -8,8 +8,8 @@ use Rattle.flame_code.specs.Routines.{IsWithin}
 use Rattle.flame_code.specs.Machine.{Given, on, deliver, act}
 use Rattle.flame_machine.specs.declared.turns.Turned.{Turned}
 use Rattle.flame_machine.specs.declared.turns.Turned.TheVariants as turned
-use Rattle.flame_machine.specs.Frames.{Framed, Additions, config}
-use Rattle.flame_machine.specs.Steps.{seen, Stepped, TurnsBy}
+use Rattle.flame_machine.specs.MachineFrames.{Framed, Additions, config}
+use Rattle.flame_machine.specs.MachineSteps.{seen, Stepped, TurnsBy}
 use Rattle.flame_machine.proofs.Inputs.{first-at_start, first-at_next, has_next-first}
 
 pub in_arm : (given : Given) (w : Widths) (old : Framed) (added : Additions) (feeds : List Fed) (new : Framed) (more : Additions) (result : Turned) (instr i : Instr)

@@ -9,7 +9,7 @@ use Rattle.flame_code.specs.HelperCodes.{HelperCodes, AreHelpers, calls_below, c
 use Rattle.flame_code.specs.InputRows.{HaveWidths, rows_of}
 use Rattle.flame_code.specs.Routines.{Routine}
 use Rattle.flame_machine.specs.declared.lists.Cursor.{Cursor}
-use Rattle.flame_machine.specs.Cursors.{feeds_of}
+use Rattle.flame_machine.specs.ListCursors.{feeds_of}
 use Rattle.flame_machine.specs.Fitting.{helper_fits, heights_fit, rows_fit}
 
 -- ---- tests of lists

@@ -20,9 +20,9 @@ use Rattle.flame_machine.specs.declared.endings.Finish.{Finish}
 use Rattle.flame_machine.specs.declared.endings.Finish.TheVariants as finish
 use Rattle.flame_machine.specs.declared.endings.Called.{Called}
 use Rattle.flame_machine.specs.declared.endings.Called.TheVariants as called
-use Rattle.flame_machine.specs.Frames.{Framed, Additions, nothing_added, config}
+use Rattle.flame_machine.specs.MachineFrames.{Framed, Additions, nothing_added, config}
 use Rattle.flame_machine.specs.Running.{SeeConstants, Suits, Ready, end_of, called_of, Returns, CallEnds}
-use Rattle.flame_machine.specs.Steps.{seen}
+use Rattle.flame_machine.specs.MachineSteps.{seen}
 use Rattle.flame_machine.proofs.Standing.{rows-length}
 use Rattle.flame_machine.proofs.Zeros.{first_locals-zeros, length-filled}
 

@@ -7,7 +7,7 @@ use Rattle.std.proofs.lemmas.List.{map-set, length-map}
 use Rattle.std.proofs.lemmas.Option.{slice_get-map, slice_get-get_or}
 use Rattle.flame_code.specs.Feeds.{Fed, with_come, has_more, with_more, with_input, at_start, has_next, at_next}
 use Rattle.flame_machine.specs.declared.lists.Cursor.{Cursor}
-use Rattle.flame_machine.specs.Cursors.{fed_of, feeds_of}
+use Rattle.flame_machine.specs.ListCursors.{fed_of, feeds_of}
 
 -- an input that is fed has its cursor
 pub has_cursor : (cursors : List Cursor) (feeds : List Fed) (i : ℕ) → feeds_of cursors ≡ feeds → i < length feeds → i < length cursors

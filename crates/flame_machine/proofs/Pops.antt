@@ -10,8 +10,8 @@ use Rattle.flame_code.specs.declared.instrs.Instr.TheVariants.{Neg}
 use Rattle.flame_code.specs.Feeds.{Fed}
 use Rattle.flame_code.specs.Machine.{Given, Turn, stuck, push_held, operate, with_row, act}
 use Rattle.flame_machine.specs.declared.turns.Turned.{Turned}
-use Rattle.flame_machine.specs.Frames.{Framed, Additions, config}
-use Rattle.flame_machine.specs.Steps.{Stepped, TurnsBy}
+use Rattle.flame_machine.specs.MachineFrames.{Framed, Additions, config}
+use Rattle.flame_machine.specs.MachineSteps.{Stepped, TurnsBy}
 
 held-popped : (line : ℕ) (o : Result ℤ Cause) (stack s : List ℤ) (low : Framed) (added : Additions) (feeds : List Fed)
     → push_held line o stack (config low added feeds) ≡ push_held line o stack (config (record low { stack = s }) added feeds)

@@ -12,9 +12,9 @@ use Rattle.flame_code.specs.Machine.{Config}
 use Rattle.flame_code.proofs.InputMoves.{field_there}
 use Rattle.flame_code.proofs.Safety.{place_within}
 use Rattle.flame_code.proofs.Rooms.{stack_within}
-use Rattle.flame_machine.specs.Frames.{Framed, Additions, config}
+use Rattle.flame_machine.specs.MachineFrames.{Framed, Additions, config}
 use Rattle.flame_machine.specs.Running.{Ready}
-use Rattle.flame_machine.specs.Steps.{seen, HasFields}
+use Rattle.flame_machine.specs.MachineSteps.{seen, HasFields}
 use Rattle.flame_machine.proofs.Inputs.{field-first}
 
 locals_within : (code : List Instr) (p : ℕ) (i : Instr) → slice_get code p ≡ Some i → locals_for i ≤ locals_of code

@@ -11,8 +11,8 @@ use Rattle.flame_machine.specs.declared.endings.Finish.{Finish}
 use Rattle.flame_machine.specs.declared.endings.Finish.TheVariants as finish
 use Rattle.flame_machine.specs.declared.endings.Called.{Called}
 use Rattle.flame_machine.specs.declared.endings.Called.TheVariants as called
-use Rattle.flame_machine.specs.Frames.{Framed, Additions, config}
-use Rattle.flame_machine.specs.Steps.{seen}
+use Rattle.flame_machine.specs.MachineFrames.{Framed, Additions, config}
+use Rattle.flame_machine.specs.MachineSteps.{seen}
 
 -- every helper sees as many constants as there are [own]
 abbrev pub SeeConstants : Given → HelperCodes → Type 0

@@ -18,7 +18,7 @@ pub struct Added {
 }
 
 impl Model for Added {
-    ghost use Rattle.flame_machine.specs.Frames.{Additions};
+    ghost use Rattle.flame_machine.specs.MachineFrames.{Additions};
 
     ghost Value = { Additions };
 

@@ -21,7 +21,7 @@ pub struct Frame {
 
 impl Model for Frame {
     ghost use Rattle.std.specs.Prelude.{◌∷◌, reverse, take, length, ◌≤◌};
-    ghost use Rattle.flame_machine.specs.Frames.{Framed};
+    ghost use Rattle.flame_machine.specs.MachineFrames.{Framed};
 
     ghost Value = { Framed };
 

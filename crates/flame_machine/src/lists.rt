@@ -28,7 +28,7 @@ pub struct Lists<'a> {
 impl<'a> Model for Lists<'a> {
     ghost use Rattle.std.specs.Prelude.{List};
     ghost use Rattle.flame_code.specs.Feeds.{Fed};
-    ghost use Rattle.flame_machine.specs.Cursors.{feeds_of};
+    ghost use Rattle.flame_machine.specs.ListCursors.{feeds_of};
 
     ghost Value = { List Fed };
 

@@ -8,9 +8,9 @@ ghost use Rattle.flame_code.specs.Machine.{step};
 ghost use Rattle.flame_code.specs.Meanings.{Runs, entry, FitsEntry, Means};
 ghost use Rattle.flame_code.specs.Routines.{Routine};
 ghost use Rattle.flame_code.specs.Validity.{IsValid};
-ghost use Rattle.flame_machine.specs.Frames.{config, nothing_added};
+ghost use Rattle.flame_machine.specs.MachineFrames.{config, nothing_added};
 ghost use Rattle.flame_machine.specs.Running.{SeeConstants, Suits, Ready, end_of, called_of, FinishFell, CallFell, CallEnds};
-ghost use Rattle.flame_machine.specs.Steps.{seen, Stepped};
+ghost use Rattle.flame_machine.specs.MachineSteps.{seen, Stepped};
 
 use crate::additions::Added;
 use crate::endings::{Called, Finish, outcome};

@@ -6,8 +6,8 @@ ghost use Rattle.flame_code.specs.Feeds.{Fed, has_next, at_start, at_next, field
 ghost use Rattle.flame_code.specs.InputRows.{rows_of};
 ghost use Rattle.flame_code.specs.Routines.{takes, IsWithin, locals_for};
 ghost use Rattle.flame_code.specs.Machine.{Given as Whole, act, operate as operating, push_held, pay as paying, next as going, deliver, element_of as element};
-ghost use Rattle.flame_machine.specs.Frames.{Additions, config};
-ghost use Rattle.flame_machine.specs.Steps.{seen, Stepped, TurnsBy, HasFields};
+ghost use Rattle.flame_machine.specs.MachineFrames.{Additions, config};
+ghost use Rattle.flame_machine.specs.MachineSteps.{seen, Stepped, TurnsBy, HasFields};
 
 use crate::additions::Added;
 use crate::frames::Frame;

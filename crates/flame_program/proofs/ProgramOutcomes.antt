@@ -8,7 +8,7 @@ use Rattle.flame_body.proofs.NumberedBodies.{bodies-by-number}
 use Rattle.flame_code.specs.InputRows.{rows_of}
 use Rattle.flame_code.specs.Meanings.{FitsEntry, Means}
 use Rattle.flame_code.specs.Routines.{Routine}
-use Rattle.flame_faithful.specs.OutcomeLaws.{code_of}
+use Rattle.flame_faithful.specs.CodeOutcomes.{code_of}
 use Rattle.flame_faithful.proofs.Outcomes.{outcomes-run}
 use Rattle.flame_numbered.proofs.SameOutcomes.{outcomes-are-numbered}
 use Rattle.flame_program.specs.SourceCodes.{function_codes, helper_codes}

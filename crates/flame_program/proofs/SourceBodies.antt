@@ -27,7 +27,7 @@ use Rattle.flame_code.specs.Routines.{Routine}
 use Rattle.flame_compile.specs.Emit.{emitted}
 use Rattle.flame_compile.proofs.CallsKept.{emitted_calls}
 use Rattle.flame_faithful.specs.LocalNumbers.{tree_numbered}
-use Rattle.flame_faithful.specs.OutcomeLaws.{code_of, AreHelperBodies}
+use Rattle.flame_faithful.specs.CodeOutcomes.{code_of, AreHelperBodies}
 use Rattle.flame_faithful.proofs.NumberedTrees.{definitions-numbered}
 use Rattle.flame_laws.proofs.CallRounds.{low, rises}
 use Rattle.flame_sense.specs.AcceptedMeaning.{place_in}

@@ -21,7 +21,7 @@ abbrev pub IsReadableFilter : AgentType → MessageType → Option Condition →
 IsReadableFilter type message filter =
     (written : Condition) → filter ≡ Some written → IsReadable (input_scope type message) written
 
--- the filter and the key of an input, over the message that its name finds [own]
+-- the filter and the key of an input can be read by columns, over the message that its name finds [own]
 pub record IsReadableInput (model : Model) (type : AgentType) (input : Input) : Type 0 where
   pub filter : (number : ℕ) (message : MessageType) → message_named model.messages input.message ≡ Some (number, message)
       → IsReadableFilter type message input.filter

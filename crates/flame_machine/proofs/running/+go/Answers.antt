@@ -7,9 +7,9 @@ use Rattle.flame_code.specs.Machine.{returned}
 use Rattle.flame_code.specs.InputRows.{rows_of}
 use Rattle.flame_code.specs.Meanings.{Runs, last, more}
 use Rattle.flame_code.proofs.Safety.{on_falls, on_less}
-use Rattle.flame_machine.specs.Frames.{Framed, Additions, config}
+use Rattle.flame_machine.specs.MachineFrames.{Framed, Additions, config}
 use Rattle.flame_machine.specs.Running.{Ready}
-use Rattle.flame_machine.specs.Steps.{seen}
+use Rattle.flame_machine.specs.MachineSteps.{seen}
 use Rattle.flame_machine.proofs.Going.{ready_on, unseen, call_ends, ends_as, row_is, arm_there, arm_less, arm_faults, arm_fuel, arm_falls, arm_ready, arm_comes}
 use Rattle.flame_machine.proofs.running.+go.Goals as goal
 

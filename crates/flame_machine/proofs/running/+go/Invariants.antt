@@ -3,9 +3,9 @@ use Rattle.flame_code.specs.InputRows.{rows_of}
 use Rattle.flame_code.specs.Machine.{End}
 use Rattle.flame_code.specs.Meanings.{Runs}
 use Rattle.flame_code.proofs.Safety.{left}
-use Rattle.flame_machine.specs.Frames.{config}
+use Rattle.flame_machine.specs.MachineFrames.{config}
 use Rattle.flame_machine.specs.Running.{Ready}
-use Rattle.flame_machine.specs.Steps.{seen}
+use Rattle.flame_machine.specs.MachineSteps.{seen}
 use Rattle.flame_machine.proofs.running.+go.Given as goal
 
 abbrev pub invariant-go-steps : goal.invariant-go-steps

@@ -5,9 +5,9 @@ use Rattle.std.specs.Prelude.{ℤ}
 use Rattle.std.proofs.lemmas.Int.{to_z-of_z}
 use Rattle.flame_code.specs.Machine.{Given, Config}
 use Rattle.flame_code.specs.Meanings.{Runs, begun}
-use Rattle.flame_machine.specs.Frames.{Additions, config}
+use Rattle.flame_machine.specs.MachineFrames.{Additions, config}
 use Rattle.flame_machine.specs.Running.{Ready, end_of}
-use Rattle.flame_machine.specs.Steps.{seen}
+use Rattle.flame_machine.specs.MachineSteps.{seen}
 use Rattle.flame_machine.proofs.Going.{code_begins, code_ready}
 use Rattle.flame_machine.proofs.running.run.Goals as goal
 

@@ -1,7 +1,7 @@
 use Rattle.std.proofs.Common.{ap, ◌∙◌}
 use Rattle.flame_code.specs.InputRows.{rows_of}
 use Rattle.flame_code.proofs.InputMoves.{rows-at_start, rows-at_next}
-use Rattle.flame_machine.specs.Steps.{seen}
+use Rattle.flame_machine.specs.MachineSteps.{seen}
 use Rattle.flame_machine.proofs.Arms.{in_arm, entered, delivered, field_within, field_at_within}
 use Rattle.flame_machine.proofs.Inputs.{field-first}
 use Rattle.flame_machine.proofs.turns.apply.Goals as goal

@@ -1,7 +1,7 @@
 use Rattle.std.proofs.Common.{subst}
 use Rattle.flame_code.specs.Machine.{deliver}
-use Rattle.flame_machine.specs.Frames.{config}
-use Rattle.flame_machine.specs.Steps.{Stepped}
+use Rattle.flame_machine.specs.MachineFrames.{config}
+use Rattle.flame_machine.specs.MachineSteps.{Stepped}
 use Rattle.flame_machine.proofs.turns.next_row.Goals as goal
 
 pub returns-then-advance-clause-does : goal.returns-then-advance-clause-does

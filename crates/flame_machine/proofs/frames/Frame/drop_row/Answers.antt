@@ -3,7 +3,7 @@ use mir.Val.{SFits}
 use Rattle.std.proofs.Common.{rules, ◌≤◌, ◌∷◌, List, length, take, drop, ◌-◌, ap, sym, ◌∙◌, arith}
 use Rattle.std.specs.Prelude.{reverse, ℤ}
 use Rattle.std.proofs.lemmas.Int.{to_z-of_z}
-use Rattle.flame_machine.specs.Frames.{Framed}
+use Rattle.flame_machine.specs.MachineFrames.{Framed}
 use Rattle.flame_machine.proofs.Stacks.{rest_of, kept_tall}
 use Rattle.flame_machine.proofs.frames.Frame.drop_row.Goals as goal
 

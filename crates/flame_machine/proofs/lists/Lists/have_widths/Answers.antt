@@ -2,7 +2,7 @@ use Rattle.std.proofs.Common.{◌∙◌, List, ap, subst}
 use Rattle.std.specs.Prelude.{IsTrue}
 use Rattle.flame_code.specs.Feeds.{Fed}
 use Rattle.flame_code.specs.InputRows.{HaveWidths, rows_of}
-use Rattle.flame_machine.specs.Cursors.{feeds_of}
+use Rattle.flame_machine.specs.ListCursors.{feeds_of}
 use Rattle.flame_machine.proofs.Fitted.{widths_tested}
 use Rattle.flame_machine.proofs.lists.Lists.have_widths.Goals as goal
 

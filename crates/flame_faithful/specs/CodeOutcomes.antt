@@ -15,8 +15,8 @@ use Rattle.flame_faithful.specs.LocalNumbers.{tree_numbered}
 abbrev pub code_of : NumberedBody → Routine
 code_of body = record { instrs = emitted body.tree; widths = body.widths }
 
--- these helpers are the codes of these bodies, in order; each body fits its widths, and its locals are numbered rightly
--- behind its parameters [C, 6.9.1]
+-- these are helpers of one another, and the codes of these bodies, in order; each body fits its widths, and its locals
+-- are numbered rightly behind its parameters [C, 6.9.1]
 pub record AreHelperBodies (helpers : HelperCodes) (bodies : List NumberedBody) : Type 0 where
   pub helping : AreHelpers helpers
   pub codes : helpers.routines ≡ map code_of bodies

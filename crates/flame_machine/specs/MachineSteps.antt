@@ -7,7 +7,7 @@ use Rattle.flame_code.specs.Feeds.{Fed, field}
 use Rattle.flame_code.specs.Machine.{Config, returned, faulted, Turn, on, over, calls}
 use Rattle.flame_machine.specs.declared.turns.Turned.{Turned}
 use Rattle.flame_machine.specs.declared.turns.Turned.TheVariants as turned
-use Rattle.flame_machine.specs.Frames.{Framed, Additions, config}
+use Rattle.flame_machine.specs.MachineFrames.{Framed, Additions, config}
 
 -- the inputs that a code with these widths sees: a helper sees none, also where the code that calls it has some [own]
 abbrev pub seen : Widths → List Fed → List Fed
