@@ -43,11 +43,11 @@ module _ {X : Type 0} (P : X → Type 0) where
   at_place (x ∷ xs) zero d own h = h.0
   at_place (x ∷ xs) (suc k) d own h = at_place xs k d own h.1
 
-viewed :
-    (passes : List ℤ → Bool) (key : Option Key) (board : List (List ℤ))
-    → Each AreInts board
-    → Each AreInts (view passes key board)
-viewed passes key board h = sorted AreInts (view_order key) (filter passes board) (filtered AreInts passes board h)
+pub viewed :
+    (P : List ℤ → Type 0) (passes : List ℤ → Bool) (key : Option Key) (board : List (List ℤ))
+    → Each P board
+    → Each P (view passes key board)
+viewed P passes key board h = sorted P (view_order key) (filter passes board) (filtered P passes board h)
 
 module _ (boards : List (List (List ℤ))) (ints : Each (λ board. Each AreInts board) boards) where
   found_read :
@@ -55,7 +55,7 @@ module _ (boards : List (List (List ℤ))) (ints : Each (λ board. Each AreInts 
       → Each AreInts (reading_by found type memory boards input)
   found_read None type memory input = tt
   found_read (Some found) type memory input =
-      viewed (is_read type found.1 input.filter memory) (option_map (key_of found.1) input.sort)
+      viewed AreInts (is_read type found.1 input.filter memory) (option_map (key_of found.1) input.sort)
       (slice_index_or boards found.0 [])
       (at_place (λ board. Each AreInts board) boards found.0 [] tt ints)
 

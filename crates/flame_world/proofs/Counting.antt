@@ -10,6 +10,7 @@ use Rattle.flame_rows.specs.Order.{row_order}
 use Rattle.flame_rows.specs.Sorted.{with_one, sorted_by}
 use Rattle.flame_rows.specs.Bags.{merge}
 use Rattle.flame_spec.specs.declared.models.AgentType.{AgentType}
+use Rattle.flame_spec.specs.declared.models.Model.{Model}
 use Rattle.flame_spec.specs.Accepted.{has_one_start}
 use Rattle.flame_spec.specs.Choice.{choice, is_chosen}
 use Rattle.flame_spec.specs.Functions.{Place, functions}
@@ -17,11 +18,11 @@ use Rattle.flame_spec.specs.States.{states, is_entered, start_states}
 use Rattle.flame_world.specs.declared.faults.SimFault.{SimFault}
 use Rattle.flame_world.specs.AgentRuns.{survivors}
 use Rattle.flame_world.specs.Fields.{Field, begun, opening, state_place, pool_in, changed, changed_pool, gathered}
-use Rattle.flame_world.specs.Iterations.{Round, resting, taking, staying, outcome_in, moved, unless_faulted, step_at}
+use Rattle.flame_world.specs.Iterations.{Round, resting, taking, staying, outcome_in, moved, unless_faulted, step_at, step}
 use Rattle.flame_world.specs.CountLaws.{count_in, resting_in, HasPools, AllAgentsBegin, SurvivorsReplaceTakers, SurvivorsAndBirthsRemain}
 use Rattle.flame_world.proofs.Eachs.{zip_at, zip_changed}
 use Rattle.flame_world.proofs.NextStates.{next_state, function_at}
-use Rattle.flame_world.proofs.WorldsKept.{place_type}
+use Rattle.flame_world.proofs.RowsKept.{place_type}
 
 -- ---- sums
 
@@ -125,10 +126,9 @@ and_true false b both = absurd (false≢true both)
 all_begin : (types : List AgentType) (bags : List (List (List ℤ)))
     → IsTrue (list_all has_one_start types)
     → length bags ≡ length types
-    → (agents_in (map (λ (type, bag). begun type bag) (zip types bags)) ≡ total length bags)
-    × AllZip (λ type pools. length pools ≡ length (states type.functions)) types (map (λ (type, bag). begun type bag) (zip types bags))
+    → agents_in (map (λ (type, bag). begun type bag) (zip types bags)) ≡ total length bags
 unfolding agents_in agents_of total
-all_begin [] [] one long = (refl, tt)
+all_begin [] [] one long = refl
 all_begin [] (bag ∷ bags) one long = absurd (omega (arith, long))
 all_begin (type ∷ types) [] one long = absurd (omega (arith, long))
 all_begin (type ∷ types) (bag ∷ bags) one long =
@@ -138,18 +138,34 @@ all_begin (type ∷ types) (bag ∷ bags) one long =
     agents_of-begun (is_entered type.functions) bag (states type.functions)
     ∙ ap (λ n. n * length bag) started
     ∙ omega arith in
-    let rest = all_begin types bags both.1 (omega (arith, long)) in (
-      (λ j. here j + rest.0 j),
-      (length-map (λ state. cond (is_entered type.functions state) [] bag) (states type.functions), rest.1),
-    )
+    let rest = all_begin types bags both.1 (omega (arith, long)) in
+    λ j. here j + rest j
+
+abbrev Pooled : AgentType → List (List (List ℤ)) → Type 0
+Pooled type pools = length pools ≡ length (states type.functions)
+
+pooled_begun : (types : List AgentType) (bags : List (List (List ℤ)))
+    → length bags ≡ length types
+    → AllZip Pooled types (map (λ (type, bag). begun type bag) (zip types bags))
+pooled_begun [] [] long = tt
+pooled_begun [] (bag ∷ bags) long = absurd (omega (arith, long))
+pooled_begun (type ∷ types) [] long = absurd (omega (arith, long))
+pooled_begun (type ∷ types) (bag ∷ bags) long = (
+  length-map (λ state. cond (is_entered type.functions state) [] bag) (states type.functions),
+  pooled_begun types bags (omega (arith, long)),
+)
+
+pub pools_begin : (model : Model) (agents : List (List (List ℤ))) → length agents ≡ length model.agents → HasPools model (opening model agents)
+pools_begin model agents long = pooled_begun model.agents agents long
 
 count_in-total : (bags : List (List (List ℤ))) → count_in bags ≡ total length bags
 count_in-total bags = length-flat_map (λ (bag : List (List ℤ)). bag) bags
 
 pub all_agents_begin : AllAgentsBegin
-all_agents_begin model agents one long =
-    let begins = all_begin model.agents agents one long in
-    (resting_in-total (opening model agents) ∙ begins.0 ∙ sym (count_in-total agents), begins.1)
+all_agents_begin model agents one long = (
+  resting_in-total (opening model agents) ∙ all_begin model.agents agents one long ∙ sym (count_in-total agents),
+  pools_begin model agents long,
+)
 
 -- ---- a step
 
@@ -158,9 +174,6 @@ zip_within R [] ys k x all at = absurd cc
 zip_within R (here ∷ xs) [] k x all at = absurd all
 zip_within R (here ∷ xs) (y ∷ ys) zero x all at = omega arith
 zip_within R (here ∷ xs) (y ∷ ys) (suc k) x all at = omega (arith, zip_within R xs ys k x all.1 at)
-
-abbrev Pooled : AgentType → List (List (List ℤ)) → Type 0
-Pooled type pools = length pools ≡ length (states type.functions)
 
 pooled_changed : (types : List AgentType) (pools : List (List (List (List ℤ)))) (agent state : ℕ) (change : List (List ℤ) → List (List ℤ))
     → AllZip Pooled types pools → AllZip Pooled types (changed_pool agent state change pools)
@@ -213,6 +226,20 @@ survivors_replace_takers round function place field after pooled at stepped =
     ≡ resting_in field + length (survivors (outcome_in round function field) (taking round function place field)))
     × HasPools round.source.model next)
     same (moved_counts round function place field pooled at)
+
+stays_pooled : (round : Round) (function : ℕ) (field after : Field) (found : Option Place)
+    → HasPools round.source.model field
+    → slice_get (functions round.source.model) function ≡ found
+    → step_at found round function field ≡ Ok after
+    → HasPools round.source.model after
+stays_pooled round function field after None pooled at stepped = let same : field ≡ after = cc in subst (HasPools round.source.model) same pooled
+stays_pooled round function field after (Some place) pooled at stepped =
+    (survivors_replace_takers round function place field after pooled at (ap (λ found. step_at found round function field) at ∙ stepped)).1
+
+pub pools_stay : (round : Round) (function : ℕ) (field after : Field)
+    → HasPools round.source.model field → step round function field ≡ Ok after → HasPools round.source.model after
+pools_stay round function field after pooled stepped =
+    stays_pooled round function field after (slice_get (functions round.source.model) function) pooled refl stepped
 
 -- ---- the end
 

@@ -1,7 +1,7 @@
 -- What holds of each element of a list, and of two lists place by place.
-use Rattle.std.proofs.Common.{◌≡◌, ℕ, zero, suc, ◌+◌, ◌<◌, Bool, true, false, cond, List, [], ◌∷◌, ◌++◌, length, map, Option, Some, None, refl, ap, ◌∙◌, arith, All, subst}
+use Rattle.std.proofs.Common.{◌≡◌, ℕ, zero, suc, Bool, true, false, cond, List, [], ◌∷◌, ◌++◌, map, Option, Some, None, refl, arith, All, subst}
 use Rattle.std.specs.Prelude.{slice_get, slice_index_or}
-use Rattle.std.specs.List.{filter, filter_map, flat_map, cons_option, AllZip, zip}
+use Rattle.std.specs.List.{filter, filter_map, flat_map, cons_option, AllZip}
 use Rattle.std.specs.declared.cmp.Ordering.{Ordering}
 use Rattle.std.specs.Ordering.{is_gt}
 use Rattle.flame_rows.specs.Sorted.{with_one, sorted_by}
@@ -11,6 +11,22 @@ use Rattle.flame_world.specs.Fields.{changed}
 pub all_each : {X : Type 0} (P : X → Type 0) (xs : List X) → All P xs → Each P xs
 all_each P [] all = tt
 all_each P (x ∷ xs) all = (all 0 x (omega arith), all_each P xs (λ k d h. all (suc k) d (omega (arith, h))))
+
+pub mapped : {X Y : Type 0} (Q : Y → Type 0) (f : X → Y) → ((x : X) → Q (f x)) → (xs : List X) → Each Q (map f xs)
+mapped Q f all [] = tt
+mapped Q f all (x ∷ xs) = (all x, mapped Q f all xs)
+
+pub each_also : {X : Type 0} (P Q : X → Type 0) → ((x : X) → P x → Q x) → (xs : List X) → Each P xs → Each Q xs
+each_also P Q go [] all = tt
+each_also P Q go (x ∷ xs) all = (go x all.0, each_also P Q go xs all.1)
+
+pub each_both : {X : Type 0} (P Q R : X → Type 0) → ((x : X) → P x → Q x → R x) → (xs : List X) → Each P xs → Each Q xs → Each R xs
+each_both P Q R go [] one two = tt
+each_both P Q R go (x ∷ xs) one two = (go x one.0 two.0, each_both P Q R go xs one.1 two.1)
+
+pub if_both : {X : Type 0} (P Q : X → Type 0) (o : Option X) → IfAny P o → IfAny Q o → IfAny (λ x. P x × Q x) o
+if_both P Q None one two = tt
+if_both P Q (Some x) one two = (one, two)
 
 pub each_append : {X : Type 0} (P : X → Type 0) (xs ys : List X) → Each P xs → Each P ys → Each P (xs ++ ys)
 each_append P [] ys one two = two
@@ -84,6 +100,18 @@ zip_each R Q go [] [] all = tt
 zip_each R Q go [] (y ∷ ys) all = absurd all
 zip_each R Q go (x ∷ xs) [] all = absurd all
 zip_each R Q go (x ∷ xs) (y ∷ ys) all = (go x y all.0, zip_each R Q go xs ys all.1)
+
+pub zip_also : {X Y : Type 0} (R S : X → Y → Type 0) → ((x : X) (y : Y) → R x y → S x y) → (xs : List X) (ys : List Y) → AllZip R xs ys → AllZip S xs ys
+zip_also R S go [] [] all = tt
+zip_also R S go [] (y ∷ ys) all = absurd all
+zip_also R S go (x ∷ xs) [] all = absurd all
+zip_also R S go (x ∷ xs) (y ∷ ys) all = (go x y all.0, zip_also R S go xs ys all.1)
+
+pub zip_both : {X Y : Type 0} (Q : Y → Type 0) (R : X → Y → Type 0) (xs : List X) (ys : List Y) → Each Q ys → AllZip R xs ys → AllZip (λ x y. Q y × R x y) xs ys
+zip_both Q R [] [] all zipped = tt
+zip_both Q R [] (y ∷ ys) all zipped = absurd zipped
+zip_both Q R (x ∷ xs) [] all zipped = absurd zipped
+zip_both Q R (x ∷ xs) (y ∷ ys) all zipped = ((all.0, zipped.0), zip_both Q R xs ys all.1 zipped.1)
 
 pub each_index : {X : Type 0} (P : X → Type 0) (d : X) (xs : List X) (k : ℕ) → P d → Each P xs → P (slice_index_or xs k d)
 each_index P d [] k none all = none

@@ -3,7 +3,9 @@ pub mod Changing
 pub mod SameTurns
 pub mod Standstills
 pub mod Eachs
+pub mod RowsKept
 pub mod WorldsKept
+pub mod WidthsKept
 pub mod NextStates
 pub mod Counting
 pub mod Tallies

@@ -1,4 +1,4 @@
--- The state that a function enters is one of its type's.
+-- The states that a function leaves and enters are states of its type.
 use Rattle.std.proofs.Common.{◌≡◌, ℕ, zero, suc, ◌+◌, ◌<◌, Bool, true, false, cond, List, [], ◌∷◌, ◌++◌, length, map, Some, refl, sym, ap, ◌∙◌, arith, subst}
 use Rattle.std.specs.Prelude.{not, ◌||◌, slice_get}
 use Rattle.std.specs.List.{list_any, position_or_len}
@@ -93,6 +93,25 @@ next_state [] j function at = absurd cc
 next_state (own ∷ functions) j function at =
     any_position (is_it function.next) (states (own ∷ functions))
     (any_distinct function.next [] (ends (own ∷ functions)) refl (any_end (own ∷ functions) j function at))
+
+any_begin : (functions : List Function) (j : ℕ) (function : Function) → slice_get functions j ≡ Some function → list_any (is_it function.current) (ends functions) ≡ true
+any_begin [] j function at = absurd cc
+any_begin (own ∷ functions) zero function at =
+    let same : own ≡ function = cc in
+    subst (λ (f : Function). list_any (is_it f.current) (ends (own ∷ functions)) ≡ true) same
+    (ap (λ t. t || list_any (is_it own.current) (own.next ∷ ends functions)) (self own.current))
+any_begin (own ∷ functions) (suc j) function at =
+    ap (λ t. is_it function.current own.current || (is_it function.current own.next || t)) (any_begin functions j function at)
+    ∙ ap (λ t. is_it function.current own.current || t) (or_right (is_it function.current own.next))
+    ∙ or_right (is_it function.current own.current)
+
+pub current_state : (functions : List Function) (j : ℕ) (function : Function)
+    → slice_get functions j ≡ Some function
+    → position_or_len (λ other. bytes_eq other function.current) (states functions) < length (states functions)
+current_state [] j function at = absurd cc
+current_state (own ∷ functions) j function at =
+    any_position (is_it function.current) (states (own ∷ functions))
+    (any_distinct function.current [] (ends (own ∷ functions)) refl (any_begin (own ∷ functions) j function at))
 
 pub function_at : (i : ℕ) (types : List AgentType) (f : ℕ) (place : Place)
     → slice_get (functions_from i types) f ≡ Some place

@@ -3,10 +3,11 @@ use Rattle.std.proofs.Common.{◌≡◌, ℕ, zero, suc, ◌+◌, ◌-◌, ◌<�
 use Rattle.std.proofs.Common.{true, false, cond, refl, sym, ap, ◌∙◌, subst}
 use Rattle.std.proofs.Common.{List, [], ◌∷◌, length, map, Some, Ok, Err, Result, Option, None, inl, inr}
 use Rattle.std.specs.Prelude.{ℤ, ◌==◌, slice_get, is_none, IsSomeAnd}
-use Rattle.std.specs.List.{filter, filter_map, cons_option, AllZip, flat_map}
+use Rattle.std.specs.List.{filter, filter_map, cons_option, flat_map}
 use Rattle.std.specs.Option.{option_map_or}
 use Rattle.std.proofs.lemmas.List.{length-append}
 use Rattle.std.proofs.lemmas.Bool.{cases_Bool, eqb-true, eqb-false}
+use Rattle.std.proofs.lemmas.Slice.Zip.{AllZip-long}
 use Rattle.flame_rows.specs.Order.{row_order}
 use Rattle.flame_rows.specs.Bags.{merge}
 use Rattle.flame_spec.specs.declared.models.Model.{Model}
@@ -290,12 +291,6 @@ count_in-none : {X : Type 0} (xs : List X) → count_in (map (λ x. []) xs) ≡ 
 count_in-none [] = refl
 count_in-none (x ∷ xs) = count_in-none xs
 
-length-AllZip : {X Y : Type 0} (R : X → Y → Type 0) (xs : List X) (ys : List Y) → AllZip R xs ys → length ys ≡ length xs
-length-AllZip R [] [] all = refl
-length-AllZip R [] (y ∷ ys) all = absurd all
-length-AllZip R (x ∷ xs) [] all = absurd all
-length-AllZip R (x ∷ xs) (y ∷ ys) all = ap suc (length-AllZip R xs ys all.1)
-
 done_tally :
     (model : Model) (field : Field) (constants : List ℤ) (r : Result Field SimFault) (after : World) (boards : Boards)
     (removed added : ℕ)
@@ -308,7 +303,7 @@ done_tally model field constants (Ok last) after boards removed added tally done
     let all = tally last refl in
     let worlds : record { constants = constants; agents = gathered last } ≡ after = cc in
     let agents : gathered last ≡ after.agents = ap (λ (w : World). w.agents) worlds in
-    let pools = length-AllZip _ model.agents last.pools all.pools in
+    let pools = AllZip-long _ model.agents last.pools all.pools in
     let end = survivors_and_births_remain last (all.long ∙ sym pools) in
     let counted = ap count_in agents in (
       omega (arith, all.resting),

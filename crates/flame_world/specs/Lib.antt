@@ -13,4 +13,5 @@ pub mod Shares
 pub mod IterationLaws
 pub mod WorldLaws
 pub mod CountLaws
+pub mod WorldFits
 pub mod InputBoards

@@ -4,6 +4,7 @@ ghost use Rattle.flame_world.specs.IterationLaws.{AgentsHaveNoOrder, EqualAgents
 ghost use Rattle.flame_world.specs.CountLaws.{AllAgentsBegin, SurvivorsReplaceTakers, SurvivorsAndBirthsRemain};
 ghost use Rattle.flame_world.specs.CountLaws.{SurvivorsAndBirthsAreAll};
 ghost use Rattle.flame_world.specs.InputBoards.{NamedBoardsAreEnough};
+ghost use Rattle.flame_world.specs.WorldFits.{FittingWorldsOpen, FittingFieldsStay, FittingWorldsStay};
 ghost use Rattle.flame_world.specs.WorldLaws.{WorldsStayWorlds};
 
 /// An iteration depends on its agents as a multiset alone, and agents with equal memory fare alike.
@@ -22,6 +23,15 @@ pub fn where_nothing_happens()
 /// declared and numbers within int. Its boards are boards of the model.
 pub fn worlds_stay_worlds()
     ensures { WorldsStayWorlds }
+{}
+
+/// A world that fits the model, with a value for each constant and memories as wide as declared, stays so, whatever its
+/// numbers: an iteration begins with a field that fits; where a function runs, the field still fits; and the world and
+/// the boards at the end do.
+pub fn worlds_keep_their_widths()
+    ensures open { FittingWorldsOpen }
+    ensures step { FittingFieldsStay }
+    ensures iteration { FittingWorldsStay }
 {}
 
 /// How many agents there are: an iteration begins with those of the world; where a function runs, its survivors come in
