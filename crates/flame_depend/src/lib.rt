@@ -16,3 +16,4 @@ mod tests;
 pub use faults::{CycleFault, DependFault, ManyStarts};
 pub use pairs::{Edge, edges};
 pub use planner::plan;
+pub use starts::entered_states;

@@ -26,8 +26,8 @@ fn enter(alloc: Global, texts: &mut HashSet<String>, text: &str) -> Result<bool,
     Ok(added)
 }
 
-/// The states that a function enters.
-fn entered_states(alloc: Global, functions: &[Function]) -> Result<HashSet<String>, NoMemory>
+/// The states that one of these functions enters.
+pub fn entered_states(alloc: Global, functions: &[Function]) -> Result<HashSet<String>, NoMemory>
     ensures { IfOk result (λ texts. (q : List ℕ) → contains_text texts q ≡ is_entered functions.now q) }
 {
     let mut texts: HashSet<String> = HashSet::new(alloc);

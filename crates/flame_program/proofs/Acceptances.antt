@@ -22,6 +22,7 @@ use Rattle.flame_code.specs.Routines.{Routine}
 use Rattle.flame_depend.specs.Plans.{lone, starts_of}
 use Rattle.flame_faithful.specs.CodeOutcomes.{code_of}
 use Rattle.flame_laws.proofs.UsedKnown.{used_declared}
+use Rattle.flame_route.specs.ModelRoutes.{ReadMessages}
 use Rattle.flame_program.specs.SourceCodes.{function_codes, helper_codes}
 use Rattle.flame_program.specs.AcceptanceLaws.{PlannedAreAccepted, IsRunnable, AcceptedAreRunnable}
 use Rattle.flame_program.proofs.SourceBodies.{same-some, mapped, helper-at, function-is, function-calls}
@@ -114,7 +115,7 @@ found-by-name from (message ∷ messages) name among =
         )
 
 -- its variables are those of the name
-variables-found :
+pub variables-found :
     (from : ℕ) (messages : List MessageType) (name : List ℕ) (found : ℕ × MessageType)
     → numbered_from (λ message. bytes_eq message.name name) from messages ≡ Some found
     → variables_in messages name ≡ found.1.variables
@@ -214,3 +215,11 @@ module _ (source : Source) (accepted : IsAccepted source) where
 
 pub accepted-are-runnable : AcceptedAreRunnable
 accepted-are-runnable source accepted = runnable source accepted
+
+-- the inputs of an accepted source's functions read messages of its model
+pub messages-read : (source : Source) → IsAccepted source → ReadMessages source.model
+messages-read source accepted function place at = record {
+  each = λ i input there.
+      let reads = (accepted-are-runnable source accepted).reads function i place input at there in
+      record { found = reads.found; named = reads.named };
+}

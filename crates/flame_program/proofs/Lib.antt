@@ -7,3 +7,4 @@ pub mod InputSelectors
 pub mod SourceBodies
 pub mod ProgramOutcomes
 pub mod Acceptances
+pub mod ReadingWidths

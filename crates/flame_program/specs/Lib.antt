@@ -2,6 +2,8 @@
 pub mod ProgramMeaning
 -- What makes sources accepted, and what acceptance gives.
 pub mod AcceptanceLaws
+-- The rows that functions read.
+pub mod InputWidths
 -- What the codes of a source are, and what its filters and keys were read to.
 pub mod SourceCodes
 pub mod SourceInputs

@@ -1,6 +1,7 @@
 //! What holds of programs. A law is its contract: it computes nothing.
 
 ghost use Rattle.flame_program.specs.AcceptanceLaws.{AcceptedAreRunnable, PlannedAreAccepted};
+ghost use Rattle.flame_program.specs.InputWidths.{ReadingsFitCodes};
 ghost use Rattle.flame_program.specs.ProgramMeaning.{ProgramsMean};
 
 /// In an accepted source the code of each function, with the codes of the helpers, means the outcome that the source
@@ -20,4 +21,10 @@ pub fn planned_are_accepted()
 /// declared and whose calls, if any, are of the helpers; and inputs that read messages of the model.
 pub fn accepted_are_runnable()
     ensures { AcceptedAreRunnable }
+{}
+
+/// What an agent reads by the inputs of its function, over boards with rows as wide as their messages declare, is as wide
+/// as the function's code sees.
+pub fn readings_fit_codes()
+    ensures { ReadingsFitCodes }
 {}

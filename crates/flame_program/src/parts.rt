@@ -15,17 +15,20 @@ use flame_check::Checked;
 use flame_code::{Code, Helpers};
 use flame_cond::Cond;
 use flame_lookup::{CFunction, Tables};
+use flame_route::Routes;
 use flame_rows::{NoMemory, Seq};
 use flame_spec::Source;
 use std::alloc::Global;
 
-/// What is made of a source: the codes, conditions, filters and keys of its functions, and the codes of its helpers.
+/// What is made of a source: the codes, conditions, filters, keys and routes of its functions, and the codes of its
+/// helpers.
 #[derive(Drop)]
 pub(crate) struct Parts {
     pub codes: Seq<Code>,
     pub helpers: Helpers,
     pub conditions: Seq<Option<Cond>>,
     pub selectors: Seq<Seq<Selector>>,
+    pub routes: Routes,
 }
 
 /// The helpers of an accepted source, of which these are the bodies and the C functions.
@@ -52,7 +55,7 @@ pub(crate) fn parts_of(alloc: Global, source: &Source, checked: &Checked) -> Res
     requires bodies { checked.now.bodies ≡ function_bodies source.now.model source.now.units }
     requires helpers { checked.now.helpers ≡ helper_bodies source.now.model source.now.units }
     ensures { IfOk result (λ parts.
-        ArePartsOf source.now parts.codes parts.helpers parts.conditions parts.selectors) }
+        ArePartsOf source.now parts.codes parts.helpers parts.conditions parts.selectors parts.routes) }
 {
     if !source.model.is_counted() {
         return Err(NoMemory);
@@ -62,10 +65,12 @@ pub(crate) fn parts_of(alloc: Global, source: &Source, checked: &Checked) -> Res
     let helpers = helpers_of(alloc, source, checked.helpers.items(), tables.helpers())?;
     let conditions = conditions_of(alloc, &source.model, tables.transitions())?;
     let selectors = selectors_of(alloc, &source.model, tables.transitions())?;
+    let routes = Routes::of(alloc, &source.model)?;
     Ok(Parts {
         codes: Seq::of(codes),
         helpers,
         conditions: Seq::of(conditions),
         selectors: Seq::of(selectors),
+        routes,
     })
 }

@@ -7,6 +7,7 @@ ghost use Rattle.flame_spec.specs.Before.{function_count};
 ghost use Rattle.flame_body.specs.FunctionBodies.{function_bodies, helper_bodies};
 ghost use Rattle.flame_cond.specs.Said.{AreConditionsOf};
 ghost use Rattle.flame_depend.specs.Plans.{IsPlan};
+ghost use Rattle.flame_route.specs.ModelRoutes.{AreRoutesOf};
 ghost use Rattle.flame_program.specs.SourceCodes.{function_codes, helper_codes};
 ghost use Rattle.flame_program.specs.SourceInputs.{FiltersInput, SortsInput};
 
@@ -16,14 +17,16 @@ use flame_check::Checked;
 use flame_code::{Code, Helpers};
 use flame_cond::{Cond, Filter, SortBy};
 use flame_depend::plans::Plan;
+use flame_route::Routes;
 use flame_rows::{NoMemory, Same, Seq};
 use flame_spec::Source;
 use std::alloc::Global;
 use std::marker::Model;
 
 /// An accepted source, made ready to run: the codes of its functions and helpers, the conditions of its functions, the
-/// filters and keys of their inputs, and the order, the layers and the starts of its model (FLAME User Manual). It is
-/// seen as its source, and all that it holds is what the source says; so two programs are equal where their sources are.
+/// filters and keys of their inputs, their routes, and the order, the layers and the starts of its model (FLAME User
+/// Manual). It is seen as its source, and all that it holds is what the source says; so two programs are equal where their
+/// sources are.
 #[derive(Drop)]
 pub struct Program {
     source: Source,
@@ -48,7 +51,8 @@ impl Model for Program {
     ghost invariant = { λ p. record {
       accepted : IsAccepted p.source;
       plan : IsPlan p.source.model p.plan;
-      parts : ArePartsOf p.source p.parts.codes p.parts.helpers p.parts.conditions p.parts.selectors;
+      parts : ArePartsOf p.source p.parts.codes p.parts.helpers p.parts.conditions p.parts.selectors
+          p.parts.routes;
     } };
 }
 
@@ -100,6 +104,13 @@ impl Program {
         ensures { IsPlan self.now.model result.now }
     {
         &self.plan
+    }
+
+    /// The routes of the model's functions.
+    pub fn routes(&self) -> &Routes
+        ensures { AreRoutesOf self.now.model result.now }
+    {
+        &self.parts.routes
     }
 
     /// How many functions the model has.

@@ -1,0 +1,7 @@
+-- One more number under one state.
+use Rattle.std.proofs.Common.{arith}
+use Rattle.std.proofs.lemmas.Grind.{text_groups}
+use Rattle.flame_route.proofs.leaving.note.Goals as goal
+
+pub returns : goal.returns
+returns c = λ q. grind (arith, text_groups)
