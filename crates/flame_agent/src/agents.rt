@@ -1,0 +1,48 @@
+//! Runs of functions for agents.
+
+ghost use Rattle.std.specs.Prelude.{◌≡◌, IfOk};
+ghost use Rattle.flame_world.specs.Meaning.{outcome_under};
+ghost use Rattle.flame_agent.specs.FunctionFits.{FitsFunction};
+
+use crate::codes::code_of;
+use crate::views::views_of;
+use flame_machine::run;
+use flame_program::Program;
+use flame_program::laws::programs_mean;
+use flame_rows::{NoMemory, Row};
+use flame_spec::Outcome;
+use flame_world::Setting;
+use std::alloc::Global;
+
+/// What the function of this number does for an agent with this memory, under this setting of the program (FLAME User
+/// Manual). Its code runs over the views of the boards, each of which is made once, before the run; a board that is read
+/// without a filter and a sort is read where it lies, and no row is copied. The memory, the constants and the messages of
+/// the boards are as wide as the model declares. `NoMemory` comes where none is found, and where 32 bits cannot number the
+/// function's inputs.
+pub fn run_agent(
+    alloc: Global,
+    program: &Program,
+    setting: &Setting<'_>,
+    function: u32,
+    memory: &Row,
+) -> Result<Outcome, NoMemory>
+    requires source { setting.now.source.now ≡ program.now }
+    requires fits { FitsFunction program.now.model function setting.now memory.now }
+    ensures { IfOk result (λ outcome. outcome ≡ outcome_under setting.now function memory.now) }
+{
+    programs_mean();
+    let _source = program.source();
+    let code = code_of(program, setting, function, memory);
+    let mut views = views_of(alloc, program, setting, function, memory)?;
+    let outcome = run(
+        alloc,
+        code,
+        program.helpers(),
+        memory,
+        &mut views,
+        setting.constants,
+        setting.iteration,
+        setting.fuel,
+    )?;
+    Ok(outcome)
+}
