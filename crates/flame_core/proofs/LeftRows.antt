@@ -1,0 +1,70 @@
+-- What agents leave belongs to types and messages of the model.
+use Rattle.std.proofs.Common.{◌≡◌, ℕ, zero, suc, ◌<◌, List, [], ◌∷◌, length, refl, arith}
+use Rattle.std.specs.Prelude.{ℤ, slice_get, IsSomeAnd, slice_index_or}
+use Rattle.std.specs.List.{All}
+use Rattle.flame_spec.specs.declared.outcomes.Born.{Born}
+use Rattle.flame_spec.specs.declared.outcomes.Effect.{Effect}
+use Rattle.flame_spec.specs.declared.outcomes.Outcome.{Outcome}
+use Rattle.flame_spec.specs.declared.outcomes.Outcome.TheVariants.{Ended, Faulted}
+use Rattle.flame_spec.specs.declared.outcomes.Sent.{Sent}
+use Rattle.flame_spec.specs.declared.outcomes.Source.{Source}
+use Rattle.flame_sense.specs.OutcomeLaws.{HasWidths}
+use Rattle.flame_sense.specs.Outcomes.{outcome, readings_of}
+use Rattle.flame_sense.specs.RangeLaws.{Each}
+use Rattle.flame_sense.proofs.Leavings.{rows_have_widths}
+use Rattle.flame_world.specs.AgentRuns.{born_by, born_from, sent_by, sent_from}
+use Rattle.flame_world.proofs.Eachs.{all_each, each_flat_map}
+
+some-within : {X : Type 0} (P : X → Type 0) (xs : List X) (k : ℕ) → IsSomeAnd (slice_get xs k) P → k < length xs
+some-within P [] k some = absurd some
+some-within P (x ∷ xs) zero some = omega arith
+some-within P (x ∷ xs) (suc k) some = omega (arith, some-within P xs k some)
+
+each_at : {X : Type 0} (P : X → Type 0) (xs : List X) → Each P xs → All P xs
+each_at P [] all = λ k d less. absurd (omega (arith, less))
+each_at P (x ∷ xs) all = at (each_at P xs all.1)
+  where
+    at : All P xs → (k : ℕ) (d : _) → k < suc (length xs) → P (slice_index_or (x ∷ xs) k d)
+    at later zero d less = all.0
+    at later (suc k) d less = later k d (omega (arith, less))
+
+each_of : {X : Type 0} (P : X → Type 0) → ((x : X) → P x) → (xs : List X) → Each P xs
+each_of P all [] = tt
+each_of P all (x ∷ xs) = (all x, each_of P all xs)
+
+module _ (source : Source) (function : ℕ) (boards : List (List (List ℤ))) (constants : List ℤ) (iteration : ℤ) (fuel : ℕ) where
+  abbrev run : List ℤ → Outcome
+  run memory = outcome source function memory boards constants iteration fuel
+
+  left : (memory : List ℤ) (effect : Effect) → run memory ≡ Ended effect → HasWidths source.model memory effect
+  left memory effect is = rows_have_widths source function memory (readings_of source function memory boards) constants iteration fuel effect is
+
+  born_at : (memory : List ℤ) → Each (λ (b : Born). b.agent < length source.model.agents) (born_by (run memory))
+  born_at memory = go (run memory) (left memory)
+    where
+      go : (o : Outcome) → ((effect : Effect) → o ≡ Ended effect → HasWidths source.model memory effect) → Each (λ (b : Born). b.agent < length source.model.agents) (born_by o)
+      go (Ended effect) has =
+          all_each (λ (b : Born). b.agent < length source.model.agents) effect.born
+          (λ k d less. some-within _ source.model.agents _ ((has effect refl).born k d less))
+      go (Faulted fault) has = tt
+
+  sent_at : (memory : List ℤ) → Each (λ (s : Sent). s.message < length source.model.messages) (sent_by (run memory))
+  sent_at memory = go (run memory) (left memory)
+    where
+      go : (o : Outcome) → ((effect : Effect) → o ≡ Ended effect → HasWidths source.model memory effect) → Each (λ (s : Sent). s.message < length source.model.messages) (sent_by o)
+      go (Ended effect) has =
+          all_each (λ (s : Sent). s.message < length source.model.messages) effect.sent
+          (λ k d less. some-within _ source.model.messages _ ((has effect refl).sent k d less))
+      go (Faulted fault) has = tt
+
+  pub born-within : (agents : List (List ℤ)) → All (λ (b : Born). b.agent < length source.model.agents) (born_from run agents)
+  born-within agents =
+      each_at (λ (b : Born). b.agent < length source.model.agents) (born_from run agents)
+      (each_flat_map (λ memory. Unit {0}) (λ (b : Born). b.agent < length source.model.agents) (λ memory. born_by (run memory)) (λ memory _. born_at memory) agents
+      (each_of (λ memory. Unit {0}) (λ memory. tt) agents))
+
+  pub sent-within : (agents : List (List ℤ)) → All (λ (s : Sent). s.message < length source.model.messages) (sent_from run agents)
+  sent-within agents =
+      each_at (λ (s : Sent). s.message < length source.model.messages) (sent_from run agents)
+      (each_flat_map (λ memory. Unit {0}) (λ (s : Sent). s.message < length source.model.messages) (λ memory. sent_by (run memory)) (λ memory _. sent_at memory) agents
+      (each_of (λ memory. Unit {0}) (λ memory. tt) agents))

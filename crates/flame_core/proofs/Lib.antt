@@ -1,0 +1,11 @@
+mod Gathered
+mod Joining
+mod Changed
+mod BoardBags
+mod StatePlaces
+mod LeftRows
+mod NamedNumbers
+mod TakenRuns
+mod Gets
+mod Beginnings
+mod Stepped

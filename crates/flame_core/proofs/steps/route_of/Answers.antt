@@ -1,0 +1,29 @@
+use Rattle.std.proofs.Common.{◌≡◌, ap, arith, get_or, length, subst}
+use Rattle.flame_spec.specs.Functions.{functions}
+use Rattle.flame_route.specs.ModelRoutes.{IsRouteOf}
+use Rattle.flame_core.proofs.Gets.{get-there, has-at, zip-get}
+use Rattle.flame_core.proofs.NamedNumbers.{zip-length}
+use Rattle.flame_core.proofs.steps.route_of.Goals as goal
+
+pub bounds-items-function : goal.bounds-items-function
+bounds-items-function c =
+    let model = c.args.round.now.program.now.model in
+    let routes = c.routes.result.now.routes in
+    omega (arith, c.requires, zip-length (IsRouteOf model) (functions model) routes c.routes.ensures.each, ap length c.items.ensures)
+
+pub returns : goal.returns
+returns c =
+    let model = c.args.round.now.program.now.model in
+    let routes = c.routes.result.now.routes in
+    let function = c.args.function in
+    let route = c.index-items-function.result in
+    let found = has-at (functions model) function c.requires in
+    let count = zip-length (IsRouteOf model) (functions model) routes c.routes.ensures.each in
+    let there = get-there routes function route (omega (arith, c.requires, count))
+    (subst (λ list. route ≡ get_or list function route) c.items.ensures c.index-items-function.is) in
+    record {
+      place = found.item;
+      there = found.there;
+      routed = zip-get (IsRouteOf model) (functions model) routes function found.item route c.routes.ensures.each found.there there;
+      turn = c.routes.ensures.turns function found.item route found.there there;
+    }

@@ -1,0 +1,53 @@
+-- What the steps of a runner come to.
+use Rattle.std.specs.Prelude.{◌≡◌, ◌<◌, ℕ, ℤ, List, [], Some, Result, Ok, Err, length, slice_get, slice_index_or}
+use Rattle.flame_spec.specs.declared.models.Model.{Model}
+use Rattle.flame_spec.specs.Choice.{functions_out}
+use Rattle.flame_spec.specs.Columns.{width}
+use Rattle.flame_spec.specs.Functions.{Place, functions}
+use Rattle.flame_sense.specs.RangeLaws.{Each}
+use Rattle.flame_agent.specs.FunctionFits.{FitInputs}
+use Rattle.flame_world.specs.declared.faults.SimFault.{SimFault}
+use Rattle.flame_world.specs.Fields.{Field}
+use Rattle.flame_world.specs.Iterations.{Round}
+use Rattle.flame_route.specs.declared.routes.Route.{Route}
+use Rattle.flame_route.specs.ModelRoutes.{IsRouteOf}
+use Rattle.flame_core.specs.declared.rounds.Round as run
+use Rattle.flame_core.specs.declared.steps.Stepped.{Stepped}
+use Rattle.flame_core.specs.declared.steps.Stepped.TheVariants.{On, Faulted}
+use Rattle.flame_core.specs.RunFields.{field_of}
+
+-- what stays the same, with the program's source [own]
+abbrev pub round_of : run.Round → Round
+round_of round = record {
+  source = round.program.now;
+  constants = round.constants.now;
+  iteration = round.iteration;
+  fuel = round.fuel;
+}
+
+-- the field, or the fault [own]
+abbrev pub result_of : Stepped → Result Field SimFault
+result_of (On field) = Ok (field_of field)
+result_of (Faulted fault) = Err fault
+
+-- the function of this number goes by this route, in its turn [FLAME User Manual]
+pub record GoesBy (model : Model) (function : ℕ) (route : Route) : Type 0 where
+  pub place : Place
+  pub there : slice_get (functions model) function ≡ Some place
+  pub routed : IsRouteOf model place route
+  pub turn : slice_get (functions_out model place.agent place.function.current) route.turn ≡ Some function
+
+-- there is a pool for the state that the route leaves, and for the one that it enters [own]
+pub record HasRoute (pools : List (List (List (List ℤ)))) (route : Route) : Type 0 where
+  pub from : route.from < length (slice_index_or pools route.agent [])
+  pub to : route.to < length (slice_index_or pools route.agent [])
+
+-- the function of this number has what it reads: agents, constants and boards of its inputs as wide as declared [own]
+pub record FitsInputs
+    (model : Model) (function : ℕ) (constants : List ℤ) (boards : List (List (List ℤ))) (agents : List (List ℤ)) :
+    Type 0 where
+  pub place : Place
+  pub there : slice_get (functions model) function ≡ Some place
+  pub memories : Each (λ memory. length memory ≡ width place.type.memory) agents
+  pub known : length constants ≡ length model.constants
+  pub wide : FitInputs model place.function.inputs boards

@@ -1,0 +1,17 @@
+//! What an iteration has throughout.
+
+use flame_program::Program;
+use flame_rows::Row;
+
+/// What stays the same throughout an iteration.
+#[derive(Clone, Copy)]
+pub(crate) struct Round<'a> {
+    /// The program of the model and its function files.
+    pub program: &'a Program,
+    /// The constants, in the order of the model.
+    pub constants: &'a Row,
+    /// The number of the iteration.
+    pub iteration: i32,
+    /// The fuel of each agent.
+    pub fuel: u32,
+}
