@@ -7,4 +7,4 @@ mod running;
 
 pub use listing::code_in;
 pub use printing::print_outcome;
-pub use running::answer_machine;
+pub use running::{Scene, answer_machine, print_run, scene_in};

@@ -13,14 +13,19 @@ use flame_spec::Widths;
 use std::alloc::{AllocError, Global};
 use std::str;
 
-/// What a case begins with.
+/// What a run begins with.
 #[derive(Drop)]
-struct Scene {
-    memory: Row,
-    constants: Row,
-    inputs: Vec<Vec<Row>>,
-    iteration: i32,
-    fuel: u32,
+pub struct Scene {
+    /// The memory.
+    pub memory: Row,
+    /// The constants.
+    pub constants: Row,
+    /// The rows of each input, in order.
+    pub inputs: Vec<Vec<Row>>,
+    /// The iteration.
+    pub iteration: i32,
+    /// The fuel.
+    pub fuel: u32,
 }
 
 /// The rows between brackets, in order.
@@ -63,7 +68,8 @@ fn count_in(case: &Case, word: &str, default: usize) -> u32 {
     }
 }
 
-fn scene_in(alloc: Global, case: &Case) -> Result<Scene, AllocError> {
+/// What the lines of the section `given` say.
+pub fn scene_in(alloc: Global, case: &Case) -> Result<Scene, AllocError> {
     Ok(Scene {
         memory: Row::of(numbers_in(alloc, case.given("memory "))?),
         constants: Row::of(numbers_in(alloc, case.given("constants "))?),
@@ -119,7 +125,7 @@ fn helpers_in(alloc: Global, case: &Case, constants: u32) -> Result<Option<Helpe
 }
 
 /// What the code leaves, or what does not fit it.
-fn print_run(
+pub fn print_run(
     alloc: Global,
     out: &mut String,
     scene: &Scene,

@@ -2,12 +2,17 @@
 //! The answer is the model, or in cases of the kind `wide` the model file, a part of it a line; `fine` in its place in
 //! cases of the kind `shape`; and the fault of its shape, as `wanted List at /xmodel/agents`, in all of them.
 
+ghost use Rattle.std.specs.Prelude.{IfOk, IsTrue};
+ghost use Rattle.flame_spec.specs.WellFormed.{is_well_formed};
+ghost use Rattle.flame_case_models.specs.FoundModels.{IsFormed};
+
 use flame_case::Case;
 use flame_rows::{Fail, Text};
 use flame_spec::{
     AgentType, Condition, Function, Input, Model, Operand, TimeUnit, Variable, Wide, WideAgent,
     WideVariable,
 };
+use flame_xmml::laws::well_formed;
 use flame_xmml::{Shape, model_of, wide_of};
 use serde_json::Value;
 use std::alloc::{AllocError, Global};
@@ -30,14 +35,25 @@ fn print_shape(out: &mut String, shape: &Shape) -> Result<(), AllocError> {
     writeln!(out, "wanted {want} at {path}")
 }
 
-/// The model of a case.
-pub fn model_in(alloc: Global, case: &Case) -> Result<Found, AllocError> {
+/// The model that a value stands for.
+fn formed(alloc: Global, value: &Value) -> Result<Model, Fail<Shape>>
+    ensures { IfOk result (λ model. IsTrue (is_well_formed model)) }
+{
+    let model = model_of(alloc, value)?;
+    well_formed();
+    Ok(model)
+}
+
+/// The model of a case, which is well formed.
+pub fn model_in(alloc: Global, case: &Case) -> Result<Found, AllocError>
+    ensures { IfOk result IsFormed }
+{
     let mut out = String::new(alloc);
     let Ok(value) = Value::from_str(alloc, case.text("model")) else {
         writeln!(out, "not JSON")?;
         return Ok(Found::Told(out));
     };
-    match model_of(alloc, &value) {
+    match formed(alloc, &value) {
         Ok(model) => return Ok(Found::Model(model)),
         Err(Fail::Fault(shape)) => print_shape(&mut out, &shape)?,
         Err(Fail::NoMemory) => writeln!(out, "no memory")?,

@@ -1,12 +1,14 @@
 //! The calls that cases are of.
 
-use crate::{outcomes, running};
+use crate::running;
 use flame_case::Case;
 use flame_case_checks::answer_check;
 use flame_case_codes::answer_machine;
 use flame_case_models::{
     answer_flat, answer_model, answer_names, answer_plan, answer_shape, answer_wide,
 };
+use flame_case_programs::{answer_code, answer_outcome};
+use flame_case_runs::answer_iteration;
 use flame_case_texts::{answer_expression, answer_order, answer_tokens, answer_trees};
 use flame_case_views::{answer_choices, answer_conditions, answer_views};
 use std::alloc::{AllocError, Global};
@@ -32,8 +34,12 @@ pub(crate) enum Kind {
     Nest,
     /// `flame_names::names`
     Names,
-    /// `flame_sense::evaluate`
+    /// `flame_sense::evaluate`, and `flame_machine::run` of the program's code
     Outcome,
+    /// The codes of `flame_program::Program`
+    Code,
+    /// `flame_core::iterate`
+    Iteration,
     /// `flame_machine::run`
     Machine,
     /// `flame_depend::edges` and `flame_depend::plan`
@@ -64,6 +70,8 @@ pub(crate) fn kind_of(file: &str) -> Option<Kind> {
         "nest" => Some(Kind::Nest),
         "names" => Some(Kind::Names),
         "outcome" => Some(Kind::Outcome),
+        "code" => Some(Kind::Code),
+        "iteration" => Some(Kind::Iteration),
         "machine" => Some(Kind::Machine),
         "plan" => Some(Kind::Plan),
         "condition" => Some(Kind::Condition),
@@ -92,7 +100,9 @@ pub(crate) fn answer(
         Kind::Wide => answer_wide(alloc, case),
         Kind::Nest => answer_flat(alloc, case),
         Kind::Names => answer_names(alloc, case),
-        Kind::Outcome => outcomes::answer(alloc, case),
+        Kind::Outcome => answer_outcome(alloc, case),
+        Kind::Code => answer_code(alloc, case),
+        Kind::Iteration => answer_iteration(alloc, case),
         Kind::Machine => answer_machine(alloc, case),
         Kind::Plan => answer_plan(alloc, case),
         Kind::Condition => answer_conditions(alloc, case),

@@ -5,7 +5,6 @@
 #![tactic(auto)]
 
 mod kinds;
-mod outcomes;
 mod running;
 mod watched;
 

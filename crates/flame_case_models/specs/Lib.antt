@@ -1,0 +1,2 @@
+-- What is known of a model that was found.
+pub mod FoundModels

@@ -1,0 +1,2 @@
+-- What the check gives of function files that it accepts.
+pub mod CheckedFiles

@@ -1,0 +1,11 @@
+//! What programs answer to cases, as texts.
+#![tactic(auto)]
+
+mod accepting;
+mod coding;
+mod listings;
+mod outcomes;
+
+pub use accepting::program_of;
+pub use listings::answer_code;
+pub use outcomes::answer_outcome;
