@@ -31,18 +31,24 @@ fn iterated(alloc: Global, case: &Case, program: &Program, world: World) -> Resu
     Ok(out)
 }
 
-/// The same of a source, where it is accepted and the world fits it.
+/// The same of the world that the case gives, where it fits.
+fn fitted(alloc: Global, case: &Case, program: &Program) -> Result<String, NoMemory> {
+    let model = &program.source().model;
+    let world = world_in(alloc, case, model)?;
+    if fits(model, &world)? {
+        return iterated(alloc, case, program, world);
+    }
+    Ok(String::from_str(alloc, "the world does not fit\n")?)
+}
+
+/// The same of a source, where it is accepted.
 fn answered(alloc: Global, case: &Case, source: Source) -> Result<String, NoMemory>
     requires formed { IsTrue (is_well_formed source.model) }
 {
-    let Some(program) = program_of(alloc, source)? else {
-        return Ok(String::from_str(alloc, "not accepted\n")?);
-    };
-    let world = world_in(alloc, case, &program.source().model)?;
-    if !fits(&program.source().model, &world)? {
-        return Ok(String::from_str(alloc, "the world does not fit\n")?);
+    match program_of(alloc, source)? {
+        Some(program) => fitted(alloc, case, &program),
+        None => Ok(String::from_str(alloc, "not accepted\n")?),
     }
-    iterated(alloc, case, &program, world)
 }
 
 /// The answer to a case of the kind `iteration`.

@@ -6,32 +6,54 @@ use flame_spec::Model;
 use flame_world::{Boards, SimFault, Turn, World};
 use std::alloc::{AllocError, Global};
 
-/// The rows of the lines `agent 0 [1, 2]`, for each of so many types.
-fn rows_in(alloc: Global, case: &Case, types: usize) -> Result<Vec<Vec<Row>>, AllocError> {
+/// Adds the agent `0 [1, 2]` to the rows of its type, where there is one.
+fn add_agent(alloc: Global, rows: &mut Vec<Vec<Row>>, agent: &str) -> Result<(), AllocError> {
+    let Some((number, memory)) = agent.split_once(' ') else {
+        return Ok(());
+    };
+    let Ok(number) = number.parse::<usize>() else {
+        return Ok(());
+    };
+    if let Some(own) = rows.get_mut(number) {
+        own.push(Row::of(numbers_in(alloc, memory)?))?;
+    }
+    Ok(())
+}
+
+/// No rows for each of so many types.
+fn no_rows(alloc: Global, types: usize) -> Result<Vec<Vec<Row>>, AllocError> {
     let mut rows: Vec<Vec<Row>> = Vec::new(alloc);
     for _type in 0..types {
         rows.push(Vec::new(alloc))?;
     }
+    Ok(rows)
+}
+
+/// The rows of the lines `agent 0 [1, 2]`, for each of so many types.
+fn rows_in(alloc: Global, case: &Case, types: usize) -> Result<Vec<Vec<Row>>, AllocError> {
+    let mut rows = no_rows(alloc, types)?;
     for line in case.text("given").split('\n') {
-        if let Some((agent, memory)) = line
-            .strip_prefix("agent ")
-            .and_then(|rest| rest.split_once(' '))
-        {
-            if let Some(own) = rows.get_mut(agent.parse::<usize>().unwrap_or(types)) {
-                own.push(Row::of(numbers_in(alloc, memory)?))?;
-            }
+        if let Some(agent) = line.strip_prefix("agent ") {
+            add_agent(alloc, &mut rows, agent)?;
         }
     }
     Ok(rows)
 }
 
+/// The bags of these rows.
+fn bags_of(alloc: Global, rows: Vec<Vec<Row>>) -> Result<Vec<Bag>, NoMemory> {
+    let mut bags = Vec::new(alloc);
+    for rows in rows {
+        bags.push(Bag::of_rows(rows)?)?;
+    }
+    Ok(bags)
+}
+
 /// The world that the case gives.
 pub(crate) fn world_in(alloc: Global, case: &Case, model: &Model) -> Result<World, NoMemory> {
+    let rows = rows_in(alloc, case, model.agents.len())?;
+    let agents = bags_of(alloc, rows)?;
     let constants = Row::of(numbers_in(alloc, case.given("constants "))?);
-    let mut agents = Vec::new(alloc);
-    for rows in rows_in(alloc, case, model.agents.len())? {
-        agents.push(Bag::of_rows(rows)?)?;
-    }
     Ok(World {
         constants,
         agents: Seq::of(agents),
