@@ -16,9 +16,9 @@ use std::alloc::Global;
 
 /// What the function of this number does for an agent with this memory, under this setting of the program (FLAME User
 /// Manual). Its code runs over the views of the boards, each of which is made once, before the run; a board that is read
-/// without a filter and a sort is read where it lies, and no row is copied. The memory, the constants and the messages of
-/// the boards are as wide as the model declares. `NoMemory` comes where none is found, and where 32 bits cannot number the
-/// function's inputs.
+/// without a filter and a sort is read where it lies, and no row of a board is copied. The memory, the constants and the
+/// messages of the boards are as wide as the model declares. `NoMemory` comes where none is found, and where 32 bits cannot
+/// number the function's inputs.
 pub fn run_agent(
     alloc: Global,
     program: &Program,
