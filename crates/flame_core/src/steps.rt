@@ -78,6 +78,7 @@ fn leave(
 {
     let pool = exchange(pools, route.agent, route.from, Gathering::empty(alloc)).into_bag()?;
     let functions = out_of(round, function, route);
+    // Agents choose by numbers of 32 bits.
     let _count = number(functions.len())?;
     let conditions = round.program.conditions();
     let choices = choose_here(alloc, &pool, conditions, functions, round.iteration)?;
