@@ -15,9 +15,10 @@ use Rattle.flame_sense.specs.Outcomes.{place_of, message_named}
 use Rattle.flame_view.specs.Compiled.{view_by, ViewIsAsWritten}
 use Rattle.flame_program.specs.AcceptanceLaws.{IsRunnable}
 use Rattle.flame_program.specs.SourceInputs.{Reads, FiltersInput, SortsInput}
-use Rattle.flame_program.proofs.Zips.{take-more, zip-back}
+use Rattle.flame_program.proofs.Zips.{zip-back}
+use Rattle.flame_route.proofs.Places.{take-more}
 use Rattle.flame_world.specs.Meaning.{view_from, readings_from}
-use Rattle.flame_agent.specs.FunctionFits.{FitsInput, FitInputs}
+use Rattle.flame_agent.specs.FunctionFits.{IsBoardFor, AreBoardsFor}
 use Rattle.flame_agent.specs.InputViews.{IsViewFor}
 
 -- ---- one view
@@ -73,12 +74,12 @@ module _ (source : Source) (function : ℕ) (memory : List ℤ) (boards : List (
 
   -- the view of the next board comes next
   pub next-view : (k : ℕ) (board view : List (List ℤ))
-      → FitInputs source.model place.function.inputs boards
+      → AreBoardsFor source.model place.function.inputs boards
       → slice_get boards k ≡ Some board
       → IsViewFor source function k memory board view
       → take (k + 1) feeds ≡ take k feeds ++ not_begun view ∷ []
   next-view k board view fit at is =
-      let form = zip-back (FitsInput source.model) place.function.inputs boards k board fit at in
+      let form = zip-back (IsBoardFor source.model) place.function.inputs boards k board fit at in
       let reading = zipped (reading-of source.model place memory) place.function.inputs boards k form.0 board form.1 at in
       let same = is place form.0 there form.1 in
       let fed : slice_get feeds-there k ≡ Some (not_begun view) =

@@ -18,7 +18,7 @@ use Rattle.flame_sense.specs.RangeLaws.{Each}
 use Rattle.flame_program.proofs.Zips.{zip-at, zip-back}
 use Rattle.flame_world.specs.Meaning.{view_from, readings_from}
 use Rattle.flame_world.proofs.Eachs.{each_filter, each_sorted}
-use Rattle.flame_agent.specs.FunctionFits.{FitsInput, FitInputs}
+use Rattle.flame_agent.specs.FunctionFits.{IsBoardFor, AreBoardsFor}
 
 -- ---- views of boards
 
@@ -26,7 +26,7 @@ use Rattle.flame_agent.specs.FunctionFits.{FitsInput, FitInputs}
 view-fits :
     (model : Model) (found : Option (ℕ × MessageType)) (type : AgentType) (memory : List ℤ) (input : Input)
     (board : List (List ℤ))
-    → FitsInput model input board → FitsInput model input (view_from found type memory input board)
+    → IsBoardFor model input board → IsBoardFor model input (view_from found type memory input board)
 view-fits model None type memory input board all = tt
 view-fits model (Some found) type memory input board all =
     let Wide : List ℤ → Type 0 = λ row. length row ≡ input_width model input in
@@ -44,10 +44,10 @@ zip-kept P f go (x ∷ xs) (y ∷ ys) all = (go x y all.0, zip-kept P f go xs ys
 
 pub readings-fit :
     (model : Model) (place : Place) (memory : List ℤ) (boards : List (List (List ℤ)))
-    → FitInputs model place.function.inputs boards
-    → FitInputs model place.function.inputs (readings_from (Some place) model memory boards)
+    → AreBoardsFor model place.function.inputs boards
+    → AreBoardsFor model place.function.inputs (readings_from (Some place) model memory boards)
 readings-fit model place memory boards fit =
-    zip-kept (FitsInput model)
+    zip-kept (IsBoardFor model)
     (λ (input, board). view_from (message_named model.messages input.message) place.type memory input board)
     (λ input board. view-fits model (message_named model.messages input.message) place.type memory input board)
     place.function.inputs boards fit
@@ -67,12 +67,12 @@ zip-long P (x ∷ xs) (y ∷ ys) all = let rest = zip-long P xs ys all.1 in omeg
 
 pub have-widths :
     (model : Model) (inputs : List Input) (lists : List (List (List ℤ)))
-    → FitInputs model inputs lists → HaveWidths (map (input_width model) inputs) lists
+    → AreBoardsFor model inputs lists → HaveWidths (map (input_width model) inputs) lists
 have-widths model inputs lists fit = record {
-  count = zip-long (FitsInput model) inputs lists fit ∙ sym (length-map inputs (input_width model));
+  count = zip-long (IsBoardFor model) inputs lists fit ∙ sym (length-map inputs (input_width model));
   wide = λ input place rows row listed at.
-      let form = zip-back (FitsInput model) inputs lists input rows fit listed in
-      let own = zip-at (FitsInput model) inputs lists input form.0 rows fit form.1 listed in
+      let form = zip-back (IsBoardFor model) inputs lists input rows fit listed in
+      let own = zip-at (IsBoardFor model) inputs lists input form.0 rows fit form.1 listed in
       let wide = each-at (λ row. length row ≡ input_width model form.0) rows place row own at in
       slice_get-map (input_width model) inputs input ∙ ap (option_map (input_width model)) form.1 ∙ ap Some (sym wide);
 }

@@ -5,7 +5,9 @@ mod accepting;
 mod coding;
 mod listings;
 mod outcomes;
+mod sources;
 
 pub use accepting::program_of;
 pub use listings::answer_code;
 pub use outcomes::answer_outcome;
+pub use sources::{Sourced, source_in};

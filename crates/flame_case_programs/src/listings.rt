@@ -8,9 +8,8 @@ ghost use Rattle.flame_spec.specs.WellFormed.{is_well_formed};
 
 use crate::accepting::program_of;
 use crate::coding::code_of;
+use crate::sources::{Sourced, source_in};
 use flame_case::Case;
-use flame_case_models::{Found, model_in};
-use flame_case_texts::units_in;
 use flame_code::{Code, Helpers, Instr};
 use flame_lookup::{CFunction, Tables, Transition, number};
 use flame_program::Program;
@@ -123,16 +122,11 @@ fn listed(alloc: Global, source: Source) -> Result<String, NoMemory>
 
 /// The answer to a case of the kind `code`.
 pub fn answer_code(alloc: Global, case: &Case) -> Result<String, AllocError> {
-    let model = match model_in(alloc, case)? {
-        Found::Told(told) => return Ok(told),
-        Found::Model(model) => model,
-    };
-    let units = units_in(alloc, case)?;
-    if units.len() != model.files.len() {
-        return String::from_str(alloc, "a text is no function file\n");
-    }
-    match listed(alloc, Source { model, units }) {
-        Ok(out) => Ok(out),
-        Err(NoMemory) => Err(AllocError),
+    match source_in(alloc, case)? {
+        Sourced::Told(told) => Ok(told),
+        Sourced::Source(source) => match listed(alloc, source) {
+            Ok(out) => Ok(out),
+            Err(NoMemory) => Err(AllocError),
+        },
     }
 }

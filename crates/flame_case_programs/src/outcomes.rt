@@ -8,10 +8,9 @@ ghost use Rattle.flame_spec.specs.WellFormed.{is_well_formed};
 
 use crate::accepting::program_of;
 use crate::coding::by_code;
+use crate::sources::{Sourced, source_in};
 use flame_case::{Case, boards_in};
 use flame_case_codes::{Scene, print_outcome, scene_in};
-use flame_case_models::{Found, model_in};
-use flame_case_texts::units_in;
 use flame_program::Program;
 use flame_rows::{Bag, NoMemory, Seq};
 use flame_sense::evaluate;
@@ -80,16 +79,11 @@ fn compared(alloc: Global, case: &Case, source: Source) -> Result<String, NoMemo
 
 /// The answer to a case of the kind `outcome`.
 pub fn answer_outcome(alloc: Global, case: &Case) -> Result<String, AllocError> {
-    let model = match model_in(alloc, case)? {
-        Found::Told(told) => return Ok(told),
-        Found::Model(model) => model,
-    };
-    let units = units_in(alloc, case)?;
-    if units.len() != model.files.len() {
-        return String::from_str(alloc, "a text is no function file\n");
-    }
-    match compared(alloc, case, Source { model, units }) {
-        Ok(out) => Ok(out),
-        Err(NoMemory) => Err(AllocError),
+    match source_in(alloc, case)? {
+        Sourced::Told(told) => Ok(told),
+        Sourced::Source(source) => match compared(alloc, case, source) {
+            Ok(out) => Ok(out),
+            Err(NoMemory) => Err(AllocError),
+        },
     }
 }

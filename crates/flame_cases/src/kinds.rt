@@ -38,7 +38,7 @@ pub(crate) enum Kind {
     Outcome,
     /// The codes of `flame_program::Program`
     Code,
-    /// `flame_core::iterate`
+    /// `flame_core::PlainRunner`
     Iteration,
     /// `flame_machine::run`
     Machine,
@@ -102,7 +102,7 @@ pub(crate) fn answer(
         Kind::Names => answer_names(alloc, case),
         Kind::Outcome => answer_outcome(alloc, case),
         Kind::Code => answer_code(alloc, case),
-        Kind::Iteration => answer_iteration(alloc, case),
+        Kind::Iteration => answer_iteration(rt, alloc, case),
         Kind::Machine => answer_machine(alloc, case),
         Kind::Plan => answer_plan(alloc, case),
         Kind::Condition => answer_conditions(alloc, case),

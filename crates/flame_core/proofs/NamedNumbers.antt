@@ -3,6 +3,7 @@ use Rattle.std.proofs.Common.{◌≡◌, ℕ, zero, suc, ◌<◌, List, [], ◌�
 use Rattle.std.specs.Prelude.{ℤ, option_map, slice_get, slice_index_or}
 use Rattle.std.specs.List.{All, AllZip}
 use Rattle.std.specs.Str.{bytes_eq}
+use Rattle.std.proofs.lemmas.Option.{slice_get_within}
 use Rattle.flame_spec.specs.declared.models.Input.{Input}
 use Rattle.flame_spec.specs.declared.models.MessageType.{MessageType}
 use Rattle.flame_spec.specs.declared.models.Model.{Model}
@@ -22,17 +23,6 @@ found-there : (messages : List MessageType) (name : List ℕ) (found : ℕ × Me
 found-there messages name found is =
     let at = numbered-at (λ message. bytes_eq message.name name) 0 messages found.0 found.1 is in
     ap (slice_get messages) (at.number ∙ omega arith) ∙ at.there
-
-get-within : {X : Type 0} (xs : List X) (k : ℕ) (x : X) → slice_get xs k ≡ Some x → k < length xs
-get-within [] k x at = absurd cc
-get-within (y ∷ xs) zero x at = omega arith
-get-within (y ∷ xs) (suc k) x at = omega (arith, get-within xs k x at)
-
-pub zip-length : {X Y : Type 0} (R : X → Y → Type 0) (xs : List X) (ys : List Y) → AllZip R xs ys → length xs ≡ length ys
-zip-length R [] [] all = refl
-zip-length R [] (y ∷ ys) all = absurd all
-zip-length R (x ∷ xs) [] all = absurd all
-zip-length R (x ∷ xs) (y ∷ ys) all = ap suc (zip-length R xs ys all.1)
 
 module _ (model : Model) (boards : List (List (List ℤ))) where
   board-at : (found : Option (ℕ × MessageType)) (number : ℕ) → option_map (λ f. f.0) found ≡ Some number
@@ -87,7 +77,7 @@ number-within : (model : Model) (found : Option (ℕ × MessageType)) (number : 
 number-within model None number name named is = absurd cc
 number-within model (Some found) number name named is =
     let same : found.0 ≡ number = cc in
-    get-within model.messages number found.1 (ap (slice_get model.messages) (sym same) ∙ found-there model.messages name found named)
+    slice_get_within model.messages number found.1 (ap (slice_get model.messages) (sym same) ∙ found-there model.messages name found named)
 
 pub numbers-within : (model : Model) (inputs : List Input) (numbers : List ℕ)
     → map (numbered_input model) inputs ≡ map Some numbers

@@ -17,7 +17,7 @@ use Rattle.flame_world.specs.Fields.{Field, changed_pool, joined, state_place}
 use Rattle.flame_world.specs.Iterations.{Round, moved, outcome_in, resting, staying, step, step_at, taking, unless_faulted}
 use Rattle.flame_world.specs.WorldFits.{AreWide, FitMessages, FitsField}
 use Rattle.flame_body.specs.FunctionBodies.{input_width}
-use Rattle.flame_agent.specs.FunctionFits.{FitInputs}
+use Rattle.flame_agent.specs.FunctionFits.{AreBoardsFor}
 use Rattle.flame_program.proofs.Acceptances.{variables-found}
 use Rattle.flame_core.proofs.NamedNumbers.{named-numbers, named-wide}
 use Rattle.flame_world.proofs.Eachs.{each_filter, each_index, zip_at}
@@ -212,9 +212,9 @@ pub frozen-wide : (model : Model) (place : Place) (numbers : List ℕ) (boards r
     → FitMessages model boards
     → map (λ (input : Input). option_map (λ (found : ℕ × MessageType). found.0) (message_named model.messages input.message)) place.function.inputs ≡ map Some numbers
     → read ≡ map (λ message. slice_index_or boards message []) numbers
-    → FitInputs model place.function.inputs read
+    → AreBoardsFor model place.function.inputs read
 frozen-wide model place numbers boards read fits inputs is =
-    subst (λ (lists : List (List (List ℤ))). FitInputs model place.function.inputs lists)
+    subst (λ (lists : List (List (List ℤ))). AreBoardsFor model place.function.inputs lists)
     (sym (is ∙ named-numbers model boards place.function.inputs numbers inputs))
     (named-wide model boards (input_width model) place.function.inputs numbers fits inputs
     (λ input found named. ap width (variables-found 0 model.messages input.message found named)))

@@ -1,5 +1,5 @@
 -- Runs of agents one after another, up to the first that faults.
-use Rattle.std.proofs.Common.{◌≡◌, ℕ, zero, suc, ◌+◌, ◌<◌, List, [], ◌∷◌, ◌++◌, length, take, get_or, Option, Some, None, refl, sym, ap, ◌∙◌, arith}
+use Rattle.std.proofs.Common.{◌≡◌, ℕ, zero, suc, ◌+◌, ◌<◌, List, [], ◌∷◌, ◌++◌, length, take, get_or, Option, Some, None, refl, sym, ap, ◌∙◌, arith, append-nil, append_assoc}
 use Rattle.std.specs.List.{filter_map, flat_map, cons_option}
 use Rattle.std.proofs.lemmas.List.{take_more}
 use Rattle.flame_spec.specs.Lists.{first}
@@ -13,18 +13,10 @@ filter_map-more f (y ∷ xs) x =
       | Some z ↦ (λ i. z ∷ filter_map-more f xs x i)
     ]
 
-append-assoc : {X : Type 0} (xs ys zs : List X) → xs ++ (ys ++ zs) ≡ (xs ++ ys) ++ zs
-append-assoc [] ys zs = refl
-append-assoc (x ∷ xs) ys zs = λ i. x ∷ append-assoc xs ys zs i
-
-append-none : {X : Type 0} (xs : List X) → xs ++ [] ≡ xs
-append-none [] = refl
-append-none (x ∷ xs) = λ i. x ∷ append-none xs i
-
 pub flat_map-more : {X Y : Type 0} (f : X → List Y) (xs : List X) (x : X)
     → flat_map f (xs ++ x ∷ []) ≡ flat_map f xs ++ f x
-flat_map-more f [] x = append-none (f x)
-flat_map-more f (y ∷ xs) x = ap (λ ys. f y ++ ys) (flat_map-more f xs x) ∙ append-assoc (f y) (flat_map f xs) (f x)
+flat_map-more f [] x = append-nil (f x)
+flat_map-more f (y ∷ xs) x = ap (λ ys. f y ++ ys) (flat_map-more f xs x) ∙ sym (append_assoc (f y) (flat_map f xs) (f x))
 
 -- with one element more
 pub filter_map-next : {X Y : Type 0} (f : X → Option Y) (xs : List X) (place : ℕ) (x : X)

@@ -1,4 +1,7 @@
--- The words that only bodies and proofs use; what runners promise is said in flame_world's words.
+-- Each definition's comment ends with its source in brackets:
+-- libmboard: boards
+-- own: a choice of this project, or a word that a definition is made of
+-- ---- the words that only bodies and proofs use; what runners promise is said in flame_world's words
 pub mod RunFields
 pub mod TakerRuns
 pub mod RunSteps

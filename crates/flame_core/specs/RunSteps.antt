@@ -4,11 +4,11 @@ use Rattle.flame_spec.specs.declared.models.Model.{Model}
 use Rattle.flame_spec.specs.Choice.{functions_out}
 use Rattle.flame_spec.specs.Columns.{width}
 use Rattle.flame_spec.specs.Functions.{Place, functions}
-use Rattle.flame_sense.specs.RangeLaws.{Each}
-use Rattle.flame_agent.specs.FunctionFits.{FitInputs}
+use Rattle.flame_agent.specs.FunctionFits.{AreBoardsFor}
 use Rattle.flame_world.specs.declared.faults.SimFault.{SimFault}
 use Rattle.flame_world.specs.Fields.{Field}
 use Rattle.flame_world.specs.Iterations.{Round}
+use Rattle.flame_world.specs.WorldFits.{AreWide}
 use Rattle.flame_route.specs.declared.routes.Route.{Route}
 use Rattle.flame_route.specs.ModelRoutes.{IsRouteOf}
 use Rattle.flame_core.specs.declared.rounds.Round as run
@@ -30,7 +30,7 @@ abbrev pub result_of : Stepped → Result Field SimFault
 result_of (On field) = Ok (field_of field)
 result_of (Faulted fault) = Err fault
 
--- the function of this number goes by this route, in its turn [FLAME User Manual]
+-- the function of this number goes by this route, in its turn [own]
 pub record GoesBy (model : Model) (function : ℕ) (route : Route) : Type 0 where
   pub place : Place
   pub there : slice_get (functions model) function ≡ Some place
@@ -43,11 +43,11 @@ pub record HasRoute (pools : List (List (List (List ℤ)))) (route : Route) : Ty
   pub to : route.to < length (slice_index_or pools route.agent [])
 
 -- the function of this number has what it reads: agents, constants and boards of its inputs as wide as declared [own]
-pub record FitsInputs
+pub record FitsRun
     (model : Model) (function : ℕ) (constants : List ℤ) (boards : List (List (List ℤ))) (agents : List (List ℤ)) :
     Type 0 where
   pub place : Place
   pub there : slice_get (functions model) function ≡ Some place
-  pub memories : Each (λ memory. length memory ≡ width place.type.memory) agents
+  pub memories : AreWide (width place.type.memory) agents
   pub known : length constants ≡ length model.constants
-  pub wide : FitInputs model place.function.inputs boards
+  pub wide : AreBoardsFor model place.function.inputs boards

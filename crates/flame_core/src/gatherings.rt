@@ -1,13 +1,13 @@
 //! Rows that come together.
 
 ghost use Rattle.std.specs.Prelude.{◌≡◌, [], ◌∷◌, IfOk, OnOk};
-ghost use Rattle.flame_rows.specs.Bags.{merge};
+ghost use Rattle.flame_rows.specs.Bags.{ascending, merge};
 ghost use Rattle.flame_core.specs.RunFields.{bag_of};
 
 use flame_rows::{Bag, NoMemory, Row};
 use std::alloc::Global;
 
-/// Rows that come together, in any order. They are put in order once, when their bag is taken.
+/// Rows that come together, in any order. They are put in order when their bag is taken.
 #[derive(Debug, Drop)]
 pub(crate) struct Gathering {
     pub rows: Vec<Row>,
@@ -23,9 +23,10 @@ impl Gathering {
         }
     }
 
-    /// The rows of a bag.
+    /// The rows of a bag, which stand in ascending order already.
     pub(crate) fn of(bag: Bag) -> Gathering
-        ensures { bag_of result ≡ bag }
+        ensures bag { bag_of result ≡ bag }
+        ensures rows { bag_of result ≡ ascending bag }
     {
         Gathering {
             rows: bag.into_rows(),

@@ -2,7 +2,7 @@
 
 ghost use Rattle.std.specs.Prelude.{◌≡◌, ◌<◌, [], IfOk, length, map};
 ghost use Rattle.std.specs.List.{zip, flat_map};
-ghost use Rattle.flame_rows.specs.Bags.{merge};
+ghost use Rattle.flame_rows.specs.Bags.{ascending, merge};
 ghost use Rattle.flame_spec.specs.ModelOrder.{model_order};
 ghost use Rattle.flame_world.specs.Fields.{changed, opening, gathered};
 ghost use Rattle.flame_world.specs.Iterations.{iteration as meant, steps};
@@ -23,7 +23,7 @@ use flame_spec::{AgentType, MessageType};
 use flame_world::{Boards, Turn, World};
 use std::alloc::Global;
 
-/// A pool for each of these states, in which these agents rest in the state of this number and none elsewhere.
+/// A pool for each of these states: these agents rest in that of this number, and none in the others.
 fn begun(
     alloc: Global,
     states: &[Seq<u32>],
@@ -31,7 +31,7 @@ fn begun(
     agents: Bag,
 ) -> Result<Vec<Gathering>, NoMemory>
     requires { start < length states.now }
-    ensures { IfOk result (λ pools. bags_of pools ≡ changed start (λ none. agents) (map (λ state. []) states.now)) }
+    ensures { IfOk result (λ pools. bags_of pools ≡ changed start (λ none. ascending agents) (map (λ state. []) states.now)) }
 {
     let mut pools = Vec::new(alloc);
     for _state in states {
@@ -176,8 +176,9 @@ fn closed(alloc: Global, constants: Row, field: Field) -> Result<(World, Boards)
     Ok((world, boards))
 }
 
-/// The iteration of this number of a world, on the caller's thread: what `PlainRunner` gives, for callers that have none
-/// to hand.
+/// The iteration of this number of a world, on the caller's thread: what `PlainRunner` gives, for callers that have no
+/// runtime. The world has a value for each constant of the model, and for each agent type agents as wide as it declares;
+/// so has the world at the end (`flame_world::laws::worlds_keep_their_widths`).
 pub fn iterate(
     alloc: Global,
     program: &Program,

@@ -12,6 +12,6 @@ pub(crate) struct Round<'a> {
     pub constants: &'a Row,
     /// The number of the iteration.
     pub iteration: i32,
-    /// The fuel of each agent.
+    /// The fuel of each call of a function.
     pub fuel: u32,
 }

@@ -17,10 +17,11 @@ pub trait Runner {
     /// The runner may be run.
     ghost ready: { Self → Type 0 };
 
-    /// The iteration of this number of a world, with this fuel for each agent (FLAME User Manual): the world and the boards
-    /// at its end, or its fault, which is that of the first function in model order of which an agent faults, at the least
-    /// of its agents that do. The world has a value for each constant of the model, and for each agent type agents as wide
-    /// as it declares; so has the world at the end.
+    /// The iteration of this number of a world, with this fuel for each call of a function (FLAME User Manual): the world and
+    /// the boards at its end, or its fault, which is that of the first function in model order of which an agent faults, at
+    /// the least of its agents that do. The world has a value for each constant of the model, and for each agent type
+    /// agents as wide as it declares; so has the world at the end (`flame_world::laws::worlds_keep_their_widths`). The
+    /// runtime may be shared by threads.
     fn iterate<R: Threads + Wait + Sync>(
         &mut self,
         rt: &R,

@@ -14,7 +14,7 @@ ghost use Rattle.flame_world.specs.InputBoards.{boards_named};
 ghost use Rattle.flame_world.specs.Iterations.{step as meant, taking, staying};
 ghost use Rattle.flame_world.specs.WorldFits.{FitsField};
 ghost use Rattle.flame_core.specs.RunFields.{bags_of, board_bag, field_of, pools_of};
-ghost use Rattle.flame_core.specs.RunSteps.{GoesBy, HasRoute, FitsInputs, result_of, round_of};
+ghost use Rattle.flame_core.specs.RunSteps.{GoesBy, HasRoute, FitsRun, result_of, round_of};
 ghost use Rattle.flame_core.specs.TakerRuns.{Leaves};
 
 use crate::fields::{Field, arrive, bear, exchange, freeze, send};
@@ -95,7 +95,7 @@ fn run(
     takers: &Bag,
     boards: Vec<Arc<Frozen>>,
 ) -> Result<Ran, NoMemory>
-    requires fits { FitsInputs round.now.program.now.model function round.now.constants.now
+    requires fits { FitsRun round.now.program.now.model function round.now.constants.now
         (map arc_value boards.items) takers.now }
     ensures { IfOk result (λ ran. (all : List (List (List ℤ)))
         → map arc_value boards.items

@@ -1,35 +1,8 @@
 -- Two lists, place by place.
-use Rattle.std.proofs.Common.{◌≡◌, ℕ, zero, suc, ◌+◌, ◌<◌, List, [], ◌∷◌, ◌++◌, map, take, length, Some, refl, sym, ap, ◌∙◌, subst, arith}
+use Rattle.std.proofs.Common.{◌≡◌, ℕ, zero, suc, ◌<◌, List, [], ◌∷◌, map, length, Some, refl, sym, ap, ◌∙◌, subst}
 use Rattle.std.specs.Prelude.{slice_get, slice_index_or, option_map}
 use Rattle.std.specs.List.{AllZip}
 use Rattle.std.proofs.lemmas.Option.{slice_get-map, slice_get_read}
-
--- one pair more at the end
-pub zip-more :
-    {A B : Type 0} (P : A → B → Type 0) (xs : List A) (ys : List B) (x : A) (y : B)
-    → AllZip P xs ys → P x y → AllZip P (xs ++ x ∷ []) (ys ++ y ∷ [])
-zip-more P [] [] x y all one = (one, all)
-zip-more P [] (b ∷ ys) x y all one = absurd (all)
-zip-more P (a ∷ xs) [] x y all one = absurd (all)
-zip-more P (a ∷ xs) (b ∷ ys) x y all one = (all.0, zip-more P xs ys x y all.1 one)
-
--- one item more at the end of what is taken
-pub take-more :
-    {A : Type 0} (xs : List A) (k : ℕ) (x : A)
-    → slice_get xs k ≡ Some x → take (suc k) xs ≡ take k xs ++ x ∷ []
-take-more [] k x at = absurd (cc)
-take-more (y ∷ ys) zero x at = let same : y ≡ x = cc in ap (λ z. z ∷ []) same
-take-more (y ∷ ys) (suc k) x at = ap (λ zs. y ∷ zs) (take-more ys k x at)
-
--- one pair more, where the first list is taken from the front
-pub zip-taken :
-    {A B : Type 0} (P : A → B → Type 0) (xs : List A) (k : ℕ) (ys : List B) (x : A) (y : B)
-    → slice_get xs k ≡ Some x
-    → AllZip P (take k xs) ys → P x y → AllZip P (take (k + 1) xs) (ys ++ y ∷ [])
-zip-taken P xs k ys x y at all one =
-    let next : k + 1 ≡ suc k = omega arith in
-    subst (λ zs. AllZip P zs (ys ++ y ∷ [])) (sym (ap (λ n. take n xs) next ∙ take-more xs k x at))
-    (zip-more P (take k xs) ys x y all one)
 
 -- what holds of the items in one place
 pub zip-at :

@@ -28,7 +28,7 @@ abbrev pub ReadMessages : Model → Type 0
 ReadMessages model =
     (function : ℕ) (place : Place) → slice_get (functions model) function ≡ Some place → ReadsEach model place.function
 
--- the route of the function of this number, which stands in this place: its type, the states that it leaves and enters
+-- the route of the function that stands in this place, but for its turn: its type, the states that it leaves and enters
 -- among those of the type, and the message that each input reads [FLAME User Manual]
 pub record IsRouteOf (model : Model) (place : Place) (route : Route) : Type 0 where
   pub agent : route.agent ≡ place.agent
@@ -38,7 +38,7 @@ pub record IsRouteOf (model : Model) (place : Place) (route : Route) : Type 0 wh
       map (λ input. option_map (λ found. found.0) (message_named model.messages input.message)) place.function.inputs
       ≡ map Some route.inputs
 
--- for each state of a type its functions out of it, by number [FLAME User Manual]
+-- for each state of each type the functions out of it, by number [own]
 abbrev pub AreLeaving : Model → List (List (List ℕ)) → Type 0
 AreLeaving model leaving =
     (length leaving ≡ length model.agents)
@@ -47,7 +47,7 @@ AreLeaving model leaving =
     → slice_get leaving agent ≡ Some out
     → out ≡ map (functions_out model agent) (states type.functions))
 
--- each function stands in its turn among those out of the state that it leaves [FLAME User Manual]
+-- each function stands in its turn among those out of the state that it leaves [own]
 abbrev pub TakesTurns : Model → List Route → Type 0
 TakesTurns model routes =
     (function : ℕ) (place : Place) (route : Route)
@@ -55,7 +55,7 @@ TakesTurns model routes =
     → slice_get routes function ≡ Some route
     → slice_get (functions_out model place.agent place.function.current) route.turn ≡ Some function
 
--- the place of a type's start state among its states: the first that no function enters [FLAME User Manual]
+-- the place of a type's start state among its states: the first that no function enters [own]
 abbrev pub start_place : AgentType → ℕ
 start_place type = position_or_len (λ state. not (is_entered type.functions state)) (states type.functions)
 

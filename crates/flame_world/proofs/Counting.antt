@@ -8,7 +8,7 @@ use Rattle.std.specs.declared.cmp.Ordering.{Ordering}
 use Rattle.std.specs.Ordering.{is_gt}
 use Rattle.flame_rows.specs.Order.{row_order}
 use Rattle.flame_rows.specs.Sorted.{with_one, sorted_by}
-use Rattle.flame_rows.specs.Bags.{merge}
+use Rattle.flame_rows.specs.Bags.{ascending, merge}
 use Rattle.flame_spec.specs.declared.models.AgentType.{AgentType}
 use Rattle.flame_spec.specs.declared.models.Model.{Model}
 use Rattle.flame_spec.specs.Accepted.{has_one_start}
@@ -17,9 +17,9 @@ use Rattle.flame_spec.specs.Functions.{Place, functions}
 use Rattle.flame_spec.specs.States.{states, is_entered, start_states}
 use Rattle.flame_world.specs.declared.faults.SimFault.{SimFault}
 use Rattle.flame_world.specs.AgentRuns.{survivors}
-use Rattle.flame_world.specs.Fields.{Field, begun, opening, state_place, pool_in, changed, changed_pool, gathered}
+use Rattle.flame_world.specs.Fields.{Field, HasPools, begun, opening, state_place, pool_in, changed, changed_pool, gathered}
 use Rattle.flame_world.specs.Iterations.{Round, resting, taking, staying, outcome_in, moved, unless_faulted, step_at, step}
-use Rattle.flame_world.specs.CountLaws.{count_in, resting_in, HasPools, AllAgentsBegin, SurvivorsReplaceTakers, SurvivorsAndBirthsRemain}
+use Rattle.flame_world.specs.CountLaws.{count_in, resting_in, AllAgentsBegin, SurvivorsReplaceTakers, SurvivorsAndBirthsRemain}
 use Rattle.flame_world.proofs.Eachs.{zip_at, zip_changed}
 use Rattle.flame_world.proofs.NextStates.{next_state, function_at}
 use Rattle.flame_world.proofs.RowsKept.{place_type}
@@ -135,9 +135,9 @@ all_begin (type ∷ types) (bag ∷ bags) one long =
     let both = and_true (has_one_start type) (list_all has_one_start types) one in
     let started = eqb-true (length (start_states type.functions)) 1 both.0 in
     let here : total length (begun type bag) ≡ length bag =
-    agents_of-begun (is_entered type.functions) bag (states type.functions)
-    ∙ ap (λ n. n * length bag) started
-    ∙ omega arith in
+    agents_of-begun (is_entered type.functions) (ascending bag) (states type.functions)
+    ∙ ap (λ n. n * length (ascending bag)) started
+    ∙ omega (arith, length-sorted_by row_order bag) in
     let rest = all_begin types bags both.1 (omega (arith, long)) in
     λ j. here j + rest j
 
@@ -151,7 +151,7 @@ pooled_begun [] [] long = tt
 pooled_begun [] (bag ∷ bags) long = absurd (omega (arith, long))
 pooled_begun (type ∷ types) [] long = absurd (omega (arith, long))
 pooled_begun (type ∷ types) (bag ∷ bags) long = (
-  length-map (λ state. cond (is_entered type.functions state) [] bag) (states type.functions),
+  length-map (λ state. cond (is_entered type.functions state) [] (ascending bag)) (states type.functions),
   pooled_begun types bags (omega (arith, long)),
 )
 

@@ -4,7 +4,7 @@ use Rattle.std.specs.Prelude.{ℤ, ◌==◌, slice_get, slice_index_or}
 use Rattle.std.specs.List.{filter, AllZip, zip, flat_map}
 use Rattle.std.proofs.lemmas.Bool.{eqb-true}
 use Rattle.flame_rows.specs.Order.{row_order}
-use Rattle.flame_rows.specs.Bags.{merge}
+use Rattle.flame_rows.specs.Bags.{ascending, merge}
 use Rattle.flame_spec.specs.declared.models.Model.{Model}
 use Rattle.flame_spec.specs.declared.models.AgentType.{AgentType}
 use Rattle.flame_spec.specs.declared.models.MessageType.{MessageType}
@@ -266,8 +266,11 @@ pools_begun IsRow [] [] all = tt
 pools_begun IsRow [] (bag ∷ bags) all = absurd all
 pools_begun IsRow (type ∷ types) [] all = absurd all
 pools_begun IsRow (type ∷ types) (bag ∷ bags) all = (
-  mapped (Each (IsRow (width type.memory))) (λ state. cond (is_entered type.functions state) [] bag)
-      (λ state. elim (is_entered type.functions state) as (λ t. Each (IsRow (width type.memory)) (cond t [] bag)) [ true ↦ tt | false ↦ all.0 ])
+  mapped (Each (IsRow (width type.memory))) (λ state. cond (is_entered type.functions state) [] (ascending bag))
+      (λ state. elim (is_entered type.functions state) as (λ t. Each (IsRow (width type.memory)) (cond t [] (ascending bag))) [
+        | true ↦ tt
+        | false ↦ each_sorted (IsRow (width type.memory)) row_order bag all.0
+      ])
       (states type.functions),
   pools_begun IsRow types bags all.1,
 )

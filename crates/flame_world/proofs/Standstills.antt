@@ -4,8 +4,8 @@ use Rattle.std.specs.Prelude.{ℤ, slice_get}
 use Rattle.std.specs.List.{zip, flat_map}
 use Rattle.flame_rows.specs.Order.{row_order}
 use Rattle.flame_rows.specs.Sorted.{IsAscending}
-use Rattle.flame_rows.specs.Bags.{merge}
-use Rattle.flame_rows.proofs.BagLaws.{empty_is_unit}
+use Rattle.flame_rows.specs.Bags.{ascending, merge}
+use Rattle.flame_rows.proofs.BagLaws.{ascending-IsAscending, empty_is_unit}
 use Rattle.flame_spec.specs.declared.models.AgentType.{AgentType}
 use Rattle.flame_spec.specs.declared.models.Function.{Function}
 use Rattle.flame_spec.specs.declared.outcomes.Source.{Source}
@@ -76,7 +76,7 @@ no_type_has_any i type types none = split type.functions none
     split [] rest = (refl, rest)
     split (function ∷ own) some = absurd cc
 
-begun-none : (type : AgentType) (agents : List (List ℤ)) → type.functions ≡ [] → begun type agents ≡ agents ∷ []
+begun-none : (type : AgentType) (agents : List (List ℤ)) → type.functions ≡ [] → begun type agents ≡ ascending agents ∷ []
 begun-none type agents none = ap (λ own. begun (record type { functions = own }) agents) none
 
 -- each type's agents are those of its one state
@@ -94,7 +94,7 @@ back_again i (type ∷ types) (bag ∷ bags) none long up =
     let own = no_type_has_any i type types none in
     let here : merge (flat_map (λ pool. pool) (begun type bag)) [] ≡ bag =
     ap (λ pools. merge (flat_map (λ pool. pool) pools) []) (begun-none type bag own.0)
-    ∙ ap (λ rows. merge rows []) (append-nil bag)
+    ∙ ap (λ rows. merge rows []) (append-nil (ascending bag) ∙ ascending-IsAscending bag up.0)
     ∙ (empty_is_unit bag up.0).1 in
     (λ j. here j ∷ back_again (i + 1) types bags own.1 (omega (arith, long)) up.1 j)
 

@@ -26,10 +26,10 @@ use Rattle.flame_world.specs.declared.turns.Turn.TheVariants.{Done}
 use Rattle.flame_world.specs.declared.worlds.World.{World}
 use Rattle.flame_world.specs.declared.worlds.Boards.{Boards}
 use Rattle.flame_world.specs.AgentRuns.{kept, born_by, survivors, born_from, births_of}
-use Rattle.flame_world.specs.Fields.{Field, opening, joined_from, joined, gathered}
+use Rattle.flame_world.specs.Fields.{Field, HasPools, opening, joined_from, joined, gathered}
 use Rattle.flame_world.specs.Iterations.{Round, taking, outcome_in, moved, step_at, step, and_on, steps}
 use Rattle.flame_world.specs.Iterations.{turn_of, round_of}
-use Rattle.flame_world.specs.CountLaws.{count_in, resting_in, HasPools}
+use Rattle.flame_world.specs.CountLaws.{count_in, resting_in}
 use Rattle.flame_world.specs.CountLaws.{removed_at, added_at, counted_after, counted_over}
 use Rattle.flame_world.specs.CountLaws.{SurvivorsAndBirthsAreAll}
 use Rattle.flame_world.proofs.Eachs.{all_each, each_append}

@@ -15,8 +15,7 @@ use Rattle.flame_sense.specs.RangeLaws.{IfAny}
 use Rattle.flame_sense.proofs.Leavings.{rows_have_widths}
 use Rattle.flame_world.specs.declared.worlds.World.{World}
 use Rattle.flame_world.specs.declared.worlds.Boards.{Boards}
-use Rattle.flame_world.specs.CountLaws.{HasPools}
-use Rattle.flame_world.specs.Fields.{Field, opening}
+use Rattle.flame_world.specs.Fields.{Field, HasPools, opening}
 use Rattle.flame_world.specs.Iterations.{Round, outcome_in, round_of}
 use Rattle.flame_world.specs.WorldFits.{FitMessages, FitsModel, FitsField, FittingWorldsOpen, FittingFieldsStay, FittingWorldsStay}
 use Rattle.flame_world.proofs.Eachs.{all_each, each_also}

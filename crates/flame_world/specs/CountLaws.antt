@@ -1,20 +1,19 @@
 -- How many agents there are.
 use Rattle.std.specs.Prelude.{◌≡◌, ℕ, ◌+◌, ◌-◌, ◌≤◌, ℤ, List, [], ◌∷◌, Some, Result, Ok, Err, length, slice_get}
 use Rattle.std.specs.Prelude.{is_none, IsTrue}
-use Rattle.std.specs.List.{AllZip, filter, flat_map, list_all}
+use Rattle.std.specs.List.{filter, flat_map, list_all}
 use Rattle.std.specs.Option.{option_map_or}
 use Rattle.flame_spec.specs.declared.models.Model.{Model}
 use Rattle.flame_spec.specs.declared.outcomes.Source.{Source}
 use Rattle.flame_spec.specs.Accepted.{has_one_start}
 use Rattle.flame_spec.specs.Functions.{Place, functions}
 use Rattle.flame_spec.specs.ModelOrder.{model_order}
-use Rattle.flame_spec.specs.States.{states}
 use Rattle.flame_world.specs.declared.faults.SimFault.{SimFault}
 use Rattle.flame_world.specs.declared.turns.Turn.TheVariants.{Done}
 use Rattle.flame_world.specs.declared.worlds.World.{World}
 use Rattle.flame_world.specs.declared.worlds.Boards.{Boards}
 use Rattle.flame_world.specs.AgentRuns.{kept, survivors, born_from}
-use Rattle.flame_world.specs.Fields.{Field, opening, gathered}
+use Rattle.flame_world.specs.Fields.{Field, HasPools, opening, gathered}
 use Rattle.flame_world.specs.Iterations.{Round, taking, outcome_in, step, round_of, iteration}
 
 -- ---- step by step
@@ -26,10 +25,6 @@ count_in bags = length (flat_map (λ bag. bag) bags)
 -- the number of agents that rest in all states of all types [own]
 abbrev pub resting_in : Field → ℕ
 resting_in field = length (flat_map (λ pools. flat_map (λ pool. pool) pools) field.pools)
-
--- each type has a pool for each of its states [own]
-abbrev pub HasPools : Model → Field → Type 0
-HasPools model field = AllZip (λ type pools. length pools ≡ length (states type.functions)) model.agents field.pools
 
 -- where each type has one start state, an iteration begins with the agents of the world, each once, and with a pool for
 -- each state [FLAME User Manual]

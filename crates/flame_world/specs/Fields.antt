@@ -1,8 +1,8 @@
 -- Fields: where agents, births and messages are between two functions of an iteration.
-use Rattle.std.specs.Prelude.{ℕ, zero, suc, ◌+◌, ℤ, List, [], ◌∷◌, map, slice_index_or, if◌then◌else◌}
-use Rattle.std.specs.List.{position_or_len, zip, flat_map}
+use Rattle.std.specs.Prelude.{◌≡◌, ℕ, zero, suc, ◌+◌, ℤ, List, [], ◌∷◌, map, length, slice_index_or, if◌then◌else◌}
+use Rattle.std.specs.List.{AllZip, position_or_len, zip, flat_map}
 use Rattle.std.specs.Str.{bytes_eq}
-use Rattle.flame_rows.specs.Bags.{merge}
+use Rattle.flame_rows.specs.Bags.{ascending, merge}
 use Rattle.flame_spec.specs.declared.models.Model.{Model}
 use Rattle.flame_spec.specs.declared.models.AgentType.{AgentType}
 use Rattle.flame_spec.specs.States.{states, is_entered}
@@ -17,9 +17,11 @@ pub record Field : Type 0 where
 
 -- ---- at the beginning
 
--- all agents of a type rest in its start state: the one that no function enters [FLAME User Manual]
+-- the bag of all agents of a type rests in its start state, the one that no function enters; an accepted model has one
+-- for each type [FLAME User Manual]
 abbrev pub begun : AgentType → List (List ℤ) → List (List (List ℤ))
-begun type agents = map (λ state. if is_entered type.functions state then [] else agents) (states type.functions)
+begun type agents =
+    map (λ state. if is_entered type.functions state then [] else ascending agents) (states type.functions)
 
 -- an iteration begins: agents rest in their start states, births and boards are empty [FLAME User Manual]
 abbrev pub opening : Model → List (List (List ℤ)) → Field
@@ -31,11 +33,15 @@ opening model agents = record {
 
 -- ---- pools
 
+-- each type has a pool for each of its states [own]
+abbrev pub HasPools : Model → Field → Type 0
+HasPools model field = AllZip (λ type pools. length pools ≡ length (states type.functions)) model.agents field.pools
+
 -- the place of a state among the states of its type [own]
 abbrev pub state_place : AgentType → List ℕ → ℕ
 state_place type state = position_or_len (λ other. bytes_eq other state) (states type.functions)
 
--- the agents of a type that rest in a state [FLAME User Manual]
+-- the agents of a type that rest in a state [FLAME User Manual; no such state: own]
 abbrev pub pool_in : List (List (List (List ℤ))) → ℕ → ℕ → List (List ℤ)
 pool_in pools agent state = slice_index_or (slice_index_or pools agent []) state []
 
@@ -63,6 +69,6 @@ joined rows bags = joined_from 0 rows bags
 
 -- ---- at the end
 
--- the agents of each type: those in all its states, and its births [FLAME User Manual]
+-- the agents of each type: those in all its states, and its births [FLAME User Manual; when births act: own]
 abbrev pub gathered : Field → List (List (List ℤ))
 gathered field = map (λ (pools, born). merge (flat_map (λ pool. pool) pools) born) (zip field.pools field.born)

@@ -1,27 +1,24 @@
 -- What holds of every iteration.
-use Rattle.std.specs.Prelude.{◌≡◌, ℕ, ℤ, List, [], map, Some, Ok, length, slice_get}
+use Rattle.std.specs.Prelude.{◌≡◌, ◌⊎◌, ℕ, ℤ, List, [], map, Some, Ok, length, slice_get}
 use Rattle.std.specs.List.{AllZip}
 use Rattle.flame_rows.specs.Order.{row_order}
 use Rattle.flame_rows.specs.Sorted.{IsAscending}
 use Rattle.flame_rows.specs.Bags.{count_of}
 use Rattle.flame_spec.specs.declared.outcomes.Source.{Source}
 use Rattle.flame_spec.specs.Functions.{Place, functions}
-use Rattle.flame_spec.specs.Choice.{choice}
 use Rattle.flame_sense.specs.RangeLaws.{Each}
 use Rattle.flame_world.specs.declared.turns.Turn.TheVariants.{Done}
 use Rattle.flame_world.specs.declared.worlds.World.{World}
 use Rattle.flame_world.specs.Fields.{Field}
-use Rattle.flame_world.specs.Iterations.{Round, taking, outcome_in, step, iteration}
+use Rattle.flame_world.specs.Iterations.{Round, resting, taking, outcome_in, step, iteration}
 
 -- ---- what an iteration depends on
 
--- two bags have each row equally often [own]
-pub record AreAlike (bag other : List (List ℤ)) : Type 0 where
-  pub one : IsAscending row_order bag
-  pub two : IsAscending row_order other
-  pub counts : (row : List ℤ) → count_of bag row ≡ count_of other row
+-- two lists have each row equally often, in whatever order [own]
+abbrev pub AreAlike : List (List ℤ) → List (List ℤ) → Type 0
+AreAlike rows others = (row : List ℤ) → count_of rows row ≡ count_of others row
 
--- the constants are the same, and each type has the same agents, each equally often [own]
+-- the constants are the same, and each type has the same agents, each equally often, in whatever order [own]
 pub record HaveSameAgents (world other : World) : Type 0 where
   pub constants : world.constants ≡ other.constants
   pub agents : AllZip AreAlike world.agents other.agents
@@ -33,14 +30,20 @@ AgentsHaveNoOrder =
     → HaveSameAgents world other
     → iteration source world number fuel ≡ iteration source other number fuel
 
--- agents with equal memory in one state choose the same function, and have equal outcomes [FLAME User Manual]
+-- of the agents with equal memory that rest in a state, all take the function or none does [FLAME User Manual]
+abbrev pub EqualAgentsChooseAlike : Type 0
+EqualAgentsChooseAlike =
+    (round : Round) (function : ℕ) (place : Place) (field : Field) (memory : List ℤ)
+    → (count_of (taking round function place field) memory ≡ count_of (resting place field) memory)
+    ⊎ (count_of (taking round function place field) memory ≡ 0)
+
+-- the outcome of a function for an agent depends on its memory and on the boards alone: equal agents fare alike, wherever
+-- others rest and whatever is born [FLAME User Manual]
 abbrev pub EqualAgentsFareAlike : Type 0
 EqualAgentsFareAlike =
-    (round : Round) (agent : ℕ) (state : List ℕ) (function : ℕ) (field : Field) (memory other : List ℤ)
-    → memory ≡ other
-    → (choice round.source.model agent state memory round.iteration
-    ≡ choice round.source.model agent state other round.iteration)
-    × (outcome_in round function field memory ≡ outcome_in round function field other)
+    (round : Round) (function : ℕ) (field other : Field) (memory : List ℤ)
+    → field.boards ≡ other.boards
+    → outcome_in round function field memory ≡ outcome_in round function other memory
 
 -- ---- where nothing happens
 

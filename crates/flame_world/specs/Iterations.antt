@@ -17,7 +17,7 @@ use Rattle.flame_world.specs.AgentRuns.{survivors, sent_from, born_from, least_f
 use Rattle.flame_world.specs.Fields.{Field, opening, state_place, pool_in, changed_pool, joined, gathered}
 
 -- what stays the same throughout an iteration: the model and its function files, the constants, the iteration's number
--- and the fuel of each agent [own]
+-- and the fuel of each call of a function [own]
 pub record Round : Type 0 where
   pub source : Source
   pub constants : List ℤ
@@ -51,7 +51,7 @@ outcome_in round function field memory =
     outcome round.source function memory field.boards round.constants round.iteration round.fuel
 
 -- the takers leave the state, the survivors arrive in the next one, messages join the boards, births are set aside
--- [FLAME User Manual]
+-- [FLAME User Manual; when births act: own]
 abbrev pub moved : Round → ℕ → Place → Field → Field
 moved round function place field =
     let run : List ℤ → Outcome = outcome_in round function field in
@@ -70,7 +70,8 @@ abbrev pub unless_faulted : Option SimFault → Field → Result Field SimFault
 unless_faulted None field = Ok field
 unless_faulted (Some fault) field = Err fault
 
--- the function of this place runs: the least fault of its takers, or what the field becomes [FLAME User Manual]
+-- the function of this place runs: the least fault of its takers, or what the field becomes
+-- [FLAME User Manual; which fault, and no place: own]
 abbrev pub step_at : Option Place → Round → ℕ → Field → Result Field SimFault
 step_at None round function field = Ok field
 step_at (Some place) round function field =
@@ -109,7 +110,8 @@ round_of source world iteration fuel = record {
   fuel = fuel;
 }
 
--- the iteration of this number of a world, with this fuel for each agent [FLAME User Manual]
+-- the iteration of this number of a world, with this fuel for each call of a function: agents that are born in it take no
+-- function before the next [FLAME User Manual; fuel, and when births act: own]
 abbrev pub iteration : Source → World → ℤ → ℕ → Turn
 iteration source world number fuel =
     turn_of world.constants

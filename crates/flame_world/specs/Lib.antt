@@ -1,6 +1,7 @@
 -- Each definition's comment ends with its source in brackets:
 -- FLAME User Manual: agents, states, functions and iterations
 -- libmboard: boards
+-- XMML: what a model declares
 -- own: a choice of this project, or a word that a definition is made of
 pub mod AgentRuns
 pub mod Fields

@@ -27,7 +27,8 @@ abbrev pub view_from :
 view_from None type memory input board = []
 view_from (Some found) type memory input board = view_of type found.1 input.filter input.sort memory board
 
--- what an agent reads by each input of the function of this place, from the board of each [FLAME User Manual]
+-- what an agent reads by each input of the function of this place, from the board of each; of an input without a board,
+-- or a board without an input, nothing [FLAME User Manual; as many as there are of both: own]
 abbrev pub readings_from : Option Place → Model → List ℤ → List (List (List ℤ)) → List (List (List ℤ))
 readings_from None model memory boards = []
 readings_from (Some place) model memory boards =

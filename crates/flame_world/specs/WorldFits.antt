@@ -8,8 +8,7 @@ use Rattle.flame_sense.specs.RangeLaws.{Each}
 use Rattle.flame_world.specs.declared.turns.Turn.TheVariants.{Done}
 use Rattle.flame_world.specs.declared.worlds.World.{World}
 use Rattle.flame_world.specs.declared.worlds.Boards.{Boards}
-use Rattle.flame_world.specs.CountLaws.{HasPools}
-use Rattle.flame_world.specs.Fields.{Field, opening}
+use Rattle.flame_world.specs.Fields.{Field, HasPools, opening}
 use Rattle.flame_world.specs.Iterations.{Round, step, iteration}
 
 -- rows of this width [own]

@@ -31,8 +31,8 @@ pub record IsWorldOf (model : Model) (world : World) : Type 0 where
 abbrev pub AreBoardsOf : Model → Boards → Type 0
 AreBoardsOf model boards = AllZip (λ message bag. IsBagOf (width message.variables) bag) model.messages boards.boards
 
--- where function files write numbers within int, as all that are read do, an iteration of a world of the model ends with
--- a world and with boards of the model [own]
+-- where all numbers in the function files are within int, an iteration of a world of the model ends with a world and
+-- with boards of the model [own]
 abbrev pub WorldsStayWorlds : Type 0
 WorldsStayWorlds =
     (source : Source) (world after : World) (number : ℤ) (fuel : ℕ) (boards : Boards)

@@ -3,8 +3,7 @@
 use flame_ops::Cause;
 use flame_rows::Row;
 
-/// The fault of an iteration: that of the first function in model order of which an agent faults, at the least of its
-/// agents that do, in content order.
+/// A fault of an agent in an iteration: where it came, why, and with which memory.
 #[derive(Debug, Drop)]
 pub struct SimFault {
     /// The number of the iteration.

@@ -1,16 +1,18 @@
 //! Laws of iterations. Each function is its contract: it computes nothing.
 
-ghost use Rattle.flame_world.specs.IterationLaws.{AgentsHaveNoOrder, EqualAgentsFareAlike, NobodyChangesNothing, NoFunctionsNoChange};
+ghost use Rattle.flame_world.specs.IterationLaws.{AgentsHaveNoOrder, EqualAgentsChooseAlike, EqualAgentsFareAlike};
+ghost use Rattle.flame_world.specs.IterationLaws.{NobodyChangesNothing, NoFunctionsNoChange};
 ghost use Rattle.flame_world.specs.CountLaws.{AllAgentsBegin, SurvivorsReplaceTakers, SurvivorsAndBirthsRemain};
 ghost use Rattle.flame_world.specs.CountLaws.{SurvivorsAndBirthsAreAll};
 ghost use Rattle.flame_world.specs.InputBoards.{NamedBoardsAreEnough};
 ghost use Rattle.flame_world.specs.WorldFits.{FittingWorldsOpen, FittingFieldsStay, FittingWorldsStay};
 ghost use Rattle.flame_world.specs.WorldLaws.{WorldsStayWorlds};
 
-/// An iteration depends on its agents as a multiset alone, and agents with equal memory fare alike.
+/// An iteration depends on its agents as a multiset alone, and agents with equal memory choose and fare alike.
 pub fn what_counts()
     ensures order { AgentsHaveNoOrder }
-    ensures equal { EqualAgentsFareAlike }
+    ensures choices { EqualAgentsChooseAlike }
+    ensures outcomes { EqualAgentsFareAlike }
 {}
 
 /// A function that nobody takes changes nothing, and an iteration of a model without functions is the world itself.

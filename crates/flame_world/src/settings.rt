@@ -20,7 +20,7 @@ pub struct Setting<'a> {
     pub boards: &'a Seq<Arc<Frozen>>,
     /// The number of the iteration.
     pub iteration: i32,
-    /// The fuel of each agent.
+    /// The fuel of each call of the function.
     pub fuel: u32,
 }
 

@@ -1,4 +1,4 @@
-use Rattle.std.proofs.Common.{◌≡◌, ◌++◌, ◌∙◌, ◌⊎◌, inl, inr, [], ◌∷◌, List, ap, length, map, refl, sym, arith}
+use Rattle.std.proofs.Common.{◌≡◌, ◌++◌, ◌∙◌, ◌⊎◌, inl, inr, [], ◌∷◌, List, ap, append-nil, length, map, refl, sym, arith}
 use Rattle.std.specs.Prelude.{ℤ}
 use Rattle.std.specs.List.{flat_map, zip}
 use Rattle.std.specs.Vec.Iter.{into_iter_items}
@@ -12,10 +12,6 @@ none-left : {X Y Z : Type 0} (f : X × Y → Z) (xs : List X) (ys : List Y) → 
 none-left f [] ys none = refl
 none-left f (x ∷ xs) [] none = refl
 none-left f (x ∷ xs) (y ∷ ys) none = absurd (elim none [ inl gone ↦ (let never : ⊥ = omega (arith, gone) in never) | inr gone ↦ (let never : ⊥ = omega (arith, gone) in never) ])
-
-append-none : {X : Type 0} (xs : List X) → xs ++ [] ≡ xs
-append-none [] = refl
-append-none (x ∷ xs) = λ i. x ∷ append-none xs i
 
 pub returns : goal.returns
 returns c =
@@ -31,4 +27,4 @@ returns c =
     (old.all
     ∙ ap (λ rest. c.loop-pools.bags.items ++ rest)
     (none-left (λ ((ps, more) : List (List (List ℤ)) × List (List ℤ)). merge (flat_map (λ pool. pool) ps) more) (map bags_of pools) (map bag_of born) gone)
-    ∙ append-none c.loop-pools.bags.items)
+    ∙ append-nil c.loop-pools.bags.items)

@@ -5,6 +5,7 @@ use Rattle.std.specs.Vec.Iter.{into_iter_items, into_iter_len}
 use Rattle.std.specs.Iterator.Adapters.{zip_first, zip_second}
 use Rattle.std.specs.Slice.Iter.{iter_rest}
 use Rattle.std.proofs.lemmas.List.{length-map, map-append}
+use Rattle.flame_rows.specs.Bags.{ascending}
 use Rattle.flame_spec.specs.declared.models.AgentType.{AgentType}
 use Rattle.flame_spec.specs.Choice.{functions_out}
 use Rattle.flame_spec.specs.States.{is_entered, states}
@@ -14,7 +15,7 @@ use Rattle.flame_world.specs.Fields.{begun, changed}
 use Rattle.flame_core.specs.RunFields.{bags_of, pools_of}
 use Rattle.flame_core.proofs.Beginnings.{next-type, nones, some-left, stands-alone}
 use Rattle.flame_core.proofs.Gets.{get-there}
-use Rattle.flame_core.proofs.NamedNumbers.{zip-length}
+use Rattle.flame_route.proofs.Places.{zip-length}
 use Rattle.flame_core.proofs.iterations.pools_begun.Goals as goal
 
 pub loop-bag-init : goal.loop-bag-init
@@ -93,7 +94,7 @@ loop-bag-preserved c =
     let later : iter_rest (zip_second c.next.new.self) ≡ map start_place (drop (k + 1) types) = cc in
     let one = (accepted-are-runnable c.args.program.now c.source-source.ensures.accepted).starts k type next.there in
     let none : List (List ℤ) = [] in
-    let alone = stands-alone (is_entered type.functions) bag none (states type.functions) one.0 one.1 in
+    let alone = stands-alone (is_entered type.functions) (ascending bag) none (states type.functions) one.0 one.1 in
     let leaving = c.routes-routes.result.now.leaving in
     let lists = c.index-items-len.result in
     let at : lists ≡ get_or leaving k lists =
@@ -103,8 +104,8 @@ loop-bag-preserved c =
     (get-there leaving k lists (omega (arith, within, c.routes-routes.ensures.leaving.0)) at) in
     let here : bags_of c.in_ok-own.own ≡ begun type bag =
     c.in_ok-own.ensures
-    ∙ (λ i. changed (start i) (λ old. bag) (map (λ state. none) ((c.items-states.ensures ∙ is) i)))
-    ∙ ap (changed (start_place type) (λ old. bag)) (nones (functions_out model k) none (states type.functions))
+    ∙ (λ i. changed (start i) (λ old. ascending bag) (map (λ state. none) ((c.items-states.ensures ∙ is) i)))
+    ∙ ap (changed (start_place type) (λ old. ascending bag)) (nones (functions_out model k) none (states type.functions))
     ∙ alone.there in
     let more : length c.push.new.self.items ≡ k + 1 =
     ap length c.in_ok-push.ensures.items ∙ length-append c.loop-bag.pools.items (c.in_ok-own.own ∷ []) in

@@ -10,7 +10,7 @@ use Rattle.flame_core.specs.RunFields.{bag_of, pools_of}
 use Rattle.flame_core.specs.RunSteps.{round_of}
 use Rattle.flame_core.proofs.Changed.{changed_pool-again, changed_pool-length, changed_pool-to}
 use Rattle.flame_core.proofs.Gets.{numbers-in}
-use Rattle.flame_core.proofs.NamedNumbers.{zip-length}
+use Rattle.flame_route.proofs.Places.{zip-length}
 use Rattle.flame_core.proofs.Stepped.{chosen-takers, one-place}
 use Rattle.flame_core.proofs.steps.leave.Goals as goal
 

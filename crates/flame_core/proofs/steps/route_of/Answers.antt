@@ -2,7 +2,7 @@ use Rattle.std.proofs.Common.{◌≡◌, ap, arith, get_or, length, subst}
 use Rattle.flame_spec.specs.Functions.{functions}
 use Rattle.flame_route.specs.ModelRoutes.{IsRouteOf}
 use Rattle.flame_core.proofs.Gets.{get-there, has-at, zip-get}
-use Rattle.flame_core.proofs.NamedNumbers.{zip-length}
+use Rattle.flame_route.proofs.Places.{zip-length}
 use Rattle.flame_core.proofs.steps.route_of.Goals as goal
 
 pub bounds-items-function : goal.bounds-items-function

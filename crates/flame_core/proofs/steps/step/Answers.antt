@@ -18,7 +18,8 @@ use Rattle.flame_core.specs.RunSteps.{round_of}
 use Rattle.flame_core.specs.TakerRuns.{Leaves}
 use Rattle.flame_core.proofs.Changed.{changed_pool-length}
 use Rattle.flame_core.proofs.LeftRows.{born-within, sent-within}
-use Rattle.flame_core.proofs.NamedNumbers.{numbers-within, zip-length}
+use Rattle.flame_core.proofs.NamedNumbers.{numbers-within}
+use Rattle.flame_route.proofs.Places.{zip-length}
 use Rattle.flame_core.proofs.Stepped.{frozen-named, frozen-wide, has-route, settled, step-faults, step-goes, takers-wide}
 use Rattle.flame_core.proofs.steps.step.Goals as goal
 

@@ -5,7 +5,8 @@ use Rattle.flame_spec.specs.Functions.{Place, functions}
 use Rattle.flame_cond.specs.declared.forms.Test.{Test}
 use Rattle.flame_cond.specs.Said.{IsConditionOf}
 use Rattle.flame_lookup.specs.WordsFound.{place_found}
-use Rattle.flame_program.proofs.Zips.{zip-taken, mapped-there}
+use Rattle.flame_program.proofs.Zips.{mapped-there}
+use Rattle.flame_route.proofs.Places.{zip-taken}
 use Rattle.flame_program.proofs.reading.conditions_of.Goals as goal
 
 pub condition_of-requires : goal.condition_of-requires

@@ -3,7 +3,7 @@ use Rattle.std.proofs.Common.{◌+◌, length, take, sym, subst, refl}
 use Rattle.std.specs.List.{AllZip}
 use Rattle.std.proofs.lemmas.Option.{slice_get_read}
 use Rattle.flame_program.specs.SourceInputs.{IsSelectorOf}
-use Rattle.flame_program.proofs.Zips.{zip-taken}
+use Rattle.flame_route.proofs.Places.{zip-taken}
 use Rattle.flame_program.proofs.reading.selectors_in.Goals as goal
 
 pub selector_of-requires-clause-readable : goal.selector_of-requires-clause-readable

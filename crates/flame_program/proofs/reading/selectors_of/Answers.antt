@@ -5,7 +5,8 @@ use Rattle.flame_spec.specs.Functions.{functions}
 use Rattle.flame_lookup.specs.WordsFound.{place_found}
 use Rattle.flame_program.specs.Readable.{AreReadableInputs}
 use Rattle.flame_program.specs.SourceInputs.{IsSelectorOf, AreSelectorsOf}
-use Rattle.flame_program.proofs.Zips.{zip-taken, mapped-there}
+use Rattle.flame_program.proofs.Zips.{mapped-there}
+use Rattle.flame_route.proofs.Places.{zip-taken}
 use Rattle.flame_program.proofs.reading.selectors_of.Goals as goal
 
 pub selectors_in-requires-clause-readable : goal.selectors_in-requires-clause-readable
