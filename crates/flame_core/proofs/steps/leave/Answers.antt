@@ -66,7 +66,7 @@ returns-clause-others c place there =
     c.in_ok-pool.pool c.out_of-functions.result.now c.in_ok-choices.choices c.conditions-conditions.ensures c.requires.route.turn
     (c.out_of-functions.ensures own c.requires.route.there) chose).1 in
     let others : bag_of c.of.result ≡ stay (pool_in pools route.agent route.from) =
-    c.of.ensures ∙ c.in_ok-takers.ensures.others ∙ left ∙ ap stay pool in
+    c.of.ensures.bag ∙ c.in_ok-takers.ensures.others ∙ left ∙ ap stay pool in
     subst (λ (p : Place). pools_of c.exchange-2.new.pools
     ≡ changed_pool p.agent (state_place p.type p.function.current) (staying (round_of c.args.round.now) c.args.function p) pools)
     (one-place model c.args.function own place c.requires.route.there there)
