@@ -111,7 +111,7 @@ fn rows_read(
 }
 
 /// The code of the function of this number, where there is one.
-pub(crate) fn code_of(program: &Program, function: u32) -> Option<&Code> {
+fn code_of(program: &Program, function: u32) -> Option<&Code> {
     if (function as usize) < program.functions() {
         Some(program.code(function))
     } else {

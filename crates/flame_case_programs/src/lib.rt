@@ -8,6 +8,6 @@ mod outcomes;
 mod sources;
 
 pub use accepting::program_of;
-pub use listings::answer_code;
+pub use listings::{answer_code, answer_graph};
 pub use outcomes::answer_outcome;
 pub use sources::{Sourced, source_in};

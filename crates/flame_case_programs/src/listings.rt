@@ -1,132 +1,82 @@
-//! Cases of codes: the section `model` is a model in JSON, each section `text` a function file, in the order of the model.
-//! The answer has for each function of the model in document order a line `Type.function`, then for each instruction of its
-//! code a line with its place from 0, its name and its arguments, as `4 Jump 9`; then for each helper a line `helper NAME`
-//! and its instructions. Where the source is not accepted, it is `not accepted`.
+//! Cases of what `code` and `graph` print: the section `model` is a model in JSON, each section `text` a function file, in
+//! the order of the model. The answer is the text of `code_text` or of `graph_text`. Where the source is not accepted, it is
+//! `not accepted`.
 
 ghost use Rattle.std.specs.Prelude.{IsTrue};
 ghost use Rattle.flame_spec.specs.WellFormed.{is_well_formed};
 
 use crate::accepting::program_of;
-use crate::coding::code_of;
 use crate::sources::{Sourced, source_in};
 use flame_case::Case;
-use flame_code::{Code, Helpers, Instr};
-use flame_lookup::{CFunction, Tables, Transition, number};
+use flame_depend::edges;
 use flame_program::Program;
-use flame_rows::NoMemory;
+use flame_report::{code_text, graph_text};
+use flame_rows::{Blob, NoMemory};
 use flame_spec::Source;
 use std::alloc::{AllocError, Global};
+use std::str;
 
-/// The argument of an instruction that has one, but for `Push`.
-fn argument(instr: &Instr) -> Option<u32> {
-    match instr {
-        Instr::Loc(local) | Instr::SetLoc(local) => Some(*local),
-        Instr::Mem(column) | Instr::SetMem(column) => Some(*column),
-        Instr::Const(constant) => Some(*constant),
-        Instr::Neg(line) | Instr::Pay(line) => Some(*line),
-        Instr::Add(line) | Instr::Sub(line) => Some(*line),
-        Instr::Mul(line) | Instr::Div(line) | Instr::Rem(line) => Some(*line),
-        Instr::Jump(to) | Instr::JumpZero(to) | Instr::JumpNotZero(to) => Some(*to),
-        Instr::Enter(input) | Instr::Leave(input) => Some(*input),
-        Instr::Send(message) => Some(*message),
-        Instr::Bear(agent) => Some(*agent),
-        _ => None,
+/// A text of `flame_report`.
+#[derive(Clone, Copy)]
+enum Listing {
+    Code,
+    Graph,
+}
+
+/// What `graph` prints of the program.
+fn graph(alloc: Global, program: &Program) -> Result<Blob, NoMemory> {
+    let model = &program.source().model;
+    if !model.has_few_functions() {
+        return Err(NoMemory);
+    }
+    let edges = edges(alloc, model)?;
+    graph_text(alloc, program, &edges)
+}
+
+/// These bytes as a text.
+fn text_of(alloc: Global, bytes: &Blob) -> Result<String, NoMemory> {
+    match str::from_utf8(bytes.bytes()) {
+        Ok(text) => Ok(String::from_str(alloc, text)?),
+        Err(_) => Ok(String::from_str(alloc, "no UTF-8\n")?),
     }
 }
 
-/// The arguments of an instruction, each behind a blank.
-fn print_arguments(out: &mut String, instr: &Instr) -> Result<(), AllocError> {
-    match instr {
-        Instr::Push(number) => write!(out, " {number}"),
-        Instr::Field(input, column) => write!(out, " {input} {column}"),
-        Instr::MemAt(a, b, c) | Instr::SetMemAt(a, b, c) => write!(out, " {a} {b} {c}"),
-        Instr::Next(a, b, c) | Instr::Call(a, b, c) => write!(out, " {a} {b} {c}"),
-        Instr::FieldAt(a, b, c, d) => write!(out, " {a} {b} {c} {d}"),
-        other => match argument(other) {
-            Some(argument) => write!(out, " {argument}"),
-            None => Ok(()),
-        },
-    }
+/// What is printed of the program.
+fn printed(alloc: Global, what: Listing, program: &Program) -> Result<String, NoMemory> {
+    let bytes = match what {
+        Listing::Code => code_text(alloc, program)?,
+        Listing::Graph => graph(alloc, program)?,
+    };
+    text_of(alloc, &bytes)
 }
 
-/// The instructions of a code, a line each.
-fn print_code(out: &mut String, code: &Code) -> Result<(), AllocError> {
-    for (place, instr) in code.instrs().iter().enumerate() {
-        write!(out, "{place} {}", instr.name())?;
-        print_arguments(out, instr)?;
-        writeln!(out)?;
-    }
-    Ok(())
-}
-
-/// The code of the function of this number and place.
-fn print_function(
-    out: &mut String,
-    program: &Program,
-    function: u32,
-    place: &Transition<'_>,
-) -> Result<(), AllocError> {
-    writeln!(out, "{}.{}", place.agent.name, place.function.name)?;
-    match code_of(program, function) {
-        Some(code) => print_code(out, code),
-        None => Ok(()),
-    }
-}
-
-/// The codes of the model's functions.
-fn print_functions(
-    out: &mut String,
-    program: &Program,
-    places: &[Transition<'_>],
-) -> Result<(), NoMemory> {
-    for (i, place) in places.iter().enumerate() {
-        print_function(out, program, number(i)?, place)?;
-    }
-    Ok(())
-}
-
-/// The codes of the helpers.
-fn print_helpers(
-    out: &mut String,
-    helpers: &Helpers,
-    functions: &[CFunction<'_>],
-) -> Result<(), NoMemory> {
-    for (i, function) in functions.iter().enumerate() {
-        writeln!(out, "helper {}", function.def.name)?;
-        if i < helpers.len() {
-            print_code(out, helpers.code(number(i)?))?;
-        }
-    }
-    Ok(())
-}
-
-/// The codes of the program's functions and helpers.
-fn listing(alloc: Global, program: &Program) -> Result<String, NoMemory> {
-    let source = program.source();
-    let tables = Tables::of(alloc, &source.model, &source.units)?;
-    let mut out = String::new(alloc);
-    print_functions(&mut out, program, tables.transitions())?;
-    print_helpers(&mut out, program.helpers(), tables.helpers())?;
-    Ok(out)
-}
-
-/// The listing of the source's program, where there is one.
-fn listed(alloc: Global, source: Source) -> Result<String, NoMemory>
+/// What is printed of the source's program, where there is one.
+fn listed(alloc: Global, what: Listing, source: Source) -> Result<String, NoMemory>
     requires formed { IsTrue (is_well_formed source.model) }
 {
     match program_of(alloc, source)? {
-        Some(program) => listing(alloc, &program),
+        Some(program) => printed(alloc, what, &program),
         None => Ok(String::from_str(alloc, "not accepted\n")?),
+    }
+}
+
+/// The answer to a case of a kind of which this is printed.
+fn answer(alloc: Global, what: Listing, case: &Case) -> Result<String, AllocError> {
+    match source_in(alloc, case)? {
+        Sourced::Told(told) => Ok(told),
+        Sourced::Source(source) => match listed(alloc, what, source) {
+            Ok(out) => Ok(out),
+            Err(NoMemory) => Err(AllocError),
+        },
     }
 }
 
 /// The answer to a case of the kind `code`.
 pub fn answer_code(alloc: Global, case: &Case) -> Result<String, AllocError> {
-    match source_in(alloc, case)? {
-        Sourced::Told(told) => Ok(told),
-        Sourced::Source(source) => match listed(alloc, source) {
-            Ok(out) => Ok(out),
-            Err(NoMemory) => Err(AllocError),
-        },
-    }
+    answer(alloc, Listing::Code, case)
+}
+
+/// The answer to a case of the kind `graph`.
+pub fn answer_graph(alloc: Global, case: &Case) -> Result<String, AllocError> {
+    answer(alloc, Listing::Graph, case)
 }

@@ -7,7 +7,8 @@ use flame_case_codes::answer_machine;
 use flame_case_models::{
     answer_flat, answer_model, answer_names, answer_plan, answer_shape, answer_wide,
 };
-use flame_case_programs::{answer_code, answer_outcome};
+use flame_case_populations::answer_population;
+use flame_case_programs::{answer_code, answer_graph, answer_outcome};
 use flame_case_runs::answer_iteration;
 use flame_case_texts::{answer_expression, answer_order, answer_tokens, answer_trees};
 use flame_case_views::{answer_choices, answer_conditions, answer_views};
@@ -36,10 +37,14 @@ pub(crate) enum Kind {
     Names,
     /// `flame_sense::evaluate`, and `flame_machine::run` of the program's code
     Outcome,
-    /// The codes of `flame_program::Program`
+    /// `flame_report::code_text`
     Code,
+    /// `flame_report::graph_text`
+    Graph,
     /// `flame_core::PlainRunner`
     Iteration,
+    /// `flame_popfile::population`, and `flame_popfile::text` and `flame_popfile::line` of what it gives
+    Population,
     /// `flame_machine::run`
     Machine,
     /// `flame_depend::edges` and `flame_depend::plan`
@@ -71,7 +76,9 @@ pub(crate) fn kind_of(file: &str) -> Option<Kind> {
         "names" => Some(Kind::Names),
         "outcome" => Some(Kind::Outcome),
         "code" => Some(Kind::Code),
+        "graph" => Some(Kind::Graph),
         "iteration" => Some(Kind::Iteration),
+        "population" => Some(Kind::Population),
         "machine" => Some(Kind::Machine),
         "plan" => Some(Kind::Plan),
         "condition" => Some(Kind::Condition),
@@ -102,7 +109,9 @@ pub(crate) fn answer(
         Kind::Names => answer_names(alloc, case),
         Kind::Outcome => answer_outcome(alloc, case),
         Kind::Code => answer_code(alloc, case),
+        Kind::Graph => answer_graph(alloc, case),
         Kind::Iteration => answer_iteration(rt, alloc, case),
+        Kind::Population => answer_population(alloc, case),
         Kind::Machine => answer_machine(alloc, case),
         Kind::Plan => answer_plan(alloc, case),
         Kind::Condition => answer_conditions(alloc, case),

@@ -1,0 +1,11 @@
+pub mod CommaLists
+pub mod Dealing
+pub mod TakenNames
+pub mod KeyTables
+pub mod TypeTables
+pub mod Firsts
+pub mod PlacePaths
+pub mod VariableTexts
+pub mod MemberFaults
+pub mod Chains
+pub mod StartParts

@@ -1,0 +1,15 @@
+use Rattle.std.proofs.Common.{◌++◌, ◌∙◌, ap}
+use Rattle.flame_popfile.specs.RowTexts.{row_text}
+use Rattle.flame_popfile.proofs.CommaLists.{commas_more, commas_all}
+use Rattle.flame_popfile.proofs.boards.push_lists.Goals as goal
+
+pub loop-row-preserved : goal.loop-row-preserved
+loop-row-preserved c =
+    commas_more row_text _ _ _ c.loop-row.more c.args.rows.now c.loop-row.row-index c.row-item.result
+    c.loop-row-test.true c.row-item.is c.in_ok-push_comma.ensures
+    (c.in_ok-push_list.ensures ∙ ap (λ row. c.push_comma.new.bytes.items ++ row_text row) c.values.ensures)
+    ∙ c.loop-row.invariant
+
+pub returns : goal.returns
+returns c =
+    commas_all row_text _ _ c.loop-row.more c.args.rows.now c.loop-row.row-index c.loop-row-test.false c.loop-row.invariant

@@ -1,0 +1,17 @@
+use Rattle.std.proofs.Common.{◌++◌, ◌∙◌, ap}
+use Rattle.flame_popfile.specs.RowTexts.{object_text}
+use Rattle.flame_popfile.proofs.CommaLists.{commas_more, commas_all}
+use Rattle.flame_popfile.proofs.boards.push_objects.Goals as goal
+
+pub loop-row-preserved : goal.loop-row-preserved
+loop-row-preserved c =
+    commas_more (object_text c.args.variables.now) _ _ _ c.loop-row.more c.args.rows.now c.loop-row.row-index
+    c.row-item.result c.loop-row-test.true c.row-item.is c.in_ok-push_comma.ensures
+    (c.in_ok-push_object.ensures
+    ∙ ap (λ row. c.push_comma.new.bytes.items ++ object_text c.args.variables.now row) c.values.ensures)
+    ∙ c.loop-row.invariant
+
+pub returns : goal.returns
+returns c =
+    commas_all (object_text c.args.variables.now) _ _ c.loop-row.more c.args.rows.now c.loop-row.row-index
+    c.loop-row-test.false c.loop-row.invariant

@@ -1,0 +1,21 @@
+-- The members read so far have no fault; the faults of the rest and their numbers make up those of the list.
+use Rattle.std.proofs.Common.{◌≡◌, ◌++◌, map, drop}
+use Rattle.serde_json.specs.View.{view}
+use Rattle.flame_spec.specs.Lists.{each_from}
+use Rattle.flame_spec.specs.Paths.{at_number}
+use Rattle.flame_popfile.specs.PopulationParts.{each_member, int_faults, number_of}
+use Rattle.flame_popfile.specs.PopulationPlaces.{path_of}
+use Rattle.flame_popfile.proofs.lists.add_each_int.Given as goal
+
+abbrev pub invariant-loop-number : goal.invariant-loop-number
+invariant-loop-number l = record {
+  faults :
+      each_member int_faults (path_of l.place) (map view l.values)
+      ≡ each_from
+      (λ number value. int_faults (at_number (path_of l.place) number) value)
+      l.number
+      (map view (drop l.number l.values));
+  read :
+      l.row.items ++ map number_of (map view (drop l.number l.values))
+      ≡ l.fn.row.items ++ map number_of (map view l.values);
+}

@@ -1,0 +1,25 @@
+-- The faults of an object are those of its parts.
+use Rattle.std.proofs.Common.{refl, sym, subst}
+use Rattle.serde_json.specs.View.{view}
+use Rattle.flame_spec.specs.FirstFaults.{FailsFirst}
+use Rattle.flame_popfile.specs.PopulationFaults.{states_faults}
+use Rattle.flame_popfile.specs.PopulationPlaces.{path_of}
+use Rattle.flame_popfile.proofs.Firsts.{read_on, reads_along}
+use Rattle.flame_popfile.proofs.PlacePaths.{object_is, object_not}
+use Rattle.flame_popfile.proofs.states.states_of.Goals as goal
+
+pub returns-in_err-object : goal.returns-in_err-object
+returns-in_err-object c =
+    read_on _ _ _ c.from_residual.result c.from_residual.ensures.1
+    (subst (λ l. FailsFirst l c.in_err-object.field-0.0)
+    (sym
+    (object_not (states_faults c.args.model.now c.args.turns) (path_of c.args.place.now) (view c.args.states.now)
+    c.in_err-object.ensures.fault.0))
+    c.in_err-object.ensures.fault.1)
+
+pub returns : goal.returns
+returns c =
+    reads_along c.start_in.result
+    (object_is (states_faults c.args.model.now c.args.turns) (path_of c.args.place.now) (view c.args.states.now)
+    c.in_ok-object.ensures.object)
+    refl c.start_in.ensures

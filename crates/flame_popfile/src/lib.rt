@@ -1,0 +1,32 @@
+//! Populations: reading them from JSON values, and writing the texts of iterations and the lines that tell of them.
+#![tactic(auto)]
+
+mod agents;
+mod boards;
+mod entries;
+mod environment;
+mod faults;
+mod formats;
+mod kinds;
+mod lines;
+mod lists;
+mod members;
+mod names;
+mod numbers;
+mod parts;
+mod pieces;
+mod place;
+mod populations;
+mod rows;
+mod starts;
+mod states;
+mod tables;
+mod texts;
+mod wholes;
+
+pub use faults::{PopFault, PopKind};
+pub use formats::Format;
+pub use lines::line;
+pub use populations::population;
+pub use starts::Start;
+pub use texts::text;

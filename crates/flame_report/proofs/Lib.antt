@@ -1,0 +1,3 @@
+-- The codes of functions and helpers, by number.
+pub mod CodesFound
+mod ListedNext
