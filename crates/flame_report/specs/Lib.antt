@@ -2,6 +2,7 @@
 -- in brackets:
 -- own: a choice of this project, or a word that a definition is made of
 pub mod FaultLines
+pub mod PopulationLines
 pub mod GraphTexts
 pub mod CodeTexts
 -- What lines and listings are made of.

@@ -10,6 +10,7 @@ mod listings;
 mod memories;
 mod models;
 mod named;
+mod populations;
 mod sources;
 #[cfg(test)]
 mod tests;
@@ -20,5 +21,6 @@ pub use depending::depend_text;
 pub use faulting::sim_text;
 pub use graphs::graph_text;
 pub use models::{name_text, nest_text, shape_text};
+pub use populations::{line_text, pop_text};
 pub use sources::{check_text, lex_text, parse_text};
 pub use words::{file_text, usage_text};

@@ -3,6 +3,7 @@
 use crate::depending::depend_text;
 use crate::faulting::sim_text;
 use crate::models::{name_text, nest_text, shape_text};
+use crate::populations::{line_text, pop_text};
 use crate::sources::{check_text, lex_text, parse_text};
 use crate::words::{file_text, usage_text};
 use flame_depend::{CycleFault, DependFault, ManyStarts};
@@ -10,12 +11,13 @@ use flame_expr::ParseFault;
 use flame_lex::LexFault;
 use flame_nest::{NestFault, NestKind};
 use flame_ops::Cause;
-use flame_rows::{NoMemory, Row, Seq, Text};
+use flame_popfile::{PopFault, PopKind};
+use flame_rows::{Bag, NoMemory, Row, Seq, Text};
 use flame_spec::{
     AgentType, CheckFault, CheckKind, Function, Model, NameFault, NameKind, Variable,
 };
 use flame_words::Usage;
-use flame_world::SimFault;
+use flame_world::{Boards, SimFault, World};
 use flame_xmml::{Shape, Want};
 use std::alloc::Global;
 use std::test::Fail;
@@ -192,5 +194,31 @@ fn lines_of_runs(rt: HostRuntime) -> Result<(), Fail> {
     };
     let line = sim_text(alloc, &model(alloc)?, &fault)?;
     assert!(rt; line.bytes() == b"fault: iteration 12: B.g: Fuel at line 70: memory\n".as_slice());
+    Ok(())
+}
+
+#[test]
+fn lines_of_populations(rt: HostRuntime) -> Result<(), Fail> {
+    let alloc = rt.alloc();
+    let fault = PopFault {
+        kind: PopKind::UnknownVariable,
+        path: Text::of(alloc, "/states/agents/0/memory/y")?,
+    };
+    let line = pop_text(alloc, "p.json", &fault)?;
+    assert!(rt;
+        line.bytes()
+            == b"population: p.json: /states/agents/0/memory/y: UnknownVariable\n".as_slice()
+    );
+    let mut rows = Vec::new(alloc);
+    rows.push(Row::of(Vec::new(alloc)))?;
+    let world = World {
+        constants: Row::of(Vec::new(alloc)),
+        agents: two(alloc, Bag::of_rows(rows)?, Bag::empty(alloc))?,
+    };
+    let boards = Boards {
+        boards: Seq::of(Vec::new(alloc)),
+    };
+    let line = line_text(alloc, 3, &world, &boards)?;
+    assert!(rt; line.bytes() == b"iteration 3 agents 1 messages 0\n".as_slice());
     Ok(())
 }
