@@ -115,3 +115,34 @@ pub all_parts_back : (es : List Expr) → parts_data (expressions es) ≡ es
 unfolding data_of
 all_parts_back [] = refl
 all_parts_back (e ∷ es) = λ i. expression_back e i ∷ all_parts_back es i
+
+-- ---- a tree is what its expression is seen as
+
+mutual
+  unfolding data_of
+
+  pub expression_forth : (x : Expression) → expression (data_of x) ≡ x
+  expression_forth (number n) = expression-Number n
+  expression_forth (name line word) = expression-Name line word
+  expression_forth (field line word variable) = expression-Field line word variable
+  expression_forth (get line word) = expression-Get line word
+  expression_forth (element line word index_line index) =
+      expression-At line word (record { line = index_line; index = data_of index })
+      ∙ ap (element line word index_line) (expression_forth index)
+  expression_forth (field_at line word variable index_line index) =
+      expression-FieldAt line word variable (record { line = index_line; index = data_of index })
+      ∙ ap (field_at line word variable index_line) (expression_forth index)
+  expression_forth (signed signs e) = expression-Unary signs (data_of e) ∙ ap (signed signs) (expression_forth e)
+  expression_forth (chain e links) =
+      expression-Chain (data_of e) (links_data links)
+      ∙ λ i. chain (expression_forth e i) (links_forth links i)
+  expression_forth (all_of parts) = expression-All (parts_data parts) ∙ ap all_of (parts_forth parts)
+  expression_forth (any_of parts) = expression-Any (parts_data parts) ∙ ap any_of (parts_forth parts)
+
+  pub links_forth : (x : Links) → links_of (map joined (links_data x)) ≡ x
+  links_forth no_links = refl
+  links_forth (link op line e links) = λ i. link op line (expression_forth e i) (links_forth links i)
+
+  pub parts_forth : (x : Expressions) → expressions (parts_data x) ≡ x
+  parts_forth no_parts = refl
+  parts_forth (part e parts) = λ i. part (expression_forth e i) (parts_forth parts i)

@@ -24,7 +24,7 @@ use Rattle.flame_spec.proofs.SeenForms.{statement-Empty, statement-Declare, stat
 use Rattle.flame_spec.proofs.SeenForms.{statement-Block}
 use Rattle.flame_spec.proofs.SeenForms.{statement-If, statement-While, statement-For, statement-Do, statement-Loop}
 use Rattle.flame_spec.proofs.SeenForms.{statement-Return, statement-Break, statement-Continue}
-use Rattle.flame_laws.proofs.Unseen.{data_of, parts_data, all_parts_back, expression_back}
+use Rattle.flame_laws.proofs.Unseen.{data_of, parts_data, all_parts_back, expression_back, expression_forth, parts_forth}
 
 -- ---- what stands in statements
 
@@ -197,3 +197,77 @@ statement_back =
 -- statements that are seen as the same are the same
 pub statement_tells : (a b : Stmt) → statement a ≡ statement b → a ≡ b
 statement_tells a b e = sym (statement_back a) ∙ (ap stmt_of e ∙ statement_back b)
+
+-- ---- trees are what their statements are seen as
+
+stored_forth : (v : Stored) → stored (stored_data v) ≡ v
+unfolding stored_data
+stored_forth (plain e) = ap plain (expression_forth e)
+stored_forth (called line word arguments) = ap (called line word) (parts_forth arguments)
+
+items_forth : (items : List Declared) → map declared (map item_data items) ≡ items
+unfolding item_data
+items_forth [] = refl
+items_forth (item ∷ items) =
+    λ i. record {
+      line = item.line;
+      name = item.name;
+      value = option_back stored_data stored stored_forth item.value i;
+    } ∷ items_forth items i
+
+index_forth : (s : Indexed) → indexed (index_data s) ≡ s
+unfolding index_data
+index_forth s = λ i. record { line = s.line; index = expression_forth s.index i }
+
+assign_forth : (a : Assigned) → assigned (assign_data a) ≡ a
+unfolding assign_data
+assign_forth a = λ i. record {
+  line = a.line;
+  name = a.name;
+  subscript = option_back index_data indexed index_forth a.subscript i;
+  op = a.op;
+  op_line = a.op_line;
+  value = stored_forth a.value i;
+}
+
+mutual
+  unfolding stmt_of
+
+  statement_forth : (x : Statement) → statement (stmt_of x) ≡ x
+  statement_forth empty = statement-Empty
+  statement_forth (declare items) = statement-Declare (map item_data items) ∙ ap declare (items_forth items)
+  statement_forth (assign a) = statement-Assign (assign_data a) ∙ ap assign (assign_forth a)
+  statement_forth (call line word arguments) =
+      statement-Call line word (parts_data arguments) ∙ ap (call line word) (parts_forth arguments)
+  statement_forth (block body) = statement-Block (stmts_of body) ∙ ap block (statements_forth body)
+  statement_forth (branch tests otherwise) =
+      statement-If (arms_data tests) (stmts_of otherwise)
+      ∙ λ i. branch (arms_forth tests i) (statements_forth otherwise i)
+  statement_forth (while line test body) =
+      statement-While line (data_of test) (stmts_of body)
+      ∙ λ i. while line (expression_forth test i) (statements_forth body i)
+  statement_forth (for line first test step body) =
+      statement-For line
+      (record { first = stmts_of first; test = option_map data_of test; step = option_map assign_data step })
+      (stmts_of body)
+      ∙ λ i. for line (statements_forth first i)
+      (option_back data_of expression expression_forth test i)
+      (option_back assign_data assigned assign_forth step i)
+      (statements_forth body i)
+  statement_forth (do_while line body test) =
+      statement-Do line (stmts_of body) (data_of test)
+      ∙ λ i. do_while line (statements_forth body i) (expression_forth test i)
+  statement_forth (loop_over line word body end_line end_word) =
+      statement-Loop line word (stmts_of body) end_line end_word
+      ∙ λ i. loop_over line word (statements_forth body i) end_line end_word
+  statement_forth (return e) = statement-Return (data_of e) ∙ ap return (expression_forth e)
+  statement_forth (break line) = statement-Break line
+  statement_forth (continue line) = statement-Continue line
+
+  pub statements_forth : (x : Statements) → statements (stmts_of x) ≡ x
+  statements_forth no_more = refl
+  statements_forth (also s more) = λ i. also (statement_forth s i) (statements_forth more i)
+
+  arms_forth : (x : Arms) → arms_of (map tested (arms_data x)) ≡ x
+  arms_forth no_arms = refl
+  arms_forth (arm test body more) = λ i. arm (expression_forth test i) (statements_forth body i) (arms_forth more i)

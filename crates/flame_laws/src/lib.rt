@@ -23,7 +23,7 @@ pub use helper_laws::{helpers_end, helpers_stand_alone};
 pub use joined_laws::{bounded_calls, free_functions, outcomes_over_boards};
 pub use name_laws::{members_differ, names_differ, unit_lengths};
 pub use order_laws::{cycles, layers, order_cases, orders, ranks, start_states_of_types};
-pub use tree_laws::trees_are_told;
+pub use tree_laws::{trees_are_seen, trees_are_told};
 pub use used_laws::{used_names, used_names_cases};
 pub use view_laws::{choices, time_conditions, view_cases, views};
 pub use width_laws::{narrow_rows, near_arrays};

@@ -1,4 +1,5 @@
 pub mod Integers
+pub mod CauseNames
 pub mod Words
 pub mod Spellings
 pub mod Ascii

@@ -1,6 +1,7 @@
 //! Whole numbers of `int` and the operators on them.
 
 ghost use Rattle.std.specs.Prelude.{◌≡◌};
+ghost use Rattle.flame_ops.specs.CauseNames.{name_of_cause};
 ghost use Rattle.flame_ops.specs.Integers.{applied, negated};
 
 /// A binary operator on `int`: the multiplicative, additive, relational and equality operators of the C standard,
@@ -27,10 +28,24 @@ pub enum Cause {
     Overflow,
     /// A divisor of 0.
     DivideByZero,
-    /// A further turn of a loop, and no fuel left for it.
+    /// A further turn of a loop or a call of a helper, and no fuel left for it.
     Fuel,
     /// An index of an array that is below 0 or not below the array's length.
     BadIndex,
+}
+
+impl Cause {
+    /// The cause's name, as it is printed.
+    pub fn name(&self) -> &'static str
+        ensures { result.now ≡ name_of_cause self.now }
+    {
+        match self {
+            Cause::Overflow => "Overflow",
+            Cause::DivideByZero => "DivideByZero",
+            Cause::Fuel => "Fuel",
+            Cause::BadIndex => "BadIndex",
+        }
+    }
 }
 
 /// One arm of an operator's body: a checked call, a checked call with its divisor, or a comparison.

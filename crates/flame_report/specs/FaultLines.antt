@@ -20,7 +20,8 @@ use Rattle.flame_expr.specs.ParseFaults.{token_of, name_of as name_of_parse}
 use Rattle.flame_world.specs.declared.faults.SimFault.{SimFault}
 use Rattle.flame_depend.specs.declared.faults.DependFault.{DependFault}
 use Rattle.flame_depend.specs.declared.faults.DependFault.TheVariants.{Cycle, Starts}
-use Rattle.flame_report.specs.LineParts.{function_name, type_name, function_file, cause_name, with_between}
+use Rattle.flame_ops.specs.CauseNames.{name_of_cause}
+use Rattle.flame_report.specs.LineParts.{function_name, type_name, function_file, with_between}
 use Rattle.flame_report.specs.LineParts.{memory_of, memory_text}
 
 -- ---- words and files
@@ -165,7 +166,7 @@ abbrev pub sim_line : Model → SimFault → List ℕ
 sim_line model fault =
     codes "fault: iteration " ++ signed_decimal fault.iteration
     ++ codes ": " ++ function_name model fault.function
-    ++ codes ": " ++ cause_name fault.cause
+    ++ codes ": " ++ name_of_cause fault.cause
     ++ codes " at line " ++ decimal fault.line
     ++ codes ": memory" ++ memory_text (memory_of model fault.function) fault.memory
     ++ codes "\n"

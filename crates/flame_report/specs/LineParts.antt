@@ -3,8 +3,6 @@ use Rattle.std.specs.Prelude.{ℕ, ℤ, List, [], ◌∷◌, ◌++◌, take, dro
 use Rattle.std.specs.Fmt.{signed_decimal}
 use Rattle.std.specs.List.{flat_map}
 use Rattle.std.specs.Option.{option_map_or}
-use Rattle.flame_ops.specs.declared.integers.Cause.{Cause}
-use Rattle.flame_ops.specs.declared.integers.Cause.TheVariants.{Overflow, DivideByZero, Fuel, BadIndex}
 use Rattle.flame_spec.specs.declared.models.Model.{Model}
 use Rattle.flame_spec.specs.declared.models.Variable.{Variable}
 use Rattle.flame_spec.specs.Columns.{width_of}
@@ -31,13 +29,6 @@ type_name model agent = option_map_or (λ type. type.name) (slice_get model.agen
 -- the function file of this number; nothing where the model has none [own]
 abbrev pub function_file : Model → ℕ → List ℕ
 function_file model file = option_map_or (λ name. name) (slice_get model.files file) []
-
--- the name of a cause [own]
-abbrev pub cause_name : Cause → List ℕ
-cause_name Overflow = codes "Overflow"
-cause_name DivideByZero = codes "DivideByZero"
-cause_name Fuel = codes "Fuel"
-cause_name BadIndex = codes "BadIndex"
 
 -- ---- lists
 

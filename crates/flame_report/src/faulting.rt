@@ -3,8 +3,9 @@
 ghost use Rattle.std.specs.Prelude.{◌≡◌, ◌++◌, IfOk, OnOk, codes, decimal, map, slice_get, string_bytes};
 ghost use Rattle.std.specs.Fmt.{signed_decimal};
 ghost use Rattle.flame_report.specs.FaultLines.{sim_line};
-ghost use Rattle.flame_report.specs.LineParts.{cause_name, memory_among, memory_text, name_among};
+ghost use Rattle.flame_report.specs.LineParts.{memory_among, memory_text, name_among};
 ghost use Rattle.flame_lookup.specs.WordsFound.{place_found};
+ghost use Rattle.flame_ops.specs.CauseNames.{name_of_cause};
 
 use crate::memories::push_memory;
 use crate::named::{listed_functions, push_function};
@@ -16,18 +17,6 @@ use flame_world::SimFault;
 use itoa::Buffer;
 use std::alloc::Global;
 use std::fmt::Write;
-
-/// The cause's name, as it is printed.
-fn cause_name(cause: Cause) -> &'static str
-    ensures { result.now ≡ cause_name cause }
-{
-    match cause {
-        Cause::Overflow => "Overflow",
-        Cause::DivideByZero => "DivideByZero",
-        Cause::Fuel => "Fuel",
-        Cause::BadIndex => "BadIndex",
-    }
-}
 
 /// The variables of the memory on which the function of this number runs; none where there is no such function.
 fn memory_among<'a>(places: &[Transition<'a>], function: u32) -> &'a [Variable]
@@ -51,9 +40,9 @@ fn opening(alloc: Global, iteration: i32) -> Result<String, NoMemory>
 /// Adds the cause and its line, and the word before the memory.
 fn push_cause(text: &mut String, cause: Cause, line: u32) -> Result<(), NoMemory>
     ensures { OnOk result (string_bytes text.new ≡ string_bytes text.old
-        ++ (codes ": " ++ cause_name cause ++ codes " at line " ++ decimal line ++ codes ": memory")) }
+        ++ (codes ": " ++ name_of_cause cause ++ codes " at line " ++ decimal line ++ codes ": memory")) }
 {
-    let name = cause_name(cause);
+    let name = cause.name();
     let mut digits = Buffer::new();
     let number = digits.format(line);
     write!(text, ": {name} at line {number}: memory")?;
@@ -68,7 +57,7 @@ fn push_fault(
 ) -> Result<(), NoMemory>
     ensures { OnOk result (string_bytes text.new ≡ string_bytes text.old
         ++ (name_among (map place_found places.now) fault.now.function
-        ++ (codes ": " ++ cause_name fault.now.cause ++ codes " at line " ++ decimal fault.now.line ++ codes ": memory")
+        ++ (codes ": " ++ name_of_cause fault.now.cause ++ codes " at line " ++ decimal fault.now.line ++ codes ": memory")
         ++ memory_text (memory_among (map place_found places.now) fault.now.function) fault.now.memory)) }
 {
     push_function(text, places, fault.function)?;

@@ -6,7 +6,7 @@ use Rattle.flame_words.specs.declared.orders.RunOrder.{RunOrder}
 use Rattle.flame_words.specs.declared.orders.TrialOrder.{TrialOrder}
 use Rattle.flame_words.specs.declared.orders.How.{How}
 
--- 1 to 64 workers, and at most 1,000,000,000 turns of loops for each call of a function [own]
+-- 1 to 64 workers, and at most 1,000,000,000 turns of loops and calls of helpers for each call of a transition function [own]
 pub record HowIsWithin (how : How) : Type 0 where
   pub some_worker : 1 ≤ how.workers
   pub few_workers : how.workers ≤ 64

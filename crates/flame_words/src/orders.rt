@@ -11,11 +11,11 @@ pub enum Order {
     Check(Text),
     /// Print the functions of the model of this name in order, and which stands before which.
     Graph(Text),
-    /// Print the code of the functions of the model of this name.
+    /// Print the code of the functions of the model of this name, and of its helpers.
     Code(Text),
     /// Run the model that the program carries.
     Trial(TrialOrder),
-    /// Write the population of a model in the newest format: the names of the model file, of the population file, and of
+    /// Write the population of a model in format 2: the names of the model file, of the population file, and of
     /// the file that is written.
     Migrate(Text, Text, Text),
 }
@@ -55,7 +55,7 @@ pub struct TrialOrder {
 pub struct How {
     /// How many workers, 1 to 64.
     pub workers: u32,
-    /// How many turns of loops each call of a function may take, 0 to 1,000,000,000.
+    /// How many turns of loops and calls of helpers each call of a transition function may take, 0 to 1,000,000,000.
     pub fuel: u32,
     /// What the workers wait for.
     pub way: Way,
