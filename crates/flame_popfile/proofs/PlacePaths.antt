@@ -4,23 +4,17 @@ use Rattle.std.specs.Prelude.{if◌then◌else◌}
 use Rattle.serde_json.specs.Data.{Data, null}
 use Rattle.flame_spec.specs.Paths.{root, at_key, at_number}
 use Rattle.flame_popfile.specs.declared.faults.PopKind.{PopKind}
-use Rattle.flame_popfile.specs.declared.place.Place.{Place}
-use Rattle.flame_popfile.specs.declared.place.Place.TheVariants.{Root, Key, Member, rolls-Root, rolls-Key, rolls-Member}
-use Rattle.flame_popfile.specs.declared.place.Place.TheOpen.{Place-F}
-use Rattle.flame_popfile.specs.declared.place.Place.TheFolds.{fold-roll-Place}
+use Rattle.flame_xmml.specs.declared.place.Place.{Place}
+use Rattle.flame_xmml.specs.declared.place.Place.TheVariants.{Root, Key, Member, rolls-Member}
+use Rattle.flame_xmml.specs.declared.place.Place.TheOpen.{Place-F}
+use Rattle.flame_xmml.specs.declared.place.Place.TheFolds.{fold-roll-Place}
 use Rattle.flame_xmml.specs.ValueParts.{part, has, is_object}
 use Rattle.flame_popfile.specs.declared.faults.PopFault.{PopFault}
 use Rattle.flame_popfile.specs.declared.faults.PopKind.TheVariants.{Shape}
 use Rattle.flame_popfile.specs.PopulationParts.{Faults, optional, unless_missing, object_faults, refused}
-use Rattle.flame_popfile.specs.PopulationPlaces.{path_of, path_step}
+use Rattle.flame_xmml.specs.ValuePlaces.{path_of, path_step}
+use Rattle.flame_xmml.proofs.Paths.{path_of-Root, path_of-Key}
 use Rattle.flame_popfile.specs.PopulationTables.{LengthTable, asked_by}
-
-pub path_of-Root : path_of Root ≡ root
-path_of-Root = ap path_of (sym rolls-Root) ∙ fold-roll-Place (List ℕ) path_step Place-F.Root
-
-pub path_of-Key : (parent : Bor Place) (key : Bor (List ℕ)) → path_of (Key parent key) ≡ at_key (path_of parent.now) key.now
-path_of-Key parent key =
-    ap path_of (sym (rolls-Key parent key)) ∙ fold-roll-Place (List ℕ) path_step (Place-F.Key parent key)
 
 pub path_of-Member :
     (parent : Bor Place) (number : ℕ) → path_of (Member parent number) ≡ at_number (path_of parent.now) number

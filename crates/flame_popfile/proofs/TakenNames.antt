@@ -12,13 +12,13 @@ use Rattle.flame_spec.specs.Paths.{at_key}
 use Rattle.flame_spec.specs.declared.models.AgentType.{AgentType}
 use Rattle.flame_popfile.specs.declared.faults.PopFault.{PopFault}
 use Rattle.flame_popfile.specs.declared.faults.PopKind.TheVariants.{Shape, UnknownAgent, Duplicate}
-use Rattle.flame_popfile.specs.declared.place.Place.{Place}
-use Rattle.flame_popfile.specs.declared.place.Place.TheVariants.{Key}
+use Rattle.flame_xmml.specs.declared.place.Place.{Place}
+use Rattle.flame_xmml.specs.declared.place.Place.TheVariants.{Key}
 use Rattle.flame_popfile.specs.PopulationParts.{name_in, refused}
 use Rattle.flame_popfile.specs.PopulationFaults.{taken_names, type_named, type_in, name_faults, member_name_faults}
-use Rattle.flame_popfile.specs.PopulationPlaces.{path_of}
+use Rattle.flame_xmml.specs.ValuePlaces.{path_of}
 use Rattle.flame_popfile.specs.DealtAgents.{names_taken}
-use Rattle.flame_popfile.proofs.PlacePaths.{path_of-Key}
+use Rattle.flame_xmml.proofs.Paths.{path_of-Key}
 
 -- before any member no name is taken
 pub taken_none : (format : Format) → taken_names format [] ≡ []

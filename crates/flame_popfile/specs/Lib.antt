@@ -12,7 +12,6 @@ pub mod PopulationKinds
 pub mod RowTexts
 -- ---- the words that only bodies and proofs use
 pub mod PopulationReads
-pub mod PopulationPlaces
 pub mod PopulationNumbers
 pub mod PopulationTables
 pub mod DealtAgents

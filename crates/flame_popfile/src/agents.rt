@@ -13,7 +13,7 @@ ghost use Rattle.flame_popfile.specs.PopulationFaults.{memory_faults, rows_fault
 ghost use Rattle.flame_popfile.specs.PopulationFaults.{agents_faults, taken_names};
 ghost use Rattle.flame_popfile.specs.PopulationAgents.{memory_of, agents_in, agents_of};
 ghost use Rattle.flame_popfile.specs.DealtAgents.{AreAdded, rows_of, bags_of, names_taken};
-ghost use Rattle.flame_popfile.specs.PopulationPlaces.{path_of};
+ghost use Rattle.flame_xmml.specs.ValuePlaces.{path_of};
 ghost use Rattle.flame_popfile.specs.PopulationReads.{Reads, Passes};
 
 use crate::faults::{PopFault, PopKind};
@@ -21,9 +21,9 @@ use crate::formats::Format;
 use crate::kinds::{Kind, Kinds};
 use crate::members::{add_rows_at, memory_at, memory_of};
 use crate::names::Names;
-use crate::parts::{fault, members, object, part};
-use crate::place::Place;
+use crate::parts::{fault, object};
 use flame_rows::{Bag, Fail, NoMemory, Row, Seq};
+use flame_xmml::{Place, members, part};
 use serde_json::Value;
 use std::alloc::Global;
 

@@ -7,16 +7,16 @@ ghost use Rattle.serde_json.specs.View.{view, members_view};
 ghost use Rattle.flame_spec.specs.Paths.{at_key};
 ghost use Rattle.flame_popfile.specs.PopulationParts.{object_faults, entries_faults, known_faults, variable_faults};
 ghost use Rattle.flame_popfile.specs.PopulationParts.{entries as entries_in};
-ghost use Rattle.flame_popfile.specs.PopulationPlaces.{path_of};
+ghost use Rattle.flame_xmml.specs.ValuePlaces.{path_of};
 ghost use Rattle.flame_popfile.specs.PopulationReads.{Passes};
 ghost use Rattle.flame_popfile.specs.PopulationTables.{asked_by};
 
 use crate::faults::{PopFault, PopKind};
 use crate::lists::variable_at;
 use crate::parts::fault;
-use crate::place::Place;
 use crate::tables::Lengths;
 use flame_rows::Fail;
+use flame_xmml::Place;
 use serde_json::{Map, Value};
 use std::alloc::Global;
 

@@ -10,7 +10,7 @@ ghost use Rattle.flame_popfile.specs.PopulationParts.{optional, number_faults, i
 ghost use Rattle.flame_popfile.specs.PopulationFaults.{format_numbered, format_of, version_faults, itno_of, limit_faults};
 ghost use Rattle.flame_popfile.specs.PopulationFaults.{environment_faults};
 ghost use Rattle.flame_popfile.specs.PopulationAgents.{constants_of};
-ghost use Rattle.flame_popfile.specs.PopulationPlaces.{path_of};
+ghost use Rattle.flame_xmml.specs.ValuePlaces.{path_of};
 ghost use Rattle.flame_popfile.specs.PopulationReads.{Reads, Passes};
 ghost use Rattle.flame_popfile.specs.declared.formats.Format.TheVariants.{One, Two};
 
@@ -20,10 +20,10 @@ use crate::formats::Format;
 use crate::lists::add_ints;
 use crate::members::{add_zeros, named_in, single};
 use crate::numbers::{int_in, itno_at};
-use crate::parts::{fault, part};
-use crate::place::Place;
+use crate::parts::fault;
 use crate::tables::lengths_of;
 use flame_rows::{Fail, NoMemory, Row, Text};
+use flame_xmml::{Place, part};
 use serde_json::Value;
 use std::alloc::Global;
 

@@ -15,7 +15,6 @@ mod names;
 mod numbers;
 mod parts;
 mod pieces;
-mod place;
 mod populations;
 mod rows;
 mod starts;

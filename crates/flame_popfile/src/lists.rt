@@ -6,14 +6,14 @@ ghost use Rattle.flame_xmml.specs.ValueParts.{members};
 ghost use Rattle.flame_spec.specs.FirstFaults.{FailsFirst};
 ghost use Rattle.flame_popfile.specs.PopulationParts.{number_of, numbers_of};
 ghost use Rattle.flame_popfile.specs.PopulationParts.{each_member, int_faults, ints_faults, variable_faults};
-ghost use Rattle.flame_popfile.specs.PopulationPlaces.{path_of};
+ghost use Rattle.flame_xmml.specs.ValuePlaces.{path_of};
 ghost use Rattle.flame_popfile.specs.PopulationReads.{Passes};
 
 use crate::faults::{PopFault, PopKind};
 use crate::numbers::{int_at, number_of};
-use crate::parts::{fault, members};
-use crate::place::Place;
+use crate::parts::fault;
 use flame_rows::{Fail, NoMemory};
+use flame_xmml::{Place, members};
 use serde_json::Value;
 use std::alloc::Global;
 

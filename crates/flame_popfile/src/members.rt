@@ -9,18 +9,18 @@ ghost use Rattle.flame_popfile.specs.PopulationParts.{number_of, numbers_of, zer
 ghost use Rattle.flame_popfile.specs.PopulationParts.{optional, each_member, ints_faults, called};
 ghost use Rattle.flame_popfile.specs.PopulationFaults.{memory_faults, rows_faults};
 ghost use Rattle.flame_popfile.specs.PopulationAgents.{memory_of};
-ghost use Rattle.flame_popfile.specs.PopulationPlaces.{path_of};
+ghost use Rattle.flame_xmml.specs.ValuePlaces.{path_of};
 ghost use Rattle.flame_popfile.specs.PopulationReads.{Reads, Passes};
 
 use crate::entries::entries;
 use crate::faults::{PopFault, PopKind};
 use crate::lists::add_ints;
 use crate::numbers::number_of;
-use crate::parts::{fault, members, part};
-use crate::place::Place;
+use crate::parts::fault;
 use crate::tables::Lengths;
 use flame_rows::{Fail, NoMemory, Row};
 use flame_spec::Variable;
+use flame_xmml::{Place, members, part};
 use serde_json::Value;
 use std::alloc::Global;
 

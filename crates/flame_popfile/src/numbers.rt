@@ -9,13 +9,13 @@ ghost use Rattle.serde_json.specs.Find.{as_integer};
 ghost use Rattle.flame_xmml.specs.Wants.{held, int_of, is_whole, whole_named};
 ghost use Rattle.flame_popfile.specs.PopulationParts.{number_of, int_faults, number_faults, is_itno};
 ghost use Rattle.flame_popfile.specs.PopulationNumbers.{int_read, int_read_of};
-ghost use Rattle.flame_popfile.specs.PopulationPlaces.{path_of};
+ghost use Rattle.flame_xmml.specs.ValuePlaces.{path_of};
 ghost use Rattle.flame_popfile.specs.PopulationReads.{Reads};
 
 use crate::faults::{PopFault, PopKind};
 use crate::parts::fault;
-use crate::place::Place;
 use flame_rows::Fail;
+use flame_xmml::Place;
 use serde_json::{Number, Value};
 use std::alloc::Global;
 

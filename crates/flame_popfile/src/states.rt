@@ -5,7 +5,7 @@ ghost use Rattle.serde_json.specs.View.{view};
 ghost use Rattle.flame_popfile.specs.PopulationParts.{object_faults};
 ghost use Rattle.flame_popfile.specs.PopulationFaults.{world_faults, states_faults, population_faults};
 ghost use Rattle.flame_popfile.specs.PopulationStarts.{world_of, states_start, start_of};
-ghost use Rattle.flame_popfile.specs.PopulationPlaces.{path_of};
+ghost use Rattle.flame_xmml.specs.ValuePlaces.{path_of};
 ghost use Rattle.flame_popfile.specs.PopulationReads.{Reads};
 
 use crate::agents::agents_at;
@@ -13,12 +13,12 @@ use crate::environment::{constants_at, format_at, number_at, within_limit};
 use crate::faults::{PopFault, PopKind};
 use crate::formats::Format;
 use crate::kinds::Kinds;
-use crate::parts::{fault, object, part};
-use crate::place::Place;
+use crate::parts::{fault, object};
 use crate::starts::Start;
 use flame_rows::Fail;
 use flame_spec::Model;
 use flame_world::World;
+use flame_xmml::{Place, part};
 use serde_json::Value;
 use std::alloc::Global;
 

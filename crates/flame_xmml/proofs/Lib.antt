@@ -2,7 +2,7 @@ pub mod Firsts
 pub mod Formed
 pub mod FormedWide
 pub mod Layers
-pub mod Members
+pub mod ListViews
 pub mod Parsed
 pub mod Paths
 pub mod Plain

@@ -33,7 +33,7 @@ pub optional-inside :
 optional-inside faults parent key inner value there is_there =
     rw (path_of-Key parent key, there, ← is_there) refl
 
-path_of-Root : path_of Root ≡ root
+pub path_of-Root : path_of Root ≡ root
 path_of-Root = ap path_of (sym rolls-Root) ∙ fold-roll-Place (List ℕ) path_step Place-F.Root
 
 -- the faults of the whole value are those at the place of `xmodel`

@@ -21,5 +21,7 @@ mod wide;
 mod words;
 
 pub use faults::{Shape, Want};
+pub use parts::{members, part};
+pub use place::{Place, path};
 pub use reader::model_of;
 pub use wide::wide_of;

@@ -15,7 +15,7 @@ use serde_json::Value;
 use std::alloc::Global;
 
 /// What stands at a key of an object: None where nothing does, and where null does, which counts as missing.
-pub(crate) fn part<'v>(value: &'v Value, key: &str) -> Option<&'v Value>
+pub fn part<'v>(value: &'v Value, key: &str) -> Option<&'v Value>
     ensures value { data_of result ≡ part key.now (view value.now) }
     ensures there { is_some result ≡ has key.now (view value.now) }
 {
@@ -33,8 +33,8 @@ pub(crate) fn has(value: &Value, key: &str) -> bool
 }
 
 /// The members of a list: None where the value is no list.
-#[tactic(auto, using(crate::proofs::Members::items_list_view))]
-pub(crate) fn members(value: &Value) -> Option<&[Value]>
+#[tactic(auto, using(crate::proofs::ListViews::items_list_view))]
+pub fn members(value: &Value) -> Option<&[Value]>
     ensures { option_map (λ values. map view values.now) result ≡ members (view value.now) }
 {
     let values = value.as_array()?;

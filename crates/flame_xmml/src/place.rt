@@ -1,4 +1,4 @@
-//! Places in a model's value.
+//! Places in a value.
 
 ghost use Rattle.std.specs.Prelude.{◌≡◌, ◌++◌, string_bytes, IfOk, IfErr};
 ghost use Rattle.flame_xmml.specs.ValuePlaces.{path_of};
@@ -8,7 +8,7 @@ use std::alloc::Global;
 
 /// A place, by the way from the root: it holds what the path needs, and no path.
 #[derive(Clone, Copy)]
-pub(crate) enum Place<'a> {
+pub enum Place<'a> {
     /// The root.
     Root,
     /// What stands at a key of the object at a place.
@@ -17,8 +17,8 @@ pub(crate) enum Place<'a> {
     Member(&'a Place<'a>, usize),
 }
 
-/// The path of the place: its keys and numbers from the root, each after a `/`.
-pub(crate) fn path(alloc: Global, place: &Place<'_>) -> Result<Text, NoMemory>
+/// The path of the place: its keys and numbers from the root, each after a `/`. The error is want of memory.
+pub fn path(alloc: Global, place: &Place<'_>) -> Result<Text, NoMemory>
     ensures { IfOk result (λ path. path ≡ path_of place.now) }
 {
     let mut path = String::new(alloc);

@@ -1,6 +1,8 @@
 //! Each public call once, on values worked by hand. Tables of cases stand in the files of cases.
 
 use crate::faults::Shape;
+use crate::parts::{members, part};
+use crate::place::{Place, path};
 use crate::reader::model_of;
 use crate::wide::wide_of;
 use flame_rows::Fail;
@@ -54,6 +56,22 @@ fn a_model_file_is_read(rt: HostRuntime) -> Result<(), Failed> {
             assert_eq!(rt; wide.messages.len(), 1);
             assert_eq!(rt; wide.nested.len(), 1);
         }
+        Err(_fail) => assert!(rt; false),
+    }
+    Ok(())
+}
+
+#[test]
+fn parts_and_places_are_told(rt: HostRuntime) -> Result<(), Failed> {
+    let alloc = rt.alloc();
+    let value = Value::from_str(alloc, r#"{"a":[1,2]}"#)?;
+    assert!(rt; part(&value, "b").is_none());
+    match part(&value, "a") {
+        Some(list) => assert!(rt; members(list).is_some()),
+        None => assert!(rt; false),
+    }
+    match path(alloc, &Place::Key(&Place::Root, "a")) {
+        Ok(path) => assert_eq!(rt; path.as_str(), "/a"),
         Err(_fail) => assert!(rt; false),
     }
     Ok(())

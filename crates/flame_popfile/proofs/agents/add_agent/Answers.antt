@@ -3,7 +3,7 @@ use Rattle.std.proofs.Common.{◌≡◌, ◌∙◌, refl, sym, subst}
 use Rattle.serde_json.specs.View.{view}
 use Rattle.flame_spec.specs.FirstFaults.{FailsFirst}
 use Rattle.flame_popfile.specs.PopulationFaults.{agent_parts}
-use Rattle.flame_popfile.specs.PopulationPlaces.{path_of}
+use Rattle.flame_xmml.specs.ValuePlaces.{path_of}
 use Rattle.flame_popfile.proofs.Firsts.{passed_on, passes_along}
 use Rattle.flame_popfile.proofs.PlacePaths.{object_is, object_not}
 use Rattle.flame_popfile.proofs.agents.add_agent.Goals as goal

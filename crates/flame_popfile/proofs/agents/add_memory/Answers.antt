@@ -7,7 +7,7 @@ use Rattle.flame_spec.specs.FirstFaults.{FailsFirst}
 use Rattle.flame_popfile.specs.PopulationAgents.{memory_of}
 use Rattle.flame_popfile.specs.PopulationFaults.{memory_faults}
 use Rattle.flame_popfile.specs.PopulationParts.{optional, called}
-use Rattle.flame_popfile.specs.PopulationPlaces.{path_of}
+use Rattle.flame_xmml.specs.ValuePlaces.{path_of}
 use Rattle.flame_popfile.proofs.Firsts.{passed_on}
 use Rattle.flame_popfile.proofs.agents.add_memory.Goals as goal
 

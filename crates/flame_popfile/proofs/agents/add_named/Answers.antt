@@ -1,7 +1,7 @@
 -- What a member has wrong with its name comes before what its type finds wrong.
 use Rattle.std.proofs.Common.{◌≡◌, ◌++◌, [], ◌∙◌, Some, sym, ap, arith}
 use Rattle.serde_json.specs.View.{view}
-use Rattle.flame_popfile.specs.PopulationPlaces.{path_of}
+use Rattle.flame_xmml.specs.ValuePlaces.{path_of}
 use Rattle.flame_popfile.specs.PopulationFaults.{content_faults, member_name_faults}
 use Rattle.flame_popfile.proofs.Firsts.{first_stays, first_after, passed_on, passes_along}
 use Rattle.flame_popfile.proofs.Dealing.{type_within, parts_found, added_at}

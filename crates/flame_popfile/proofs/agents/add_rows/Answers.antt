@@ -5,7 +5,7 @@ use Rattle.flame_spec.specs.FirstFaults.{FailsFirst}
 use Rattle.flame_xmml.specs.ValueParts.{part}
 use Rattle.flame_popfile.specs.PopulationFaults.{rows_faults}
 use Rattle.flame_popfile.specs.PopulationParts.{optional, members_of, numbers_of}
-use Rattle.flame_popfile.specs.PopulationPlaces.{path_of}
+use Rattle.flame_xmml.specs.ValuePlaces.{path_of}
 use Rattle.flame_popfile.proofs.Firsts.{passed_on}
 use Rattle.flame_popfile.proofs.agents.add_rows.Goals as goal
 

@@ -3,7 +3,7 @@ use Rattle.std.proofs.Common.{codes, sym, ap}
 use Rattle.serde_json.specs.View.{view}
 use Rattle.flame_popfile.specs.PopulationParts.{list_faults, members_of}
 use Rattle.flame_popfile.specs.PopulationFaults.{agents_faults}
-use Rattle.flame_popfile.specs.PopulationPlaces.{path_of}
+use Rattle.flame_xmml.specs.ValuePlaces.{path_of}
 use Rattle.flame_popfile.specs.PopulationAgents.{agents_of}
 use Rattle.flame_popfile.proofs.Firsts.{reads_along}
 use Rattle.flame_popfile.proofs.PlacePaths.{optional_inside, optional_missing}

@@ -10,7 +10,7 @@ use Rattle.flame_spec.specs.Paths.{at_number}
 use Rattle.flame_popfile.specs.declared.faults.PopFault.{PopFault}
 use Rattle.flame_popfile.specs.PopulationAgents.{agents_of}
 use Rattle.flame_popfile.specs.PopulationFaults.{agent_faults, taken_names}
-use Rattle.flame_popfile.specs.PopulationPlaces.{path_of}
+use Rattle.flame_xmml.specs.ValuePlaces.{path_of}
 use Rattle.flame_popfile.specs.DealtAgents.{AreDealt, rows_of}
 use Rattle.flame_popfile.proofs.Dealing.{bags_of-rows, bags_dealt, nobody_dealt, dealt_more}
 use Rattle.flame_popfile.proofs.Firsts.{first_stays, read_on}

@@ -5,7 +5,7 @@ use Rattle.flame_spec.specs.Lists.{each_from}
 use Rattle.flame_spec.specs.Paths.{at_number}
 use Rattle.flame_popfile.specs.PopulationFaults.{agent_faults, agents_faults, taken_names}
 use Rattle.flame_popfile.specs.DealtAgents.{AreDealt, rows_of}
-use Rattle.flame_popfile.specs.PopulationPlaces.{path_of}
+use Rattle.flame_xmml.specs.ValuePlaces.{path_of}
 use Rattle.flame_popfile.proofs.agents.each_agent.Given as goal
 
 abbrev pub invariant-loop-number : goal.invariant-loop-number

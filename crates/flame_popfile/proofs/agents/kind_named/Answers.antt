@@ -3,7 +3,7 @@ use Rattle.std.proofs.Common.{◌≡◌, ◌∙◌, sym, subst}
 use Rattle.std.specs.Prelude.{IfErr}
 use Rattle.std.proofs.lemmas.Result.{err_from_is_err_and}
 use Rattle.flame_spec.specs.FirstFaults.{FailsFirst}
-use Rattle.flame_popfile.specs.PopulationPlaces.{path_of}
+use Rattle.flame_xmml.specs.ValuePlaces.{path_of}
 use Rattle.flame_popfile.proofs.Firsts.{failed_on}
 use Rattle.flame_popfile.proofs.TakenNames.{name_of_type, name_of_none}
 use Rattle.flame_popfile.proofs.agents.kind_named.Goals as goal

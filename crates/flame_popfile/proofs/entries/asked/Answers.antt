@@ -3,7 +3,7 @@ use Rattle.std.proofs.Common.{◌≡◌, ◌∙◌, ap, option_map, subst}
 use Rattle.std.specs.HashMap.{get_by_text}
 use Rattle.serde_json.specs.View.{view}
 use Rattle.flame_popfile.specs.PopulationParts.{known_faults, variable_faults}
-use Rattle.flame_popfile.specs.PopulationPlaces.{path_of}
+use Rattle.flame_xmml.specs.ValuePlaces.{path_of}
 use Rattle.flame_popfile.specs.PopulationReads.{Passes}
 use Rattle.flame_popfile.proofs.KeyTables.{found_lengths}
 use Rattle.flame_popfile.proofs.entries.asked.Goals as goal

@@ -7,7 +7,7 @@ use Rattle.flame_spec.specs.Paths.{at_key}
 use Rattle.flame_spec.specs.FirstFaults.{FailsFirst}
 use Rattle.flame_popfile.specs.declared.faults.PopFault.{PopFault}
 use Rattle.flame_popfile.specs.PopulationParts.{entries}
-use Rattle.flame_popfile.specs.PopulationPlaces.{path_of}
+use Rattle.flame_xmml.specs.ValuePlaces.{path_of}
 use Rattle.flame_popfile.specs.PopulationTables.{asked_by}
 use Rattle.flame_popfile.proofs.Firsts.{first_stays, passed_on, passes_along}
 use Rattle.flame_popfile.proofs.PlacePaths.{asked_at}

@@ -4,7 +4,7 @@ use Rattle.std.specs.List.{flat_map}
 use Rattle.serde_json.specs.View.{members_view}
 use Rattle.flame_spec.specs.Paths.{at_key}
 use Rattle.flame_popfile.specs.PopulationParts.{entries}
-use Rattle.flame_popfile.specs.PopulationPlaces.{path_of}
+use Rattle.flame_xmml.specs.ValuePlaces.{path_of}
 use Rattle.flame_popfile.specs.PopulationTables.{asked_by}
 use Rattle.flame_popfile.proofs.entries.each_entry.Given as goal
 

@@ -4,7 +4,7 @@ use Rattle.serde_json.specs.View.{view}
 use Rattle.flame_spec.specs.Lists.{each_from}
 use Rattle.flame_spec.specs.Paths.{at_number}
 use Rattle.flame_popfile.specs.PopulationParts.{each_member, int_faults, number_of}
-use Rattle.flame_popfile.specs.PopulationPlaces.{path_of}
+use Rattle.flame_xmml.specs.ValuePlaces.{path_of}
 use Rattle.flame_popfile.proofs.lists.add_each_int.Given as goal
 
 abbrev pub invariant-loop-number : goal.invariant-loop-number

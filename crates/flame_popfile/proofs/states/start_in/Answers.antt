@@ -6,7 +6,7 @@ use Rattle.flame_spec.specs.FirstFaults.{FailsFirst}
 use Rattle.flame_popfile.specs.declared.formats.Format.{Format}
 use Rattle.flame_popfile.specs.PopulationFaults.{world_faults}
 use Rattle.flame_popfile.specs.PopulationStarts.{world_of}
-use Rattle.flame_popfile.specs.PopulationPlaces.{path_of}
+use Rattle.flame_xmml.specs.ValuePlaces.{path_of}
 use Rattle.flame_popfile.proofs.Firsts.{first_stays, first_after, read_on, none_both}
 use Rattle.flame_popfile.proofs.StartParts.{start_from}
 use Rattle.flame_popfile.proofs.states.start_in.Goals as goal

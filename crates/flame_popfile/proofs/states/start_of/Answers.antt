@@ -10,7 +10,8 @@ use Rattle.flame_popfile.specs.PopulationParts.{object_faults, refused}
 use Rattle.flame_popfile.specs.PopulationFaults.{states_faults}
 use Rattle.flame_popfile.specs.PopulationStarts.{states_start}
 use Rattle.flame_popfile.proofs.Firsts.{read_on, reads_along}
-use Rattle.flame_popfile.proofs.PlacePaths.{path_of-Root, object_not, whole}
+use Rattle.flame_xmml.proofs.Paths.{path_of-Root}
+use Rattle.flame_popfile.proofs.PlacePaths.{object_not, whole}
 use Rattle.flame_popfile.proofs.states.start_of.Goals as goal
 
 pub returns-in_err-object : goal.returns-in_err-object

@@ -7,7 +7,7 @@ use Rattle.flame_xmml.specs.ValueParts.{part}
 use Rattle.flame_popfile.specs.PopulationAgents.{constants_of, agents_of}
 use Rattle.flame_popfile.specs.PopulationFaults.{environment_faults, agents_faults}
 use Rattle.flame_popfile.specs.PopulationParts.{optional, list_faults, members_of}
-use Rattle.flame_popfile.specs.PopulationPlaces.{path_of}
+use Rattle.flame_xmml.specs.ValuePlaces.{path_of}
 use Rattle.flame_popfile.proofs.Firsts.{first_stays, first_after, read_on, none_both}
 use Rattle.flame_popfile.proofs.StartParts.{world_from}
 use Rattle.flame_popfile.proofs.states.world_at.Goals as goal
