@@ -9,3 +9,7 @@ pub mod VariableTexts
 pub mod MemberFaults
 pub mod Chains
 pub mod StartParts
+pub mod WrittenTokens
+pub mod WrittenValues
+pub mod PutMembers
+pub mod WrittenForms
