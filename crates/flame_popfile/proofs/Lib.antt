@@ -13,3 +13,14 @@ pub mod WrittenTokens
 pub mod WrittenValues
 pub mod PutMembers
 pub mod WrittenForms
+pub mod PopulationValues
+pub mod WrittenNames
+pub mod WrittenRows
+pub mod WrittenMembers
+pub mod WrittenPopulations
+pub mod NameSearches
+pub mod DifferentNames
+pub mod ReadRows
+pub mod ClearMembers
+pub mod ReadAgents
+pub mod WrittenBack

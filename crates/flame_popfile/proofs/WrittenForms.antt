@@ -1,6 +1,6 @@
 -- Texts that are read as values: numbers, names, lists and objects.
-use Rattle.std.proofs.Common.{◌≡◌, ℕ, suc, ◌+◌, ◌^◌, ◌≤◌, ◌<◌, List, [], ◌∷◌, ◌++◌, Bool, true, false, Some, decimal, IsUtf8, refl, sym, ap, ap₂, ◌∙◌, append_assoc, append-nil, arith}
-use Rattle.std.specs.Prelude.{⊤, ℤ, pos, negsuc, max}
+use Rattle.std.proofs.Common.{◌≡◌, ℕ, suc, ◌^◌, ◌≤◌, ◌<◌, List, [], ◌∷◌, ◌++◌, Bool, true, false, Some, decimal, IsUtf8, refl, sym, ap, ap₂, ◌∙◌, append_assoc, arith}
+use Rattle.std.specs.Prelude.{ℤ, pos, negsuc}
 use Rattle.std.specs.List.{AllZip}
 use Rattle.std.specs.Fmt.{signed_decimal}
 use Rattle.std.specs.Str.{is_utf8}
@@ -95,9 +95,12 @@ record WritesItems (deep : ℕ) (texts : List (List ℕ)) (values : List Data) :
   shallow : tree.items_depth (items_outline whole) ≤ deep
   same : items_settled whole ≡ items_of values
 
-behind_text : (later : Bool) (x xs end : List ℕ) → comma_where later ++ (x ++ (xs ++ end)) ≡ (comma_where later ++ (x ++ xs)) ++ end
+behind_text :
+    (later : Bool) (x xs end : List ℕ)
+    → comma_where later ++ (x ++ (xs ++ end)) ≡ (comma_where later ++ (x ++ xs)) ++ end
 behind_text later x xs end =
-    ap (λ l. comma_where later ++ l) (sym (append_assoc x xs end)) ∙ sym (append_assoc (comma_where later) (x ++ xs) end)
+    ap (λ l. comma_where later ++ l) (sym (append_assoc x xs end))
+    ∙ sym (append_assoc (comma_where later) (x ++ xs) end)
 
 writes_items :
     (deep : ℕ) (texts : List (List ℕ)) (values : List Data)
@@ -188,7 +191,9 @@ writes_members deep (text ∷ texts) (pair ∷ pairs) h =
           ∙ ap (λ x. (comma_where later ++ (x ++ behind true texts)) ++ 125 ∷ []) first.spelled;
       sound = (first.utf8, value.sound, rest.sound);
       shallow = omega (arith, a, b);
-      same = λ found. ap (λ d. members_settled rest.whole (put pair.0 d found)) value.same ∙ rest.same (put pair.0 pair.1 found);
+      same = λ found.
+          ap (λ d. members_settled rest.whole (put pair.0 d found)) value.same
+          ∙ rest.same (put pair.0 pair.1 found);
     }
 
 -- the text of an object

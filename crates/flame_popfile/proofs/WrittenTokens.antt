@@ -97,7 +97,9 @@ lexemes_before end is after (t ∷ ts) h =
     (same_behind t (rest ++ end) rest h.0 (lexemes_before end is (ends t) ts h.1)
     (λ e. (
       ap (λ b. ends_word (print_from b ts ++ end)) e ∙ value_ends end is.0 ts,
-      ap (λ b. ends_word (print_from b ts)) e ∙ ap ends_word (sym (append-nil (print_from true ts))) ∙ value_ends [] refl ts,
+      ap (λ b. ends_word (print_from b ts)) e
+          ∙ ap ends_word (sym (append-nil (print_from true ts)))
+          ∙ value_ends [] refl ts,
     )))
 
 -- the tokens before an end are those that were printed

@@ -1,16 +1,15 @@
 -- Values whose text is read back.
-use Rattle.std.proofs.Common.{◌≡◌, ℕ, ◌≤◌, ◌<◌, ◌^◌, List, [], ◌∷◌, ◌++◌, Bool, true, false, Option, Some, None, option_map, option_and_then, IsUtf8, refl, sym, ap, ap₂, ◌∙◌, append_assoc, append-nil, arith}
-use Rattle.std.specs.Prelude.{⊤, ℤ, pos, negsuc}
+use Rattle.std.proofs.Common.{◌≡◌, ℕ, ◌≤◌, List, [], ◌∷◌, ◌++◌, Bool, true, false, Some, option_map, option_and_then, IsUtf8, refl, sym, ap, ◌∙◌, append-nil}
+use Rattle.std.specs.Prelude.{⊤}
 use Rattle.std.specs.Str.{is_utf8}
 use Rattle.std.proofs.lemmas.Str.{IsUtf8-append, IsUtf8-nil, is_utf8-from_IsUtf8}
-use Rattle.json.specs.Lex.{tokens}
 use Rattle.json.specs.Json as json
 use Rattle.json.specs.Print.{print, IsNumber, token_text, quoted}
 use Rattle.json.specs.Tree.{json_tokens, HasNumbers, ItemsHaveNumbers, MembersHaveNumbers}
 use Rattle.json.specs.Tree as tree
 use Rattle.json.specs.Token as word
 use Rattle.json.proofs.Printed.Trees.{value-json_tokens, ArePrintable-json_tokens}
-use Rattle.json.proofs.Printed.Utf8.{IsUtf8-are_ascii, IsUtf8-quoted, IsUtf8-key, IsUtf8-boolean}
+use Rattle.json.proofs.Printed.Utf8.{IsUtf8-are_ascii, IsUtf8-quoted, IsUtf8-boolean}
 use Rattle.serde_json.specs.Data.{Num, Data, null, boolean, number, string, array, object, Items, no_items, item, Members, no_members, member, put}
 use Rattle.serde_json.specs.Read.{number_of, of_json, of_items, of_members, read, max_depth}
 use Rattle.serde_json.specs.Written.{number_text, outline, items_outline, members_outline, comma_if, compact_text, items_text, members_text}
@@ -119,8 +118,10 @@ mutual
   text_utf8 (boolean b) h = IsUtf8-boolean b
   text_utf8 (number n) h = h.utf8
   text_utf8 (string s) h = IsUtf8-quoted s h
-  text_utf8 (array ds) h = IsUtf8-append (91 ∷ []) (items_text false ds) (IsUtf8-are_ascii (91 ∷ []) refl) (items_utf8 false ds h)
-  text_utf8 (object ms) h = IsUtf8-append (123 ∷ []) (members_text false ms) (IsUtf8-are_ascii (123 ∷ []) refl) (members_utf8 false ms h)
+  text_utf8 (array ds) h =
+      IsUtf8-append (91 ∷ []) (items_text false ds) (IsUtf8-are_ascii (91 ∷ []) refl) (items_utf8 false ds h)
+  text_utf8 (object ms) h =
+      IsUtf8-append (123 ∷ []) (members_text false ms) (IsUtf8-are_ascii (123 ∷ []) refl) (members_utf8 false ms h)
 
   items_utf8 : (later : Bool) (ds : Items) → AreSound ds → IsUtf8 (items_text later ds)
   items_utf8 later no_items h = IsUtf8-are_ascii (93 ∷ []) refl
@@ -139,7 +140,8 @@ mutual
 
 -- the text of a value, before an end, is UTF-8
 pub utf8_before : (d : Data) (end : List ℕ) → IsSound d → IsUtf8 end → is_utf8 (compact_text d ++ end) ≡ true
-utf8_before d end h is = is_utf8-from_IsUtf8 (compact_text d ++ end) (IsUtf8-append (compact_text d) end (text_utf8 d h) is)
+utf8_before d end h is =
+    is_utf8-from_IsUtf8 (compact_text d ++ end) (IsUtf8-append (compact_text d) end (text_utf8 d h) is)
 
 -- the text of a value, before an end, is read as the value
 pub value_before :

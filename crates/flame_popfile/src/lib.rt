@@ -8,6 +8,7 @@ mod environment;
 mod faults;
 mod formats;
 mod kinds;
+pub mod laws;
 mod lines;
 mod lists;
 mod members;
