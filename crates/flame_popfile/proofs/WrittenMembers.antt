@@ -83,7 +83,8 @@ writes_agent :
 unfolding escape_byte
 writes_agent deep type row plain variables is =
     writes_named_value (suc (suc deep)) type.name (codes "memory") (object_text type.memory row)
-    (memory_value type.memory row) plain memory_plain (writes_memory deep type.memory row variables (omega (arith, is.0)) is.1)
+    (memory_value type.memory row) plain memory_plain
+    (writes_memory deep type.memory row variables (omega (arith, is.0)) is.1)
 
 bracketed :
     (inside end : List ℕ) → (91 ∷ (inside ++ 93 ∷ [])) ++ end ≡ 91 ∷ (inside ++ 93 ∷ end)

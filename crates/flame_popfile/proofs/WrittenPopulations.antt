@@ -169,7 +169,8 @@ writes_states model format itno world boards environment plain int is are env = 
     (
       keyed 6 (codes "agents") (list_text (all_agent_texts format model.agents world.agents))
           (list_of (agent_values format model.agents world.agents)) agents_plain
-          (writes_list 5 (all_agent_texts format model.agents world.agents) (agent_values format model.agents world.agents)
+          (writes_list 5 (all_agent_texts format model.agents world.agents)
+          (agent_values format model.agents world.agents)
           (writes_agents format model.agents world.agents plain.agents is.agents)),
       (
         keyed 6 (codes "boards") (list_text (all_board_texts format model.messages boards.boards))
