@@ -1,9 +1,8 @@
 -- Agents that are dealt out to their types.
 use Rattle.std.proofs.Common.{◌≡◌, ℕ, zero, suc, ◌+◌, ◌<◌, List, [], ◌∷◌, ◌++◌, length, get_or, map, refl, ap, ap₂, sym, ◌∙◌, subst, arith, add-zero}
-use Rattle.std.proofs.Common.{Bool, true, false, cond, nat_eq, Option, Some, None, append-nil}
+use Rattle.std.proofs.Common.{Bool, true, false, cond, Option, Some, None, append-nil}
 use Rattle.std.specs.Prelude.{ℤ, ◌==◌, slice_get, slice_set, slice_index_or, if◌then◌else◌, option_and_then, replicate, Vec}
 use Rattle.std.specs.Global.{Global}
-use Rattle.std.specs.List.{flat_map}
 use Rattle.std.specs.Option.{option_map_or}
 use Rattle.std.proofs.lemmas.Bool.{eqb-true, eqb-false}
 use Rattle.std.proofs.lemmas.List.{flat_map_more, length-replicate, get_or-replicate, length-map, length-set}

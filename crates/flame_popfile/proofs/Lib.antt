@@ -24,3 +24,7 @@ pub mod ReadRows
 pub mod ClearMembers
 pub mod ReadAgents
 pub mod WrittenBack
+pub mod FaultlessParts
+pub mod FirstVariables
+pub mod FaultlessMemories
+pub mod FaultlessStarts

@@ -1,6 +1,6 @@
 -- The faults of a population's value: all of them, in walking order. The value names the version of its layout.
 use Rattle.std.specs.Prelude.{ℕ, ℤ, pos, int_le, ◌+ℤ◌, List, [], ◌++◌, take, length, codes}
-use Rattle.std.specs.Prelude.{Bool, if◌then◌else◌, Option, Some, None, unwrap_or, option_map, option_and_then, is_some}
+use Rattle.std.specs.Prelude.{if◌then◌else◌, Option, Some, None, unwrap_or, option_map, option_and_then, is_some}
 use Rattle.std.specs.List.{filter_map}
 use Rattle.std.specs.Option.{option_map_or}
 use Rattle.std.specs.Ordering.{int_eq}
