@@ -4,6 +4,7 @@ use crate::running;
 use flame_case::Case;
 use flame_case_checks::answer_check;
 use flame_case_codes::answer_machine;
+use flame_case_loads::answer_load;
 use flame_case_models::{
     answer_flat, answer_model, answer_names, answer_plan, answer_shape, answer_wide,
 };
@@ -47,6 +48,8 @@ pub(crate) enum Kind {
     Population,
     /// `flame_machine::run`
     Machine,
+    /// `flame_load::load`
+    Load,
     /// `flame_depend::edges` and `flame_depend::plan`
     Plan,
     /// The conditions, filters and keys of `flame_cond`
@@ -80,6 +83,7 @@ pub(crate) fn kind_of(file: &str) -> Option<Kind> {
         "iteration" => Some(Kind::Iteration),
         "population" => Some(Kind::Population),
         "machine" => Some(Kind::Machine),
+        "load" => Some(Kind::Load),
         "plan" => Some(Kind::Plan),
         "condition" => Some(Kind::Condition),
         "view" => Some(Kind::View),
@@ -113,6 +117,7 @@ pub(crate) fn answer(
         Kind::Iteration => answer_iteration(rt, alloc, case),
         Kind::Population => answer_population(alloc, case),
         Kind::Machine => answer_machine(alloc, case),
+        Kind::Load => answer_load(alloc, case),
         Kind::Plan => answer_plan(alloc, case),
         Kind::Condition => answer_conditions(alloc, case),
         Kind::View => answer_views(alloc, case),

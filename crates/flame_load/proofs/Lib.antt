@@ -1,0 +1,14 @@
+pub mod JsonText
+pub mod KnownOrRefused
+pub mod Leftovers
+pub mod TextReaders
+pub mod TextSteps
+pub mod FileSteps
+pub mod OrderFaults
+pub mod SoundSources
+pub mod AcceptedLoads
+pub mod AllInputs
+pub mod FrontInputs
+pub mod SameInputs
+pub mod PlainLoads
+pub mod StartSteps
