@@ -1,0 +1,64 @@
+//! A model of one agent type, and a world of it with drawn numbers.
+
+ghost use Rattle.std.specs.Prelude.{IsTrue};
+ghost use Rattle.flame_spec.specs.WellFormed.{is_well_formed};
+
+use flame_case::{Case, read_cases};
+use flame_case_programs::{Sourced, program_of, source_in};
+use flame_program::Program;
+use flame_rows::{Bag, NoMemory, Row, Seq};
+use flame_world::World;
+use std::alloc::Global;
+
+/// A model of one agent type with three variables, as a case gives it.
+const MODEL: &str =
+    "case agents\nmodel\n|{\"xmodel\":{\"agents\":[{\"name\":\"Agent\",\"memory\":[{\"type\":\"int\",\"name\":\"x\"},{\"type\":\"int\",\"name\":\"y\"},{\"type\":\"int\",\"name\":\"z\"}]}]}}\n----\n";
+
+/// The program of a case's source; none where it has none.
+fn program_in(alloc: Global, case: &Case) -> Result<Option<Program>, NoMemory> {
+    match source_in(alloc, case)? {
+        Sourced::Source(source) => program_of(alloc, source),
+        Sourced::Told(_) => Ok(None),
+    }
+}
+
+/// The program of the model of agents.
+pub(crate) fn program_of_agents(alloc: Global) -> Result<Option<Program>, NoMemory> {
+    let cases = read_cases(alloc, MODEL)?;
+    match cases.first() {
+        Some(case) => program_in(alloc, case),
+        None => Ok(None),
+    }
+}
+
+/// The state behind this one of a linear congruential generator.
+fn next(state: u32) -> u32 {
+    state.wrapping_mul(1664525).wrapping_add(1013904223)
+}
+
+/// The memory that is drawn from this state: numbers below 65536.
+fn memory_of(alloc: Global, state: u32) -> Result<Row, NoMemory> {
+    let mut values = Vec::new(alloc);
+    let mut drawn = state;
+    for _ in 0..3 {
+        drawn = next(drawn);
+        values.push((drawn >> 16) as i32)?;
+    }
+    Ok(Row::of(values))
+}
+
+/// A world of so many agents of one type.
+pub(crate) fn world_of(alloc: Global, agents: u32) -> Result<World, NoMemory> {
+    let mut memories = Vec::new(alloc);
+    let mut state = 7;
+    for _ in 0..agents {
+        state = next(next(next(state)));
+        memories.push(memory_of(alloc, state)?)?;
+    }
+    let mut types = Vec::new(alloc);
+    types.push(Bag::of_rows(memories)?)?;
+    Ok(World {
+        constants: Row::of(Vec::new(alloc)),
+        agents: Seq::of(types),
+    })
+}
