@@ -1,7 +1,10 @@
 //! Cases of loading: each section `file NAME` is a file of a depot, and the model file is `m.json`. The lines of the section
 //! `fails depot` are the numbers of the reads that fail, from 0. The answer is `accepted agents A functions F messages M` of the
-//! program, or the line of the first refusal or of the failed read, as flame_report has it.
+//! program, or the line of the first refusal or of the failed read, as flame_report has it. Where the case has a section
+//! `turns`, what is answered of the start comes behind it.
 
+use crate::lines::text_of;
+use crate::starting::started;
 use flame_case::Case;
 use flame_load::{LoadFail, LoadFault, load};
 use flame_outside::MemDepot;
@@ -12,7 +15,6 @@ use flame_report::{
 use flame_rows::{Blob, NoMemory};
 use flame_spec::Model;
 use std::alloc::{AllocError, Global};
-use std::str;
 
 /// The name of the model file.
 const ROOT: &str = "m.json";
@@ -82,9 +84,7 @@ fn fail_line(alloc: Global, fail: &LoadFail) -> Result<Blob, NoMemory> {
 
 /// The same, as a text.
 fn refused(alloc: Global, fail: &LoadFail) -> Result<String, NoMemory> {
-    let line = fail_line(alloc, fail)?;
-    let text = str::from_utf8(line.bytes()).unwrap_or("no UTF-8\n");
-    Ok(String::from_str(alloc, text)?)
+    text_of(alloc, &fail_line(alloc, fail)?)
 }
 
 /// What is told of a program.
@@ -98,11 +98,26 @@ fn accepted(alloc: Global, program: &Program) -> Result<String, NoMemory> {
     Ok(text)
 }
 
+/// What is told of a program, and of the start for which the case has a section `turns`.
+fn loaded(
+    alloc: Global,
+    case: &Case,
+    depot: &mut MemDepot,
+    program: &Program,
+) -> Result<String, NoMemory> {
+    let mut text = accepted(alloc, program)?;
+    if let Ok(turns) = case.text("turns").trim().parse::<u32>() {
+        let more = started(alloc, depot, program, turns)?;
+        text.push_str(more.as_str())?;
+    }
+    Ok(text)
+}
+
 /// What loading answers to the case.
 fn told(alloc: Global, case: &Case) -> Result<String, NoMemory> {
     let mut depot = depot_of(alloc, case)?;
     match load(alloc, &mut depot, ROOT) {
-        Ok(program) => accepted(alloc, &program),
+        Ok(program) => loaded(alloc, case, &mut depot, &program),
         Err(fail) => refused(alloc, &fail),
     }
 }

@@ -9,8 +9,6 @@ pub mod laws;
 mod loader;
 mod model_files;
 mod starts;
-#[cfg(test)]
-mod tests;
 
 pub use faults::{FileFault, LoadFail, LoadFault, TextFault};
 pub use loader::load;
