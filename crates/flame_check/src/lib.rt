@@ -6,8 +6,6 @@ mod defining;
 mod fault;
 mod numbering;
 mod rows;
-#[cfg(test)]
-mod tests;
 mod walking;
 
 pub use checking::{Checked, check};

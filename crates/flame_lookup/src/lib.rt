@@ -8,8 +8,6 @@ mod lists;
 mod running;
 mod sources;
 mod table;
-#[cfg(test)]
-mod tests;
 mod words;
 
 pub use found::{Act, CFunction, Found, Helper, Meant, Transition};

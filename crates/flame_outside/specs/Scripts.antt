@@ -86,6 +86,21 @@ pub record FailsAt (acts : List Act) (done : ℕ) (act : Act) (old new : Outside
   pub next : drop done acts ≡ act ∷ rest
   pub failed : Failed act old new
 
+-- so many of these acts stand, and among them so many files were put [own]
+pub record HasDone (acts : List Act) (done files : ℕ) (old new : Outside) : Type 0 where
+  pub stands : StandsAt acts done old new
+  pub count : files ≡ puts_in (take done acts)
+
+-- the next act puts the file of this name, and the put failed [own]
+pub record FailsAtFile (name : List ℕ) (acts : List Act) (done : ℕ) (old new : Outside) : Type 0 where
+  pub bytes : List ℕ
+  pub fails : FailsAt acts done (puts name bytes) old new
+
+-- the next act prints, and the write failed [own]
+pub record FailsAtOutput (acts : List Act) (done : ℕ) (old new : Outside) : Type 0 where
+  pub text : List ℕ
+  pub fails : FailsAt acts done (prints text) old new
+
 -- the outside went on, whatever was done: no count fell, what is calm stayed so, and the output only grew [own]
 pub record GoesOn (old new : Outside) : Type 0 where
   pub counts : NeverFall old.depot new.depot

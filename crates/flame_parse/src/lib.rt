@@ -6,8 +6,6 @@ pub mod laws;
 mod operators;
 mod simple;
 mod stmt;
-#[cfg(test)]
-mod tests;
 mod unit;
 
 pub use files::parse;

@@ -14,8 +14,6 @@ mod reading;
 mod scene;
 mod statement;
 mod store;
-#[cfg(test)]
-mod tests;
 mod words;
 
 pub use outcome::evaluate;

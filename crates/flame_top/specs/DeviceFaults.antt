@@ -2,11 +2,10 @@
 use Rattle.std.specs.Prelude.{◌≡◌, ℕ, List, Option, Some}
 use Rattle.flame_outside.specs.Files.{Files}
 use Rattle.flame_outside.specs.Devices.{SeenSink}
-use Rattle.flame_outside.specs.Scripts.{Act, puts, prints, Outside, FailsAt}
+use Rattle.flame_outside.specs.Scripts.{Act, puts, prints, Outside, FailsAt, HasDone}
 use Rattle.flame_top.specs.RunOrders.{Run}
 use Rattle.flame_top.specs.Loading.{IsReached}
 use Rattle.flame_top.specs.EndingLines.{read_fault_text, write_fault_text, output_fault_text}
-use Rattle.flame_top.specs.Standing.{HasDone}
 use Rattle.flame_top.specs.Telling.{Tells}
 
 -- an input of the order, before which no refusal stands, could not be read, and is named [own]

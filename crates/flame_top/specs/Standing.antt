@@ -1,6 +1,6 @@
 -- What stands when the carrying out of a report ends, at its end or early.
-use Rattle.std.specs.Prelude.{◌≡◌, ℕ, List, length, take}
-use Rattle.flame_outside.specs.Scripts.{Act, puts, prints, puts_in, Outside, StandsAt, FailsAt}
+use Rattle.std.specs.Prelude.{◌≡◌, ℕ, List, length}
+use Rattle.flame_outside.specs.Scripts.{Act, Outside, HasDone, FailsAtFile, FailsAtOutput}
 use Rattle.flame_top.specs.NarrowRuns.{Report}
 use Rattle.flame_top.specs.declared.ending.Ending.{Ending}
 use Rattle.flame_top.specs.declared.ending.Ending.TheVariants.{Done, Refused, Faulted, ReadFault, FileFault, OutputFault, NoMemory}
@@ -25,26 +25,11 @@ IsWhole (Refused early) = Unit {0}
 IsWhole (Faulted line) = Unit {0}
 IsWhole ending = ⊥
 
--- the next act puts the file of this name, and the put failed [own]
-pub record FailsAtFile (name : List ℕ) (acts : List Act) (done : ℕ) (old new : Outside) : Type 0 where
-  pub bytes : List ℕ
-  pub fails : FailsAt acts done (puts name bytes) old new
-
--- the next act prints, and the write failed [own]
-pub record FailsAtOutput (acts : List Act) (done : ℕ) (old new : Outside) : Type 0 where
-  pub text : List ℕ
-  pub fails : FailsAt acts done (prints text) old new
-
 -- the device that the ending blames, if any, is the next act's, and it failed [own]
 abbrev pub Blames : Ending → List Act → ℕ → Outside → Outside → Type 0
 Blames (FileFault name) acts done old new = FailsAtFile name acts done old new
 Blames OutputFault acts done old new = FailsAtOutput acts done old new
 Blames ending acts done old new = Unit {0}
-
--- so many acts stand, and among them so many files were put [own]
-pub record HasDone (acts : List Act) (done files : ℕ) (old new : Outside) : Type 0 where
-  pub stands : StandsAt acts done old new
-  pub count : files ≡ puts_in (take done acts)
 
 -- what stands of a report when it ends so, with so many files put [own]
 pub record Stands (ending : Ending) (files : ℕ) (report : Report) (old new : Outside) : Type 0 where
