@@ -1,6 +1,0 @@
-use Rattle.std.proofs.Common.{ap, arith, length}
-use Rattle.std.proofs.lemmas.List.{length-map}
-use Rattle.flame_lookup.proofs.tests.words.Goals as goal
-
-pub for_function-requires : goal.for_function-requires
-for_function-requires c = omega (arith, simp length-map at (ap length c.transitions.ensures))
