@@ -1,0 +1,8 @@
+mod StageActs
+mod LeftRuns
+mod StoppedStages
+mod WholeEnds
+mod Iterated
+mod FileNumbers
+mod Restarted
+mod LineFronts

@@ -1,0 +1,136 @@
+-- An iteration that is not written whole: what stands of a run that goes on with it.
+use Rattle.std.proofs.Common.{◌≡◌, ℕ, List, [], ◌∷◌, Some, refl, sym, ap, ◌∙◌, subst, arith}
+use Rattle.std.specs.Prelude.{ℤ, pos, ◌+ℤ◌}
+use Rattle.flame_outside.specs.Files.{with_file, OthersStay}
+use Rattle.flame_outside.specs.Devices.{SeenDepot, SeenSink}
+use Rattle.flame_outside.specs.Frames.{OnlyPuts}
+use Rattle.flame_outside.specs.Scripts.{Act, puts, prints, Outside, outside, told}
+use Rattle.flame_outside.proofs.FrameLemmas.{grows_same, puts_go_on}
+use Rattle.flame_outside.proofs.ScriptLemmas.{put_stands, first_stand, failed_put, failed_print, second_of_two}
+use Rattle.flame_world.specs.declared.faults.SimFault.{SimFault}
+use Rattle.flame_world.specs.declared.turns.Turn.{Turn}
+use Rattle.flame_world.specs.declared.turns.Turn.TheVariants as turn
+use Rattle.flame_world.specs.declared.worlds.World.{World}
+use Rattle.flame_world.specs.declared.worlds.Boards.{Boards}
+use Rattle.flame_popfile.specs.declared.starts.Start.{Start}
+use Rattle.flame_driver.specs.declared.drivers.DriveEnd.{DriveEnd}
+use Rattle.flame_driver.specs.declared.drivers.DriveEnd.TheVariants.{Done, Fault, FileFault, OutputFault, NoMemory}
+use Rattle.flame_driver.specs.Runs.{Stage, stage, Run, and_run, run_by}
+use Rattle.flame_driver.specs.RunScripts.{Writing, file_name, stage_text, stage_line, acts_of}
+use Rattle.flame_driver.specs.DriveAnswers.{Drives}
+use Rattle.flame_driver.specs.StageStops.{StopsPut, StopsLine, StopsStage}
+use Rattle.flame_driver.proofs.LeftRuns.{unchanged}
+
+-- ---- an iteration that is done
+
+module _ (writing : Writing) (done : Stage) where
+  -- its line, and what is written of the run behind it
+  abbrev line_and : Run → List Act
+  line_and later = prints (stage_line done) ∷ acts_of writing later.stages
+
+  -- its file is not put
+  pub put_stops :
+      (end : DriveEnd) (old new : SeenDepot) (out : SeenSink)
+      → StopsPut done.itno old new end
+      → OthersStay (file_name writing.prefix done.itno) old.files new.files
+      → StopsStage writing done end 0 (outside old out) (outside new out)
+  put_stops Done old new out s others = λ before later is. absurd s
+  put_stops (Fault fault) old new out s others = λ before later is. absurd s
+  put_stops (FileFault number) old new out s others = λ before later is. record {
+    done = 0;
+    has_done = record {
+      stands =
+          failed_put (file_name writing.prefix done.itno) (stage_text writing done) (line_and later) old new out
+          s.1 others;
+      count = refl;
+    };
+    ends = record {
+      number = s.0 ∙ sym is;
+      file = record {
+        bytes = stage_text writing done;
+        fails = record {
+          rest = line_and later;
+          next =
+              ap (λ (itno : ℤ). puts (file_name writing.prefix itno) (stage_text writing done) ∷ line_and later)
+              (sym s.0);
+          failed = s.1;
+        };
+      };
+    };
+  }
+  put_stops OutputFault old new out s others = λ before later is. absurd s
+  put_stops NoMemory old new out s others = λ before later is.
+      let same = ap (λ (depot : SeenDepot). told (outside depot out)) s in
+      unchanged writing before (and_run done later) NoMemory (outside old out) (outside new out) same same
+
+  -- its file stands, and its line is not printed whole
+  pub line_stops :
+      (end : DriveEnd) (depot depot' : SeenDepot) (old new : SeenSink)
+      → depot'.files ≡ with_file (file_name writing.prefix done.itno) (stage_text writing done) depot.files
+      → OnlyPuts depot depot'
+      → StopsLine (stage_line done) old new end
+      → StopsStage writing done end 1 (outside depot old) (outside depot' new)
+  line_stops Done depot depot' old new put only s = λ before later is. absurd s
+  line_stops (Fault fault) depot depot' old new put only s = λ before later is. absurd s
+  line_stops (FileFault number) depot depot' old new put only s = λ before later is. absurd s
+  line_stops OutputFault depot depot' old new put only s = λ before later is. record {
+    done = 1;
+    has_done = record {
+      stands =
+          second_of_two (puts (file_name writing.prefix done.itno) (stage_text writing done) ∷ []) (line_and later) 0
+          (outside depot old) (outside depot' old) (outside depot' new)
+          (put_stands (file_name writing.prefix done.itno) (stage_text writing done) depot depot' old put)
+          (puts_go_on depot depot' old old only (grows_same old))
+          (failed_print (stage_line done) (acts_of writing later.stages) depot' old new s.0 s.1);
+      count = refl;
+    };
+    ends = record {
+      text = stage_line done;
+      fails = record { rest = acts_of writing later.stages; next = refl; failed = s.0 };
+    };
+  }
+  line_stops NoMemory depot depot' old new put only s = λ before later is.
+      let stands
+      = ap (λ (output : SeenSink). told (outside depot' output)) s
+      ∙ put_stands (file_name writing.prefix done.itno) (stage_text writing done) depot depot' old put
+      in
+      record {
+        done = 1;
+        has_done = record {
+          stands =
+              first_stand
+              (puts (file_name writing.prefix done.itno) (stage_text writing done) ∷ line_and later) 1
+              (outside depot old) (outside depot' new)
+              (omega arith) stands;
+          count = refl;
+        };
+        ends = stands;
+      }
+
+-- ---- an iteration by what it came to
+
+module _ (writing : Writing) (before : ℤ) (came : Turn) (later : Start → Run) where
+  -- it faulted
+  pub turn_faults :
+      (fault : SimFault) (old : Outside)
+      → came ≡ turn.Faulted fault
+      → Drives writing before (run_by (before +ℤ pos 1) came later) (Fault fault) 0 old old
+  turn_faults fault old faulted =
+      subst (λ (t : Turn). Drives writing before (run_by (before +ℤ pos 1) t later) (Fault fault) 0 old old)
+      (sym faulted)
+      (unchanged writing before (record { stages = []; fault = Some fault }) (Fault fault) old old refl
+      (record { fault = refl; all = refl }))
+
+  -- memory was not found for it
+  pub turn_lacks : (old : Outside) → Drives writing before (run_by (before +ℤ pos 1) came later) NoMemory 0 old old
+  turn_lacks old = unchanged writing before (run_by (before +ℤ pos 1) came later) NoMemory old old refl refl
+
+  -- it is done, and was not written whole
+  pub turn_stops :
+      (world : World) (boards : Boards) (end : DriveEnd) (files : ℕ) (old new : Outside)
+      → came ≡ turn.Done world boards
+      → StopsStage writing (stage (before +ℤ pos 1) world boards) end files old new
+      → Drives writing before (run_by (before +ℤ pos 1) came later) end files old new
+  turn_stops world boards end files old new done stops =
+      subst (λ (t : Turn). Drives writing before (run_by (before +ℤ pos 1) t later) end files old new) (sym done)
+      (stops before (later (record { itno = before +ℤ pos 1; world = world })) refl)
