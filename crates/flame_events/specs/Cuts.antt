@@ -1,0 +1,16 @@
+-- How the takers of a function are cut into pieces.
+use Rattle.std.specs.Prelude.{ℕ, zero, suc, ◌+◌, ◌-◌, ◌/◌, List, [], ◌∷◌, length, take, drop}
+
+-- how many of so many agents stand in a piece: as many as an equal share is, rounded up [own]
+abbrev pub piece_size : ℕ → ℕ → ℕ
+piece_size agents pieces = (agents + pieces - 1) / pieces
+
+-- the first runs of this length, at most so many, until all is taken: the last one may be shorter [own]
+abbrev pub runs : {X : Type 0} → ℕ → ℕ → List X → List (List X)
+runs zero size xs = []
+runs (suc more) size [] = []
+runs (suc more) size (x ∷ xs) = take size (x ∷ xs) ∷ runs more size (drop size (x ∷ xs))
+
+-- the agents in at most so many pieces, in order; none where there are no agents [own]
+abbrev pub cut : {X : Type 0} → ℕ → List X → List (List X)
+cut pieces agents = runs pieces (piece_size (length agents) pieces) agents

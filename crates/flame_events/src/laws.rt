@@ -1,0 +1,38 @@
+//! Laws of events. Each function is its contract: it computes nothing.
+
+ghost use Rattle.flame_events.specs.AbsorbedPieces.{AgentsRunAtOnce};
+ghost use Rattle.flame_events.specs.CoreFits.{FittingCoresOpen, FittingCoresStay};
+ghost use Rattle.flame_events.specs.EveryOrder.{EveryOrderIsTheIteration};
+ghost use Rattle.flame_events.specs.Histories.{HistoriesGrow, HistoriesFit};
+
+use flame_laws::names_differ;
+
+/// Whatever the order of the events, as long as each is legal when it comes: where the core is complete, its end is the
+/// iteration, faults included; where it is not, a wanted function can go on.
+pub fn every_order()
+    ensures { EveryOrderIsTheIteration }
+{
+    names_differ();
+}
+
+/// Where a piece has agents, of which none ran, its events are legal, one after another, and leave what its agents leave
+/// together.
+pub fn agents_at_once()
+    ensures { AgentsRunAtOnce }
+{}
+
+/// In a world that fits the model a core begins that fits, and so it stays, where functions are cut into one piece at
+/// least: a status for each function, a mark for each message, pools for all states, and agents and messages as wide as
+/// declared, in pieces too.
+pub fn cores_keep_their_widths()
+    ensures open { FittingCoresOpen }
+    ensures stay { FittingCoresStay }
+{}
+
+/// Where legal events lead to a core and further ones lead on from there, all together lead to where these do. Where they
+/// begin with a core that fits the model, and functions are cut into one piece at least, the core that they lead to fits
+/// it.
+pub fn histories_grow()
+    ensures grow { HistoriesGrow }
+    ensures fit { HistoriesFit }
+{}
