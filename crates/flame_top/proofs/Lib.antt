@@ -1,16 +1,23 @@
-pub mod Options
-pub mod Many
-pub mod Numerals
-pub mod Spelling
-pub mod Composition
-pub mod Iterations
-pub mod Stopping
-pub mod Reported
-pub mod FiveWords
-pub mod ShortNumbers
-pub mod Digits
-pub mod JsonRead
-pub mod Keywords
-pub mod Sizes
-pub mod Pieces
-pub mod Items
+pub mod ReportLines
+pub mod RefusedInputs
+pub mod GivenInputs
+pub mod Standings
+pub mod PrintedTexts
+pub mod DrivenRuns
+pub mod BehindReads
+pub mod FileAndLine
+pub mod FewStatuses
+pub mod TrialActs
+pub mod CarriedReports
+pub mod RunLines
+pub mod ReportedLines
+mod ToldLines
+mod CarriedCalls
+mod Causes
+mod OrderedWords
+mod FileTotals
+mod OwnDepots
+mod PrintedScripts
+mod RunNames
+mod TrialEndings
+mod TrialInputs

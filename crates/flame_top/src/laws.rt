@@ -1,10 +1,45 @@
-//! Laws of function files. A law is its contract: it computes nothing.
+//! Laws of reports, and of what is carried out of them. Each function is its contract: it computes nothing.
 
-ghost use Rattle.flame_top.specs.NarrowLaws.{PiecesCoverBytes, ReadExactly};
+ghost use Rattle.flame_top.specs.TopLaws.{CallsCarryOut, OneReportForAllWays, StatusesAreFew, TrialsPutNothing, LinesAreTold, LinesOfRuns};
 
-/// The pieces of a function file, laid end to end, are its bytes, and a function file is read as some assignments
-/// exactly where its pieces spell them. So it stands for one list of assignments at most.
-pub fn function_files()
-    ensures cover { PiecesCoverBytes }
-    ensures read { ReadExactly }
+use flame_driver::laws::{lines_behind_files, written_stages};
+use flame_outside::laws::{scripts, told_scripts};
+
+/// Where nothing fails and there is memory, a call does what its report says; and in any case a first part of it.
+pub fn carried_reports()
+    ensures { CallsCarryOut }
+{
+    scripts();
+    told_scripts();
+}
+
+/// Orders that differ in the number of workers and in what they wait for have one report.
+pub fn one_report_for_all_ways()
+    ensures { OneReportForAllWays }
 {}
+
+/// No report has a status above 3: those are of devices and memory.
+pub fn few_statuses()
+    ensures { StatusesAreFew }
+{}
+
+/// A trial puts no file.
+pub fn trials_put_nothing()
+    ensures { TrialsPutNothing }
+{}
+
+/// A report with status 0 has no line for err, and any other one has a line that ends with its line feed.
+pub fn lines_are_told()
+    ensures { LinesAreTold }
+{}
+
+/// What a run prints follows its files that stand: their lines, of the last one perhaps a front, and nothing more. With a
+/// status of the report all files of the run stand with their lines; with 6 and the name of a file those that stand do.
+pub fn lines_of_runs()
+    ensures { LinesOfRuns }
+{
+    lines_behind_files();
+    scripts();
+    told_scripts();
+    written_stages();
+}

@@ -1,26 +1,16 @@
 //! The top call: carries out a command line over files, an output and a line for errors.
 #![tactic(auto)]
 
-mod carry;
-mod drive;
-mod early;
 mod ending;
-mod function_file;
+mod inputs;
 pub mod laws;
-mod load;
-mod meaning;
-mod model;
-mod names;
-mod narrow;
-mod population;
-mod readers;
-mod source;
-mod start;
+mod migrations;
+mod orders;
+mod refusals;
+mod runs;
 mod tell;
-#[cfg(test)]
-mod tests;
 mod texts;
 mod top;
-mod words;
+mod trials;
 
 pub use top::{Ended, flame};

@@ -1,131 +1,127 @@
-//! The texts of files, lines and faults.
+//! The commands that print a text of a program: `check`, `graph` and `code`.
 
-ghost use Rattle.std.specs.Prelude.{◌≡◌, ◌++◌, IfOk, OnOk, string_bytes};
-ghost use Rattle.flame_top.specs.RunTexts.{agent_text, agents_text, file_text, file_name, line_text, cause_text, reason_text, fault_text};
+ghost use Rattle.std.specs.Prelude.{◌≡◌, Some, IfOk, IfErr, OnOk, IsTrue};
+ghost use Rattle.flame_outside.specs.Files.{Files};
+ghost use Rattle.flame_outside.specs.Printed.{Prints};
+ghost use Rattle.flame_outside.specs.Frames.{OnlyReads, Grows};
+ghost use Rattle.flame_outside.specs.Scripts.{outside};
+ghost use Rattle.flame_spec.specs.Counted.{is_counted};
+ghost use Rattle.flame_report.specs.GraphTexts.{graph_lines};
+ghost use Rattle.flame_load.specs.TextReads.{Reader, ReadsTexts};
+ghost use Rattle.flame_top.specs.OrderReports.{accepted_line, text_reading};
+ghost use Rattle.flame_top.specs.Standing.{Carries, Keeps};
+ghost use Rattle.flame_top.specs.ModelTexts.{text_as};
+ghost use Rattle.flame_top.specs.Printing.{StopsPrint, EndsPrint};
 
-use crate::meaning::held;
-use crate::model::NarrowModel;
-use flame_ops::Cause;
-use flame_rows::{NoMemory, Row};
-use flame_spec::Fault;
+use crate::ending::{Carried, Ending};
+use crate::inputs::program_in;
+use flame_depend::edges;
+use flame_outside::{Depot, Sink, WriteFail};
+use flame_program::Program;
+use flame_report::{code_text, graph_text};
+use flame_rows::{Blob, NoMemory};
 use itoa::Buffer;
 use std::alloc::Global;
 use std::fmt::Write;
 
-/// The line of an iteration.
-pub(crate) fn line(alloc: Global, itno: u32, agents: &[Row]) -> Result<String, NoMemory>
-    ensures { IfOk result (λ text. string_bytes text ≡ line_text itno agents.now) }
-{
-    let mut numbers = Buffer::new();
-    let mut counts = Buffer::new();
-    let number = numbers.format(itno);
-    let count = counts.format(agents.len());
-    Ok(format!(in alloc; "iteration {number} agents {count} messages 0\n")?)
+/// Which text of a program is printed.
+#[derive(Clone, Copy, Debug)]
+pub(crate) enum TextOf {
+    /// How many agent types, functions and message types it has.
+    Counts,
+    /// Its functions in order, and which stands before which.
+    Graph,
+    /// The code of its functions and helpers.
+    Code,
 }
 
-/// The name of an iteration's file.
-pub(crate) fn file_name(alloc: Global, prefix: &str, itno: u32) -> Result<String, NoMemory>
-    ensures { IfOk result (λ name. string_bytes name ≡ file_name prefix.now itno) }
+/// The line of `check`.
+fn accepted_text(alloc: Global, program: &Program) -> Result<Blob, NoMemory>
+    ensures { IfOk result (λ bytes. bytes ≡ accepted_line program.now.model) }
 {
-    let mut numbers = Buffer::new();
-    let number = numbers.format(itno);
-    Ok(format!(in alloc; "{prefix}{number}.json")?)
+    let model = &program.source().model;
+    let mut agents = Buffer::new();
+    let mut functions = Buffer::new();
+    let mut messages = Buffer::new();
+    let agents = agents.format(model.agents.len());
+    let functions = functions.format(program.functions());
+    let messages = messages.format(model.messages.len());
+    let mut line = String::new(alloc);
+    line.push_str("accepted agents ")?;
+    write!(line, "{agents} functions {functions} messages {messages}\n")?;
+    Ok(Blob::of(line.into_bytes()))
 }
 
-fn push_agent(text: &mut String, model: &NarrowModel, memory: &Row) -> Result<(), NoMemory>
-    ensures { OnOk result (string_bytes text.new ≡ string_bytes text.old ++ agent_text model.now memory.now) }
+/// The text of `graph`.
+fn graph_of(alloc: Global, program: &Program) -> Result<Blob, NoMemory>
+    requires { IsTrue (is_counted program.now.model) }
+    ensures { IfOk result (λ bytes. bytes ≡ graph_lines program.now.model) }
 {
-    let agent = model.agent.as_str();
-    let variable = model.variable.as_str();
-    let mut numbers = Buffer::new();
-    let number = numbers.format(held(memory));
-    write!(
-        text,
-        "{{\"name\":\"{agent}\",\"memory\":{{\"{variable}\":{number}}}}}"
-    )?;
-    Ok(())
+    let edges = edges(alloc, &program.source().model)?;
+    graph_text(alloc, program, &edges)
 }
 
-fn cause_text(cause: Cause) -> &'static str
-    ensures { result.now ≡ cause_text cause }
+/// That text of a program.
+fn text_of(alloc: Global, program: &Program, what: TextOf) -> Result<Blob, NoMemory>
+    requires { IsTrue (is_counted program.now.model) }
+    ensures { IfOk result (λ bytes. bytes ≡ text_as what program.now) }
 {
-    match cause {
-        Cause::Overflow => "Overflow",
-        Cause::DivideByZero => "DivideByZero",
-        Cause::Fuel => "Fuel",
-        Cause::BadIndex => "BadIndex",
+    match what {
+        TextOf::Counts => accepted_text(alloc, program),
+        TextOf::Graph => graph_of(alloc, program),
+        TextOf::Code => code_text(alloc, program),
     }
 }
 
-/// The agents, separated by commas.
-fn agents(alloc: Global, model: &NarrowModel, agents: &[Row]) -> Result<String, NoMemory>
-    ensures { IfOk result (λ text. string_bytes text ≡ agents_text model.now agents.now) }
+/// Prints a text by one write. An empty one is not written.
+pub(crate) fn print_text<S: Sink>(text: &[u8], out: &mut S) -> Result<(), Ending>
+    ensures ok { OnOk result (Prints text.now (S.seen out.old) (S.seen out.new)) }
+    ensures stops { IfErr result (StopsPrint text.now (S.seen out.old) (S.seen out.new)) }
+    ensures grows { Grows (S.seen out.old) (S.seen out.new) }
 {
-    let mut text = String::new(alloc);
-    let Some((first, others)) = agents.split_first() else {
-        return Ok(text);
-    };
-    push_agent(&mut text, model, first)?;
-    for memory in others {
-        text.push_str(",")?;
-        push_agent(&mut text, model, memory)?;
+    if text.is_empty() {
+        return Ok(());
     }
-    Ok(text)
+    match out.write(text) {
+        Ok(()) => Ok(()),
+        Err(WriteFail::Failed) => Err(Ending::OutputFault),
+        Err(WriteFail::NoMemory) => Err(Ending::NoMemory),
+    }
 }
 
-/// The file of an iteration.
-pub(crate) fn file(
-    alloc: Global,
-    model: &NarrowModel,
-    itno: u32,
-    memories: &[Row],
-) -> Result<String, NoMemory>
-    ensures { IfOk result (λ text. string_bytes text ≡ file_text model.now itno memories.now) }
+/// Prints that text of a program.
+fn print_of<S: Sink>(alloc: Global, program: &Program, what: TextOf, out: &mut S) -> Ending
+    requires { IsTrue (is_counted program.now.model) }
+    ensures ends { EndsPrint (text_as what program.now) (S.seen out.old) (S.seen out.new) result }
+    ensures grows { Grows (S.seen out.old) (S.seen out.new) }
 {
-    let list = agents(alloc, model, memories)?;
-    let list = list.as_str();
-    let mut numbers = Buffer::new();
-    let number = numbers.format(itno);
-    Ok(format!(in alloc;
-        "{{\"states\":{{\"itno\":{number},\"environment\":{{}},\"agents\":[{list}],\"boards\":[]}}}}\n"
-    )?)
+    match text_of(alloc, program, what) {
+        Ok(text) => match print_text(text.bytes(), out) {
+            Ok(()) => Ending::Done,
+            Err(ending) => ending,
+        },
+        Err(NoMemory) => Ending::NoMemory,
+    }
 }
 
-/// Why the agent with this memory faulted.
-fn reason(
+/// `check`, `graph` and `code`: reads the model, and prints that text of it.
+pub(crate) fn carry_text<D: Depot, S: Sink>(
     alloc: Global,
-    model: &NarrowModel,
-    fault: Fault,
-    memory: &Row,
-) -> Result<String, NoMemory>
-    ensures { IfOk result (λ text. string_bytes text
-        ≡ reason_text model.now (record { memory = memory.now; fault = fault })) }
+    name: &str,
+    what: TextOf,
+    depot: &mut D,
+    out: &mut S,
+) -> Carried
+    ensures carries { (told : Files) (read : Reader) → (D.seen depot.old).files ≡ Some told → ReadsTexts read
+        → Carries (text_reading read told name.now (text_as what)) result.ending result.files
+        (outside (D.seen depot.old) (S.seen out.old)) (outside (D.seen depot.new) (S.seen out.new)) }
+    ensures keeps { Keeps result.ending result.files
+        (outside (D.seen depot.old) (S.seen out.old)) (outside (D.seen depot.new) (S.seen out.new)) }
+    ensures files { result.files ≡ 0 }
+    ensures reads { OnlyReads (D.seen depot.old) (D.seen depot.new) }
 {
-    let variable = model.variable.as_str();
-    let cause = cause_text(fault.cause);
-    let mut lines = Buffer::new();
-    let line = lines.format(fault.line);
-    let mut values = Buffer::new();
-    let value = values.format(held(memory));
-    Ok(format!(in alloc; "{cause} at line {line}: memory {variable}={value}\n")?)
-}
-
-/// The line of a fault.
-pub(crate) fn fault(
-    alloc: Global,
-    model: &NarrowModel,
-    itno: u32,
-    fault: Fault,
-    memory: &Row,
-) -> Result<String, NoMemory>
-    ensures { IfOk result (λ text. string_bytes text
-        ≡ fault_text model.now itno (record { memory = memory.now; fault = fault })) }
-{
-    let agent = model.agent.as_str();
-    let function = model.function.as_str();
-    let reason = reason(alloc, model, fault, memory)?;
-    let reason = reason.as_str();
-    let mut numbers = Buffer::new();
-    let number = numbers.format(itno);
-    Ok(format!(in alloc; "fault: iteration {number}: {agent}.{function}: {reason}")?)
+    match program_in(alloc, depot, name) {
+        Ok(program) => Carried::before_files(print_of(alloc, &program, what, out)),
+        Err(ending) => Carried::before_files(ending),
+    }
 }

@@ -1,18 +1,16 @@
 //! The top call.
 
-ghost use Rattle.std.specs.Prelude.{◌≡◌, ◌<◌, ◌⊎◌, Some, IsNone, map, string_bytes};
+ghost use Rattle.std.specs.Prelude.{◌≡◌, ◌≢◌, Some, IsTrue, map, string_bytes};
 ghost use Rattle.flame_outside.specs.Files.{Files};
-ghost use Rattle.flame_outside.specs.Printed.{PrintsFront};
 ghost use Rattle.flame_outside.specs.Frames.{Grows};
-ghost use Rattle.flame_outside.specs.Failures.{ReadFailed, PutFailed, WriteFailed};
-ghost use Rattle.flame_outside.specs.Scripts.{outside, puts_in, StandsWhole, GoesOn};
-ghost use Rattle.flame_top.specs.RunOrders.{order_of};
-ghost use Rattle.flame_top.specs.Reports.{report};
-ghost use Rattle.flame_top.specs.Telling.{Tells};
-ghost use Rattle.flame_top.specs.EndingLines.{no_memory_text};
-ghost use Rattle.flame_top.specs.DeviceFaults.{FailsToRead, FailsToWrite, Leaves};
+ghost use Rattle.flame_outside.specs.Failures.{PutFailed, WriteFailed};
+ghost use Rattle.flame_outside.specs.Scripts.{outside, GoesOn};
+ghost use Rattle.flame_words.specs.CommandLines.{order_of};
+ghost use Rattle.flame_load.specs.TextReads.{Reader, ReadsTexts};
+ghost use Rattle.flame_top.specs.OrderReports.{reading};
+ghost use Rattle.flame_top.specs.CallAnswers.{CarriesOut, HasCause};
 
-use crate::carry::carry;
+use crate::orders::carry;
 use crate::tell::tell;
 use flame_outside::{Depot, Gate, Sink};
 use std::alloc::Global;
@@ -29,15 +27,37 @@ pub struct Ended {
     pub files: u32,
 }
 
-/// Carries out what the words order, `run MODEL POP OUT N`: reads the model, its function file and the population from
-/// `depot`, and for each of N iterations (at most 1,000,000) writes a file there and then a line to `out`, up to the
-/// first iteration that faults. On every status but 0 it writes one line to `err`. A model or function file has at most
-/// 4,194,304 bytes, a population file at most 67,108,864, and no iteration a number above 2147483647.
+/// Carries out a command line: the words behind the program's name. Options stand anywhere behind the command, each
+/// at most once. Names are those of files of `depot`.
 ///
-/// An iteration is that of the FLAME User Manual for the narrow models of today: each agent runs its function once.
-/// `rt` and `gate` are not used by a run today.
+/// - `run MODEL POP OUT N [--workers W] [--fuel F] [--sync layers|flow] [--format 1|2]` runs N iterations, 0 to
+///   1,000,000, of the model on the population. After each it puts the file whose name is OUT, the iteration's number
+///   and `.json`, in that format, and then prints `iteration I agents A messages M`. It goes on up to the first
+///   iteration that faults.
+/// - `check MODEL` prints `accepted agents A functions F messages M`.
+/// - `graph MODEL` prints the functions in their order, and which stands before which.
+/// - `code MODEL` prints the code of the functions and of the helpers.
+/// - `trial SEED SIZE N [--workers W] [--fuel F] [--sync layers|flow]` runs N iterations, 0 to 20, of the meadow, a
+///   model that the program carries, on SIZE agents, 0 to 10,000, which SEED, 0 to 4,294,967,295, draws. Its files
+///   are in memory, and `depot` is left as it is. It prints the lines of the run and, where no iteration faults,
+///   `bytes T`: how many bytes its files have together.
+/// - `migrate MODEL POP OUT` puts the population as the file OUT, in format 2 and with empty boards, and then prints
+///   `migrated agents A`.
+///
+/// W is how many workers there are, 1 to 64; F is how many turns of loops and calls of helpers each call of a
+/// function may take, 0 to 1,000,000,000. Without an option it is `--workers 1`, `--fuel 1000000`, `--sync layers`
+/// and `--format 1`. A run goes on one thread today: `--workers` and `--sync` change nothing, and `gate` is not used.
+///
+/// All inputs are read before anything is put or printed: the model file MODEL and those nested in it, at most 64,
+/// then their function files, each of at most 4,194,304 bytes, and then POP, of at most 67,108,864. A run whose last
+/// iteration would have a number above 2147483647 is refused.
+///
+/// On each status but 0 one line goes to `err`, by one write: the first fault of the words, the first refusal of an
+/// input, the fault of the iteration, `no memory`, or the input or the output that failed. Where memory is not found
+/// for the line, the status is 4, and `no memory` is tried once. A write of the line that fails leaves the status as
+/// it is.
 pub fn flame<Rt: Threads + Wait + Sync, D: Depot, S: Sink, G: Gate>(
-    _rt: &Rt,
+    rt: &Rt,
     alloc: Global,
     words: &[String],
     depot: &mut D,
@@ -45,55 +65,26 @@ pub fn flame<Rt: Threads + Wait + Sync, D: Depot, S: Sink, G: Gate>(
     err: &mut S,
     _gate: &G,
 ) -> Ended
-    // For all words and files: a status below 4 is the report's, and comes with all its acts and its line.
-    ensures status { (told : Files) → (D.seen depot.old).files ≡ Some told → result.status < 4
-        → result.status ≡ (report words.now told).status }
-    ensures whole { (told : Files) → (D.seen depot.old).files ≡ Some told → result.status < 4
-        → StandsWhole (report words.now told).acts
-        (outside (D.seen depot.old) (S.seen out.old)) (outside (D.seen depot.new) (S.seen out.new)) }
-    ensures count { (told : Files) → (D.seen depot.old).files ≡ Some told → result.status < 4
-        → result.files ≡ puts_in (report words.now told).acts }
-    ensures error { (told : Files) → (D.seen depot.old).files ≡ Some told → result.status < 4
-        → Tells (report words.now told).error (S.seen err.old) (S.seen err.new) }
-
-    // Where no read, put or write of `out` failed, the status is the report's or that of want of memory.
-    ensures complete { (told : Files) → (D.seen depot.old).files ≡ Some told
-        → ¬ ReadFailed (D.seen depot.old) (D.seen depot.new)
-        → ¬ PutFailed (D.seen depot.old) (D.seen depot.new)
-        → ¬ WriteFailed (S.seen out.old) (S.seen out.new)
-        → (result.status ≡ (report words.now told).status) ⊎ (result.status ≡ 4) }
-
-    // Whatever the status: the first acts stand whole, `files` of them puts. Of the next act nothing stands, or its
-    // device failed: then a front of its text is printed, or its name alone is in doubt.
-    ensures stands { (told : Files) → (D.seen depot.old).files ≡ Some told
-        → Leaves (report words.now told).acts result.files
-        (outside (D.seen depot.old) (S.seen out.old)) (outside (D.seen depot.new) (S.seen out.new)) }
-
-    // A status above 3 names its cause on err.
-    ensures no_memory { result.status ≡ 4 → PrintsFront no_memory_text (S.seen err.old) (S.seen err.new) }
-    ensures read_fault { (told : Files) → (D.seen depot.old).files ≡ Some told → result.status ≡ 5
-        → FailsToRead told (order_of (map string_bytes words.now)) (S.seen err.old) (S.seen err.new) }
-    ensures write_fault { (told : Files) → (D.seen depot.old).files ≡ Some told → result.status ≡ 6
-        → FailsToWrite (report words.now told).acts result.files
+    // Where the depot tells its files, with each reader that reads texts as they are read.
+    ensures carries { (told : Files) (read : Reader) → (D.seen depot.old).files ≡ Some told → ReadsTexts read
+        → CarriesOut (reading read words.now told) result.status result.files
         (outside (D.seen depot.old) (S.seen out.old)) (outside (D.seen depot.new) (S.seen out.new))
         (S.seen err.old) (S.seen err.new) }
 
-    // Whatever the devices tell. A device that never fails is not blamed.
-    ensures refused_words { IsNone (order_of (map string_bytes words.now))
-        → (result.status ≡ 2) ⊎ (result.status ≡ 4) }
-    ensures words_refused { result.status ≡ 2 → IsNone (order_of (map string_bytes words.now)) }
-    ensures read_cause { result.status ≡ 5 → ReadFailed (D.seen depot.old) (D.seen depot.new) }
-    ensures read_changes_nothing { result.status ≡ 5 → (result.files ≡ 0)
-        × ((D.seen depot.new).files ≡ (D.seen depot.old).files) × (S.seen out.new ≡ S.seen out.old) }
-    ensures write_cause { result.status ≡ 6
-        → PutFailed (D.seen depot.old) (D.seen depot.new) ⊎ WriteFailed (S.seen out.old) (S.seen out.new) }
-    ensures known { result.status < 7 }
-
-    // No count falls, output and err only grow, and devices that never fail stay so.
+    // Whatever the devices tell.
+    ensures causes { HasCause (order_of (map string_bytes words.now)) result.status result.files
+        (outside (D.seen depot.old) (S.seen out.old)) (outside (D.seen depot.new) (S.seen out.new))
+        (S.seen err.old) (S.seen err.new) }
     ensures goes_on { GoesOn
         (outside (D.seen depot.old) (S.seen out.old)) (outside (D.seen depot.new) (S.seen out.new)) }
-    ensures error_grows { Grows (S.seen err.old) (S.seen err.new) }
+    ensures error { Grows (S.seen err.old) (S.seen err.new) }
+
+    // A device that never fails is not blamed.
+    ensures calm_depot { IsTrue (D.seen depot.old).calm → (result.status ≢ 5)
+        × (result.status ≡ 6 → WriteFailed (S.seen out.old) (S.seen out.new)) }
+    ensures calm_out { IsTrue (S.seen out.old).calm → result.status ≡ 6
+        → PutFailed (D.seen depot.old) (D.seen depot.new) }
 {
-    let carried = carry(alloc, words, depot, out);
+    let carried = carry(rt, alloc, words, depot, out);
     tell(alloc, carried, err)
 }

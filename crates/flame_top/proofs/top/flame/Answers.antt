@@ -1,46 +1,54 @@
 use Rattle.std.proofs.Common.{map, string_bytes}
-use Rattle.flame_top.specs.RunOrders.{order_of}
-use Rattle.flame_top.proofs.Reported.{whole_status, whole_acts, whole_count, whole_error, leaves, fails_to_read, fails_to_write, refused_words, words_refused, complete}
+use Rattle.flame_outside.specs.Scripts.{outside}
+use Rattle.flame_words.specs.CommandLines.{order_of}
+use Rattle.flame_top.specs.OrderReports.{reading}
+use Rattle.flame_top.proofs.CarriedCalls.{carries_out}
+use Rattle.flame_top.proofs.Causes.{has_cause, calm_depot, calm_out}
 use Rattle.flame_top.proofs.top.flame.Goals as goal
 
-pub returns-clause-status : goal.returns-clause-status
-returns-clause-status g c = λ told tells.
-    whole_status _ _ _ _ _ (c.carry-carried.ensures.stands told tells) _ _ _ c.tell.ensures.answers
-
-pub returns-clause-whole : goal.returns-clause-whole
-returns-clause-whole g c = λ told tells.
-    whole_acts _ _ _ _ _ (c.carry-carried.ensures.stands told tells) _ _ _ c.tell.ensures.answers
-
-pub returns-clause-count : goal.returns-clause-count
-returns-clause-count g c = λ told tells.
+pub returns-clause-carries : goal.returns-clause-carries
+returns-clause-carries g c = λ told read tells reads.
+    let carried = c.carry-carried.result in
     rw c.tell.ensures.files
-    (whole_count _ _ _ _ _ (c.carry-carried.ensures.stands told tells) _ _ _ c.tell.ensures.answers)
+    (carries_out (reading read c.args.words.now told) carried.ending carried.files c.tell.result.status
+    (outside (g.D.Depot.seen c.args.depot.now) (g.S.Sink.seen c.args.out.now))
+    (outside (g.D.Depot.seen c.carry-carried.new.depot) (g.S.Sink.seen c.carry-carried.new.out))
+    (g.S.Sink.seen c.args.err.now) (g.S.Sink.seen c.tell.new.err)
+    (c.carry-carried.ensures.carries told read tells reads) c.carry-carried.ensures.keeps.caused c.tell.ensures.answers)
 
-pub returns-clause-error : goal.returns-clause-error
-returns-clause-error g c = λ told tells.
-    whole_error _ _ _ _ _ (c.carry-carried.ensures.stands told tells) _ _ _ c.tell.ensures.answers
-
-pub returns-clause-complete : goal.returns-clause-complete
-returns-clause-complete g c = λ told tells reads puts writes.
-    complete _ _ _ _ reads puts writes _ _ _
-    (c.carry-carried.ensures.stands told tells).ends c.carry-carried.ensures.caused c.tell.ensures.answers
-
-pub returns-clause-stands : goal.returns-clause-stands
-returns-clause-stands g c = λ told tells.
-    rw c.tell.ensures.files (leaves _ _ _ _ _ (c.carry-carried.ensures.stands told tells))
-
-pub returns-clause-read_fault : goal.returns-clause-read_fault
-returns-clause-read_fault g c = λ told tells.
-    fails_to_read _ _ _ _ _ (c.carry-carried.ensures.stands told tells) _ _ _
-    told (order_of (map string_bytes c.args.words.now)) (c.carry-carried.ensures.reached told tells) c.tell.ensures.answers
-
-pub returns-clause-write_fault : goal.returns-clause-write_fault
-returns-clause-write_fault g c = λ told tells.
+pub returns-clause-causes : goal.returns-clause-causes
+returns-clause-causes g c =
+    let carried = c.carry-carried.result in
     rw c.tell.ensures.files
-    (fails_to_write _ _ _ _ _ (c.carry-carried.ensures.stands told tells) _ _ _ c.tell.ensures.answers)
+    (has_cause (order_of (map string_bytes c.args.words.now)) carried.ending carried.files c.tell.result.status
+    (outside (g.D.Depot.seen c.args.depot.now) (g.S.Sink.seen c.args.out.now))
+    (outside (g.D.Depot.seen c.carry-carried.new.depot) (g.S.Sink.seen c.carry-carried.new.out))
+    (g.S.Sink.seen c.args.err.now) (g.S.Sink.seen c.tell.new.err)
+    c.carry-carried.ensures.keeps c.tell.ensures.answers c.tell.ensures.quiet)
 
-pub returns-clause-refused_words : goal.returns-clause-refused_words
-returns-clause-refused_words g c = refused_words _ _ _ _ _ c.carry-carried.ensures.ordered c.tell.ensures.answers
+pub returns-clause-goes_on : goal.returns-clause-goes_on
+returns-clause-goes_on g c = c.carry-carried.ensures.keeps.goes_on
 
-pub returns-clause-words_refused : goal.returns-clause-words_refused
-returns-clause-words_refused g c = words_refused _ _ _ _ _ c.carry-carried.ensures.ordered c.tell.ensures.answers
+pub returns-clause-calm_depot : goal.returns-clause-calm_depot
+returns-clause-calm_depot g c =
+    let carried = c.carry-carried.result in
+    let old = outside (g.D.Depot.seen c.args.depot.now) (g.S.Sink.seen c.args.out.now) in
+    let new = outside (g.D.Depot.seen c.carry-carried.new.depot) (g.S.Sink.seen c.carry-carried.new.out) in
+    let err = g.S.Sink.seen c.args.err.now in
+    let err' = g.S.Sink.seen c.tell.new.err in
+    let words = order_of (map string_bytes c.args.words.now) in
+    calm_depot words c.tell.result.status carried.files old new err err'
+    (has_cause words carried.ending carried.files c.tell.result.status old new err err'
+    c.carry-carried.ensures.keeps c.tell.ensures.answers c.tell.ensures.quiet)
+
+pub returns-clause-calm_out : goal.returns-clause-calm_out
+returns-clause-calm_out g c =
+    let carried = c.carry-carried.result in
+    let old = outside (g.D.Depot.seen c.args.depot.now) (g.S.Sink.seen c.args.out.now) in
+    let new = outside (g.D.Depot.seen c.carry-carried.new.depot) (g.S.Sink.seen c.carry-carried.new.out) in
+    let err = g.S.Sink.seen c.args.err.now in
+    let err' = g.S.Sink.seen c.tell.new.err in
+    let words = order_of (map string_bytes c.args.words.now) in
+    calm_out words c.tell.result.status carried.files old new err err'
+    (has_cause words carried.ending carried.files c.tell.result.status old new err err'
+    c.carry-carried.ensures.keeps c.tell.ensures.answers c.tell.ensures.quiet)

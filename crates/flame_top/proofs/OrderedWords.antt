@@ -1,0 +1,133 @@
+-- From the part that carries out an order to its command line; and words that give none.
+use Rattle.std.proofs.Common.{◌≡◌, ℕ, List, length, refl, sym, subst}
+use Rattle.std.specs.Prelude.{Result, Ok, Err}
+use Rattle.flame_outside.specs.Files.{Files}
+use Rattle.flame_outside.specs.Scripts.{Outside}
+use Rattle.flame_outside.proofs.FrameLemmas.{reads_same, goes_on_same}
+use Rattle.flame_outside.proofs.ScriptLemmas.{nothing_stands}
+use Rattle.flame_words.specs.declared.orders.Order.{Order}
+use Rattle.flame_words.specs.declared.faults.Usage.{Usage}
+use Rattle.flame_report.specs.FaultLines.{usage_line}
+use Rattle.flame_load.specs.InputReads.{Reading, known}
+use Rattle.flame_load.specs.TextReads.{Reader}
+use Rattle.flame_top.specs.declared.ending.Ending.{Ending}
+use Rattle.flame_top.specs.declared.ending.Ending.TheVariants.{RefusedWords, NoMemory}
+use Rattle.flame_top.specs.Reports.{Report, refusal, report_in}
+use Rattle.flame_top.specs.OrderReports.{order_reading, ordered}
+use Rattle.flame_top.specs.CallAnswers.{OrdersTrial, OrdersText, PutsNothing}
+use Rattle.flame_top.specs.Standing.{IsWholeEnding, Ends, Blames, IsLine, Stands, Carries, Keeps}
+use Rattle.flame_top.specs.Ordering.{IsUsageEnding, IsApartBy, KeepsOrder}
+use Rattle.flame_top.proofs.ToldLines.{usage_is_line}
+
+-- ---- orders
+
+-- what an order carries out is carried out of an equal one
+pub carries_as :
+    (read : Reader) (told : Files) (order given : Order) (ending : Ending) (files : ℕ) (old new : Outside)
+    → order ≡ given
+    → Carries (order_reading read told given) ending files old new
+    → Carries (order_reading read told order) ending files old new
+carries_as read told order given ending files old new same carries =
+    subst (λ (o : Order). Carries (order_reading read told o) ending files old new) (sym same) carries
+
+-- ---- words that give an order
+
+module _ (answer : Result Order Usage) (order : Order) (ending : Ending) (files : ℕ) (old new : Outside) (gives : answer ≡ Ok order) where
+  pub carries_ordered :
+      (read : Reader) (told : Files)
+      → Carries (order_reading read told order) ending files old new
+      → Carries (ordered read told answer) ending files old new
+  carries_ordered read told carries =
+      subst (λ (a : Result Order Usage). Carries (ordered read told a) ending files old new) (sym gives) carries
+
+  pub keeps_ordered :
+      Keeps ending files old new
+      → (OrdersTrial (Ok order) → IsApartBy ending files old new)
+      → (OrdersText (Ok order) → PutsNothing files old new)
+      → KeepsOrder answer ending files old new
+  keeps_ordered keeps trial text =
+      let kept : KeepsOrder (Ok order) ending files old new = record {
+        caused = keeps.caused;
+        ordered = λ refuses. absurd (keeps.ordered refuses);
+        line = keeps.line;
+        input = keeps.input;
+        refused = λ refused. absurd refused;
+        trial = trial;
+        text = text;
+        goes_on = keeps.goes_on;
+      } in
+      subst (λ (a : Result Order Usage). KeepsOrder a ending files old new) (sym gives) kept
+
+-- ---- words that give none
+
+-- nothing is done
+stands_nowhere :
+    (ending : Ending) (report : Report) (out : Outside)
+    → Ends ending report
+    → (IsWholeEnding ending → 0 ≡ length report.acts)
+    → Blames ending report.acts 0 out out
+    → Stands ending 0 report out out
+stands_nowhere ending report out ends whole blames = record {
+  done = 0;
+  has_done = record { stands = nothing_stands report.acts out out refl; count = refl };
+  ends = ends;
+  whole = whole;
+  blames = blames;
+}
+
+-- for want of memory nothing is done
+pub carries_nothing : (reading : Reading (List ℕ) Report) (out : Outside) → Carries reading NoMemory 0 out out
+carries_nothing reading out =
+    record { stands = stands_nowhere NoMemory (report_in reading) out tt (λ whole. absurd whole) tt; reached = tt }
+
+pub keeps_nothing : (answer : Result Order Usage) (out : Outside) → KeepsOrder answer NoMemory 0 out out
+keeps_nothing answer out = record {
+  caused = tt;
+  ordered = λ refuses. absurd refuses;
+  line = tt;
+  input = λ input. absurd input;
+  refused = λ refused. record { leaves = record { none = refl; same = refl }; memory = λ other. refl };
+  trial = λ trial. record { depot = refl; none = refl; read = λ fault. fault };
+  text = λ text. record { none = refl; depot = reads_same out.depot };
+  goes_on = goes_on_same out;
+}
+
+-- words that are refused, and end so
+refused_carries :
+    (usage : Usage) (ending : Ending) (out : Outside)
+    → IsUsageEnding usage ending
+    → Carries (known (refusal (usage_line usage) 2)) ending 0 out out
+refused_carries usage (RefusedWords line) out is =
+    record {
+      stands = stands_nowhere (RefusedWords line) (refusal (usage_line usage) 2) out (refl, sym is) (λ whole. refl) tt;
+      reached = tt;
+    }
+refused_carries usage NoMemory out is = carries_nothing (known (refusal (usage_line usage) 2)) out
+refused_carries usage ending out is = absurd is
+
+refused_keeps :
+    (usage : Usage) (ending : Ending) (out : Outside)
+    → IsUsageEnding usage ending
+    → KeepsOrder (Err usage) ending 0 out out
+refused_keeps usage (RefusedWords line) out is = record {
+  caused = tt;
+  ordered = λ refuses. tt;
+  line = subst IsLine (sym is) (usage_is_line usage);
+  input = λ input. absurd input;
+  refused = λ refused. record { leaves = record { none = refl; same = refl }; memory = λ other. absurd (other tt) };
+  trial = λ trial. absurd trial;
+  text = λ text. absurd text;
+  goes_on = goes_on_same out;
+}
+refused_keeps usage NoMemory out is = keeps_nothing (Err usage) out
+refused_keeps usage ending out is = absurd is
+
+module _ (answer : Result Order Usage) (usage : Usage) (ending : Ending) (out : Outside) (refused : answer ≡ Err usage) (is : IsUsageEnding usage ending) where
+  pub carries_refused : (read : Reader) (told : Files) → Carries (ordered read told answer) ending 0 out out
+  carries_refused read told =
+      subst (λ (a : Result Order Usage). Carries (ordered read told a) ending 0 out out) (sym refused)
+      (refused_carries usage ending out is)
+
+  pub keeps_refused : KeepsOrder answer ending 0 out out
+  keeps_refused =
+      subst (λ (a : Result Order Usage). KeepsOrder a ending 0 out out) (sym refused) (refused_keeps usage ending out is)

@@ -1,0 +1,39 @@
+-- What holds of a command line that ends so, whatever the devices tell.
+use Rattle.std.specs.Prelude.{◌≡◌, ℕ, Result}
+use Rattle.flame_outside.specs.Scripts.{Outside, GoesOn}
+use Rattle.flame_words.specs.declared.orders.Order.{Order}
+use Rattle.flame_words.specs.declared.faults.Usage.{Usage}
+use Rattle.flame_report.specs.FaultLines.{usage_line}
+use Rattle.flame_top.specs.declared.ending.Ending.{Ending}
+use Rattle.flame_top.specs.declared.ending.Ending.TheVariants.{RefusedWords, NoMemory}
+use Rattle.flame_top.specs.CallAnswers.{AreRefused, OrdersTrial, OrdersText, LeavesAll, PutsNothing, WritesNothing}
+use Rattle.flame_top.specs.InputAnswers.{IsReadFault}
+use Rattle.flame_top.specs.Standing.{IsCaused, RefusesWords, IsOfInput, TellsLine}
+
+-- the ending has the line of this fault of usage; or there was no memory for it [own]
+abbrev pub IsUsageEnding : Usage → Ending → Type 0
+IsUsageEnding usage (RefusedWords line) = line ≡ usage_line usage
+IsUsageEnding usage NoMemory = Unit {0}
+IsUsageEnding usage ending = ⊥
+
+-- the depot is as it was, no file was put, and no input could not be read [own]
+pub record IsApartBy (ending : Ending) (files : ℕ) (old new : Outside) : Type 0 where
+  pub depot : new.depot ≡ old.depot
+  pub none : files ≡ 0
+  pub read : ¬ IsReadFault ending
+
+-- the words are refused, and the ending says so, or that memory was not found [own]
+pub record IsUnordered (ending : Ending) (files : ℕ) (old new : Outside) : Type 0 where
+  pub leaves : LeavesAll files old new
+  pub memory : ¬ RefusesWords ending → ending ≡ NoMemory
+
+-- what holds of a command line that gives this order or fault, and ends so with so many files [own]
+pub record KeepsOrder (answer : Result Order Usage) (ending : Ending) (files : ℕ) (old new : Outside) : Type 0 where
+  pub caused : IsCaused ending old new
+  pub ordered : RefusesWords ending → AreRefused answer
+  pub line : TellsLine ending
+  pub input : IsOfInput ending → WritesNothing files old new
+  pub refused : AreRefused answer → IsUnordered ending files old new
+  pub trial : OrdersTrial answer → IsApartBy ending files old new
+  pub text : OrdersText answer → PutsNothing files old new
+  pub goes_on : GoesOn old new

@@ -1,0 +1,90 @@
+//! Command lines, carried out.
+
+ghost use Rattle.std.specs.Prelude.{◌≡◌, Some, Ok, map, string_bytes};
+ghost use Rattle.flame_outside.specs.Files.{Files};
+ghost use Rattle.flame_outside.specs.Scripts.{outside};
+ghost use Rattle.flame_words.specs.CommandLines.{order_of};
+ghost use Rattle.flame_load.specs.TextReads.{Reader, ReadsTexts};
+ghost use Rattle.flame_top.specs.CallAnswers.{OrdersTrial, OrdersText, PutsNothing};
+ghost use Rattle.flame_top.specs.OrderReports.{order_reading, reading};
+ghost use Rattle.flame_top.specs.Ordering.{IsUsageEnding, IsApartBy, KeepsOrder};
+ghost use Rattle.flame_top.specs.Standing.{Carries, Keeps};
+
+use crate::ending::{Carried, Ending};
+use crate::migrations::carry_migrate;
+use crate::runs::carry_run;
+use crate::texts::{TextOf, carry_text};
+use crate::trials::carry_trial;
+use flame_outside::{Depot, Sink};
+use flame_report::usage_text;
+use flame_rows::{Fail, NoMemory};
+use flame_words::{Order, Usage, order};
+use std::alloc::Global;
+use std::sync::Wait;
+use std::thread::Threads;
+
+/// How a call ends whose words have this fault.
+fn usage_ending(alloc: Global, usage: &Usage) -> Ending
+    ensures { IsUsageEnding usage.now result }
+{
+    match usage_text(alloc, usage) {
+        Ok(line) => Ending::RefusedWords(line),
+        Err(NoMemory) => Ending::NoMemory,
+    }
+}
+
+/// Carries out an order, up to its end or to the first device that fails.
+fn carry_order<Rt: Threads + Wait + Sync, D: Depot, S: Sink>(
+    rt: &Rt,
+    alloc: Global,
+    order: &Order,
+    depot: &mut D,
+    out: &mut S,
+) -> Carried
+    ensures carries { (told : Files) (read : Reader) → (D.seen depot.old).files ≡ Some told → ReadsTexts read
+        → Carries (order_reading read told order.now) result.ending result.files
+        (outside (D.seen depot.old) (S.seen out.old)) (outside (D.seen depot.new) (S.seen out.new)) }
+    ensures keeps { Keeps result.ending result.files
+        (outside (D.seen depot.old) (S.seen out.old)) (outside (D.seen depot.new) (S.seen out.new)) }
+    ensures trial { OrdersTrial (Ok order.now) → IsApartBy result.ending result.files
+        (outside (D.seen depot.old) (S.seen out.old)) (outside (D.seen depot.new) (S.seen out.new)) }
+    ensures text { OrdersText (Ok order.now) → PutsNothing result.files
+        (outside (D.seen depot.old) (S.seen out.old)) (outside (D.seen depot.new) (S.seen out.new)) }
+{
+    match order {
+        Order::Run(order) => carry_run(rt, alloc, order, depot, out),
+        Order::Check(model) => carry_text(alloc, model.as_str(), TextOf::Counts, depot, out),
+        Order::Graph(model) => carry_text(alloc, model.as_str(), TextOf::Graph, depot, out),
+        Order::Code(model) => carry_text(alloc, model.as_str(), TextOf::Code, depot, out),
+        Order::Trial(order) => carry_trial(rt, alloc, order, out),
+        Order::Migrate(model, pop, to) => carry_migrate(
+            alloc,
+            model.as_str(),
+            pop.as_str(),
+            to.as_str(),
+            depot,
+            out,
+        ),
+    }
+}
+
+/// Carries out what the words order, up to its end or to the first device that fails.
+pub(crate) fn carry<Rt: Threads + Wait + Sync, D: Depot, S: Sink>(
+    rt: &Rt,
+    alloc: Global,
+    words: &[String],
+    depot: &mut D,
+    out: &mut S,
+) -> Carried
+    ensures carries { (told : Files) (read : Reader) → (D.seen depot.old).files ≡ Some told → ReadsTexts read
+        → Carries (reading read words.now told) result.ending result.files
+        (outside (D.seen depot.old) (S.seen out.old)) (outside (D.seen depot.new) (S.seen out.new)) }
+    ensures keeps { KeepsOrder (order_of (map string_bytes words.now)) result.ending result.files
+        (outside (D.seen depot.old) (S.seen out.old)) (outside (D.seen depot.new) (S.seen out.new)) }
+{
+    match order(alloc, words) {
+        Ok(order) => carry_order(rt, alloc, &order, depot, out),
+        Err(Fail::Fault(usage)) => Carried::before_files(usage_ending(alloc, &usage)),
+        Err(Fail::NoMemory) => Carried::before_files(Ending::NoMemory),
+    }
+}
