@@ -8,6 +8,13 @@ int following(int number) {
     return next;
 }
 
+/* The seed of a vacancy that a household leaves behind: it goes its own way, by another factor. */
+int seed_after(int number) {
+    int next = 69621 * (number % 30845) - 23902 * (number / 30845);
+    if (next <= 0) next += 2147483647;
+    return next;
+}
+
 /* The cell in this column and row of the town, whose edges meet. */
 int cell_at(int column, int row) {
     return (row + SIDE) % SIDE * SIDE + (column + SIDE) % SIDE;
@@ -71,8 +78,8 @@ int assign() {
 /* Who gets a key leaves a new vacancy behind. */
 int move() {
     START_KEY_MESSAGE_LOOP
-        SEED = following(SEED);
-        add_Vacancy_agent(CELL, SEED);
+        int seed = seed_after(SEED);
+        add_Vacancy_agent(CELL, seed);
         CELL = key_message->to;
     FINISH_KEY_MESSAGE_LOOP
     return 0;
