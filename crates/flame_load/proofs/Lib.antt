@@ -7,6 +7,9 @@ pub mod FileSteps
 pub mod OrderFaults
 pub mod SoundSources
 pub mod AcceptedLoads
+pub mod WrittenTokens
+pub mod WrittenTrees
+pub mod WrittenSources
 pub mod AllInputs
 pub mod FrontInputs
 pub mod SameInputs

@@ -6,6 +6,8 @@ use Rattle.flame_outside.specs.Files.{Files}
 use Rattle.flame_spec.specs.declared.outcomes.Source.{Source}
 use Rattle.flame_spec.specs.declared.trees.Unit as file
 use Rattle.flame_spec.specs.Accepted.{IsAccepted}
+use Rattle.flame_spec.specs.Definitions.{definitions}
+use Rattle.flame_sense.specs.RangeLaws.{AllWriteInts}
 use Rattle.flame_xmml.specs.Models.{model_of}
 use Rattle.flame_xmml.specs.ShapeFaults.{shape_faults}
 use Rattle.flame_nest.specs.FlatModels.{flat}
@@ -35,6 +37,14 @@ LoadedAreAccepted =
     (read : Reader) (told : Files) (name : List ℕ) (source : Source)
     → (loading read told name).answer ≡ Ok source
     → IsAccepted source
+
+-- each number that the function files of such a source write is within int
+abbrev pub LoadedWriteInts : Type 0
+LoadedWriteInts =
+    (read : Reader) (told : Files) (name : List ℕ) (source : Source)
+    → ReadsTexts read
+    → (loading read told name).answer ≡ Ok source
+    → AllWriteInts (definitions source.units)
 
 -- model files without a fault of their own, and function files that are read, stand for their source where it is accepted
 abbrev pub AcceptedAreLoaded : Type 0

@@ -1,6 +1,6 @@
 //! Laws of loading. Each function is its contract: it computes nothing.
 
-ghost use Rattle.flame_load.specs.LoadLaws.{ThereIsAReader, TextsAreReadOnce, LoadedAreAccepted, AcceptedAreLoaded, AllInputsAreRead, InputsAreAFront, OnlyInputsCount, PlainFilesAreRead};
+ghost use Rattle.flame_load.specs.LoadLaws.{ThereIsAReader, TextsAreReadOnce, LoadedAreAccepted, LoadedWriteInts, AcceptedAreLoaded, AllInputsAreRead, InputsAreAFront, OnlyInputsCount, PlainFilesAreRead};
 
 use flame_laws::{start_states_of_types, trees_are_seen, trees_are_told};
 use flame_lex::laws::{one_reading, some_reading};
@@ -35,6 +35,12 @@ pub fn accepted_sources()
     formed_files();
     start_states_of_types();
 }
+
+/// Each number that the function files of a source write is one of `int`, where files stand for the source: a number of C
+/// itself, and one that a `#define` line gives a word.
+pub fn written_numbers()
+    ensures { LoadedWriteInts }
+{}
 
 /// Where files stand for a source, the inputs that are read are its model files, and then its function files.
 pub fn all_inputs()
