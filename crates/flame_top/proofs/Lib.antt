@@ -10,6 +10,8 @@ pub mod FewStatuses
 pub mod TrialActs
 pub mod CarriedReports
 pub mod RunLines
+pub mod LeftFiles
+pub mod FileRestarts
 pub mod ReportedLines
 mod ToldLines
 mod CarriedCalls

@@ -7,6 +7,7 @@ pub mod OrderReports
 pub mod Reports
 pub mod RefusalLines
 pub mod TopLaws
+pub mod RestartedFiles
 pub mod EndingLines
 -- The words that only bodies and proofs use.
 pub mod InputAnswers

@@ -1,9 +1,12 @@
 //! Laws of reports, and of what is carried out of them. Each function is its contract: it computes nothing.
 
 ghost use Rattle.flame_top.specs.TopLaws.{CallsCarryOut, OneReportForAllWays, StatusesAreFew, TrialsPutNothing, LinesAreTold, LinesOfRuns};
+ghost use Rattle.flame_top.specs.RestartedFiles.{RunsRestartFromFiles, RunsRestartFromOwnFiles};
 
-use flame_driver::laws::{lines_behind_files, written_stages};
+use flame_driver::laws::{iterated_runs, lines_behind_files, restarted_runs, written_stages};
+use flame_load::laws::{accepted_sources, only_inputs, written_numbers};
 use flame_outside::laws::{scripts, told_scripts};
+use flame_popfile::laws::read_populations_fit;
 
 /// Where nothing fails and there is memory, a call does what its report says; and in any case a first part of it.
 pub fn carried_reports()
@@ -42,4 +45,22 @@ pub fn lines_of_runs()
     scripts();
     told_scripts();
     written_stages();
+}
+
+/// A run of n + m iterations does what the run of its first n does, and behind it what a run of m does whose population is the
+/// file of iteration n. The inputs of the run are read, its first n iterations, one at least, have no fault, and that file has
+/// at most 67,108,864 bytes. It may have any name, among any files from which the same model is read; so it may lie where the
+/// first run left it, if no file of that run has the name of an input of the model. The whole report is that of the first run,
+/// and behind it that of the second: acts, line for err and status.
+pub fn restarts_from_files()
+    ensures any { RunsRestartFromFiles }
+    ensures own { RunsRestartFromOwnFiles }
+{
+    restarted_runs();
+    iterated_runs();
+    written_stages();
+    read_populations_fit();
+    accepted_sources();
+    written_numbers();
+    only_inputs();
 }
