@@ -26,7 +26,7 @@ use Rattle.flame_top.specs.Reports.{fault_text, fault_status, run_report}
 use Rattle.flame_top.specs.OrderReports.{version, ordered_run, start_read, run_of_source}
 use Rattle.flame_top.specs.RunEndings.{run_ending, EndsRun}
 use Rattle.flame_top.specs.Standing.{Stands, Carries, IsOfInput, IsLine, Keeps}
-use Rattle.flame_top.proofs.Standings.{carries_known, carries_given}
+use Rattle.flame_top.proofs.Standings.{carries_known, carries_given, read_is_of_input}
 
 -- ---- the line of a fault
 
@@ -156,4 +156,5 @@ pub run_carries :
 run_carries told order source start ending files old mid out new only given driven s =
     carries_given (start_read told source order.turns order.pop) (λ st. known (ordered_run order source st)) start
     ending files old mid out new only given
-    (carries_known (ordered_run order source start) ending files (outside mid out) new driven s)
+    (carries_known (ordered_run order source start) ending files (outside mid out) new
+    (λ r. driven (read_is_of_input ending r)) s)

@@ -4,7 +4,6 @@ pub mod GivenInputs
 pub mod Standings
 pub mod PrintedTexts
 pub mod DrivenRuns
-pub mod BehindReads
 pub mod FileAndLine
 pub mod FewStatuses
 pub mod TrialActs

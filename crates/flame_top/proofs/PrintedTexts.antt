@@ -16,7 +16,7 @@ use Rattle.flame_top.specs.Reports.{carried_out, printing}
 use Rattle.flame_top.specs.OrderReports.{source_read, text_reading}
 use Rattle.flame_top.specs.Printing.{StopsPrint, EndsPrint}
 use Rattle.flame_top.specs.Standing.{Stands, Carries, IsOfInput, Keeps}
-use Rattle.flame_top.proofs.Standings.{unchanged, carries_known, carries_given}
+use Rattle.flame_top.proofs.Standings.{unchanged, carries_known, carries_given, read_is_of_input}
 
 -- why a text was not printed whole is how its printing ended
 pub stops_print :
@@ -134,5 +134,5 @@ text_carries read told name text_of source ending old mid out out' only given p 
     carries_given (source_read read told name) (λ s. known (carried_out (printing (text_of s)))) source ending 0
     old mid out (outside mid out') only given
     (carries_known (carried_out (printing (text_of source))) ending 0 (outside mid out) (outside mid out')
-    (text_is_driven mid out out' (text_of source) ending p)
+    (λ r. text_is_driven mid out out' (text_of source) ending p (read_is_of_input ending r))
     (text_stands mid out out' (text_of source) ending p))

@@ -193,15 +193,15 @@ keeps_stopped NoMemory old new out s failed only = record {
 
 -- ---- inputs that are given
 
--- a report that is known, and no input is to blame
+-- a report that is known, and no read is to blame
 pub carries_known :
     (report : Report) (ending : Ending) (files : ℕ) (old new : Outside)
-    → ¬ IsOfInput ending
+    → ¬ IsReadFault ending
     → Stands ending files report old new
     → Carries (known report) ending files old new
-carries_known report ending files old new driven s = record { stands = s; reached = none ending driven }
+carries_known report ending files old new unread s = record { stands = s; reached = none ending unread }
   where
-    none : (e : Ending) → ¬ IsOfInput e → ReachesInput [] e
+    none : (e : Ending) → ¬ IsReadFault e → ReachesInput [] e
     none Done d = tt
     none (RefusedWords line) d = tt
     none (Refused line) d = tt
@@ -210,6 +210,17 @@ carries_known report ending files old new driven s = record { stands = s; reache
     none (FileFault name) d = tt
     none OutputFault d = tt
     none NoMemory d = tt
+
+-- a fault of a read is an ending that an input comes to
+pub read_is_of_input : (ending : Ending) → IsReadFault ending → IsOfInput ending
+read_is_of_input Done r = r
+read_is_of_input (RefusedWords line) r = r
+read_is_of_input (Refused line) r = absurd r
+read_is_of_input (Faulted line) r = r
+read_is_of_input (ReadFault name) r = tt
+read_is_of_input (FileFault name) r = r
+read_is_of_input OutputFault r = r
+read_is_of_input NoMemory r = r
 
 -- behind a reading that gives x, what comes behind x is carried out
 pub carries_next :

@@ -21,6 +21,7 @@ use Rattle.flame_top.specs.Printing.{EndsPrint}
 use Rattle.flame_top.specs.TrialAnswers.{total_line, EndsTrial}
 use Rattle.flame_top.proofs.FileTotals.{NamesStandOnce, total_of-files}
 use Rattle.flame_top.proofs.PrintedScripts.{printed, stands_beside, whole_beside, fails_beside}
+use Rattle.flame_top.proofs.Standings.{read_is_of_input}
 
 -- ---- the acts of a trial
 
@@ -308,14 +309,7 @@ tells_line (FileFault name) text old new p = tt
 
 not_a_read_fault :
     (ending : Ending) (text : List ℕ) (old new : SeenSink) → EndsPrint text old new ending → ¬ IsReadFault ending
-not_a_read_fault Done text old new p r = r
-not_a_read_fault OutputFault text old new p r = r
-not_a_read_fault NoMemory text old new p r = r
-not_a_read_fault (Refused line) text old new p r = r
-not_a_read_fault (RefusedWords line) text old new p r = r
-not_a_read_fault (Faulted line) text old new p r = r
-not_a_read_fault (ReadFault name) text old new p r = p
-not_a_read_fault (FileFault name) text old new p r = r
+not_a_read_fault ending text old new p r = not_of_input ending text old new p (read_is_of_input ending r)
 
 caused_behind :
     (ending : Ending) (text : List ℕ) (depot : SeenDepot) (old mid new : SeenSink)

@@ -1,15 +1,16 @@
 -- A trial whose inputs are read, or give nothing.
 use Rattle.std.proofs.Common.{◌≡◌, ℕ, List, [], Result, Ok, Err, refl, sym, ap, subst}
-use Rattle.flame_outside.specs.Scripts.{Outside}
-use Rattle.flame_outside.proofs.FrameLemmas.{reads_same, goes_on_same}
-use Rattle.flame_outside.proofs.ScriptLemmas.{nothing_stands}
-use Rattle.flame_load.specs.InputReads.{Reading, known, answer_behind, ◌>>=◌}
+use Rattle.flame_outside.specs.Devices.{SeenDepot, SeenSink}
+use Rattle.flame_outside.specs.Scripts.{Outside, outside}
+use Rattle.flame_outside.proofs.FrameLemmas.{reads_same}
+use Rattle.flame_load.specs.InputReads.{Reading, answer_behind, ◌>>=◌}
 use Rattle.flame_top.specs.declared.ending.Ending.{Ending}
 use Rattle.flame_top.specs.declared.ending.Ending.TheVariants.{Done, RefusedWords, Refused, Faulted, ReadFault, FileFault, OutputFault, NoMemory}
 use Rattle.flame_top.specs.Reports.{Report, report_or, report_in}
 use Rattle.flame_top.specs.OrderReports.{trial_of}
 use Rattle.flame_top.specs.InputAnswers.{Stops, StopsReading, IsReadFault}
-use Rattle.flame_top.specs.Standing.{Stands, ReachesInput, Carries, Keeps}
+use Rattle.flame_top.specs.Standing.{Stands, Keeps}
+use Rattle.flame_top.proofs.Standings.{unchanged, keeps_stopped}
 
 -- ---- behind an input
 
@@ -26,25 +27,12 @@ behind_input {X = X} reading next x given =
 
 -- memory was not found before anything was done
 pub lacks_memory : (report : Report) (old : Outside) → Stands NoMemory 0 report old old
-lacks_memory report old = record {
-  done = 0;
-  has_done = record { stands = nothing_stands report.acts old old refl; count = refl };
-  ends = tt;
-  whole = λ w. absurd w;
-  blames = tt;
-}
+lacks_memory report old = unchanged NoMemory report old old refl tt (λ w. absurd w) tt
 
 -- an input is refused
-refused_stands :
-    (report : Report) (line : List ℕ) (old : Outside)
-    → Stands (Refused line) 0 (trial_of (report_or (Err line))) old old
-refused_stands report line old = record {
-  done = 0;
-  has_done = record { stands = nothing_stands [] old old refl; count = refl };
-  ends = (refl, refl);
-  whole = λ w. refl;
-  blames = tt;
-}
+refused_stands : (line : List ℕ) (old : Outside) → Stands (Refused line) 0 (trial_of (report_or (Err line))) old old
+refused_stands line old =
+    unchanged (Refused line) (trial_of (report_or (Err line))) old old refl (refl, refl) (λ w. refl) tt
 
 pub stops_at_input :
     {X : Type 0} (reading : Reading (List ℕ) X) (next : X → Reading (List ℕ) Report) (ending : Ending) (old : Outside)
@@ -56,7 +44,7 @@ stops_at_input reading next Done old s read = absurd s
 stops_at_input {X = X} reading next (Refused line) old s read =
     subst
     (λ (answer : Result X (List ℕ)). Stands (Refused line) 0 (trial_of (report_or (answer_behind answer next))) old old)
-    (sym s) (refused_stands (report_in (reading >>= next)) line old)
+    (sym s) (refused_stands line old)
 stops_at_input reading next (RefusedWords line) old s read = absurd s
 stops_at_input reading next (Faulted line) old s read = absurd s
 stops_at_input reading next (ReadFault name) old s read = absurd (read tt)
@@ -65,44 +53,9 @@ stops_at_input reading next OutputFault old s read = absurd s
 stops_at_input reading next NoMemory old s read = lacks_memory (trial_of (report_in (reading >>= next))) old
 
 pub keeps_at_input :
-    (ending : Ending) (old : Outside) → StopsReading ending → ¬ IsReadFault ending → Keeps ending 0 old old
-keeps_at_input Done old s read = absurd s
-keeps_at_input (Refused line) old s read = record {
-  caused = tt;
-  ordered = λ r. r;
-  line = s;
-  input = λ i. record { puts = record { none = refl; depot = reads_same old.depot }; output = refl };
-  goes_on = goes_on_same old;
-}
-keeps_at_input (RefusedWords line) old s read = absurd s
-keeps_at_input (Faulted line) old s read = absurd s
-keeps_at_input (ReadFault name) old s read = absurd (read tt)
-keeps_at_input (FileFault name) old s read = absurd s
-keeps_at_input OutputFault old s read = absurd s
-keeps_at_input NoMemory old s read = record {
-  caused = tt;
-  ordered = λ r. r;
-  line = tt;
-  input = λ i. absurd i;
-  goes_on = goes_on_same old;
-}
-
--- ---- no input of the trial's own is reached
-
-reaches_none : (ending : Ending) → ¬ IsReadFault ending → ReachesInput [] ending
-reaches_none Done read = tt
-reaches_none (Refused line) read = tt
-reaches_none (RefusedWords line) read = tt
-reaches_none (Faulted line) read = tt
-reaches_none (ReadFault name) read = absurd (read tt)
-reaches_none (FileFault name) read = tt
-reaches_none OutputFault read = tt
-reaches_none NoMemory read = tt
-
--- a trial that stands so is carried out so
-pub carries_trial :
-    (report : Report) (ending : Ending) (files : ℕ) (old new : Outside)
-    → Stands ending files report old new
+    (ending : Ending) (depot : SeenDepot) (out : SeenSink)
+    → StopsReading ending
     → ¬ IsReadFault ending
-    → Carries (known report) ending files old new
-carries_trial report ending files old new s read = record { stands = s; reached = reaches_none ending read }
+    → Keeps ending 0 (outside depot out) (outside depot out)
+keeps_at_input ending depot out stops unread =
+    keeps_stopped ending depot depot out stops (λ r. absurd (unread r)) (reads_same depot)

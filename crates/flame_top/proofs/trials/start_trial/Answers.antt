@@ -40,6 +40,6 @@ returns-in-Err-clause-stands g c = λ told depot is.
 pub returns-in-Err-clause-keeps : goal.returns-in-Err-clause-keeps
 returns-in-Err-clause-keeps g c = λ depot.
     rw (c.before_files.ensures.ending, c.before_files.ensures.files)
-    (keeps_at_input c.in-Err.ending (outside depot (g.S.Sink.seen c.args.out.now)) c.in-Err.ensures.stops
+    (keeps_at_input c.in-Err.ending depot (g.S.Sink.seen c.args.out.now) c.in-Err.ensures.stops
     (no_read_fault c.in-Err.ending (seen_depot c.args.inputs.now) (seen_depot c.start_in.new.depot)
     c.requires.calm c.in-Err.ensures.read_fault))
