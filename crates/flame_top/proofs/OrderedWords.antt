@@ -1,10 +1,9 @@
 -- From the part that carries out an order to its command line; and words that give none.
-use Rattle.std.proofs.Common.{◌≡◌, ℕ, List, length, refl, sym, subst}
+use Rattle.std.proofs.Common.{◌≡◌, ℕ, List, refl, sym, subst}
 use Rattle.std.specs.Prelude.{Result, Ok, Err}
 use Rattle.flame_outside.specs.Files.{Files}
 use Rattle.flame_outside.specs.Scripts.{Outside}
 use Rattle.flame_outside.proofs.FrameLemmas.{reads_same, goes_on_same}
-use Rattle.flame_outside.proofs.ScriptLemmas.{nothing_stands}
 use Rattle.flame_words.specs.declared.orders.Order.{Order}
 use Rattle.flame_words.specs.declared.faults.Usage.{Usage}
 use Rattle.flame_report.specs.FaultLines.{usage_line}
@@ -15,8 +14,9 @@ use Rattle.flame_top.specs.declared.ending.Ending.TheVariants.{RefusedWords, NoM
 use Rattle.flame_top.specs.Reports.{Report, refusal, report_in}
 use Rattle.flame_top.specs.OrderReports.{order_reading, ordered}
 use Rattle.flame_top.specs.CallAnswers.{OrdersTrial, OrdersText, PutsNothing}
-use Rattle.flame_top.specs.Standing.{IsWholeEnding, Ends, Blames, IsLine, Stands, Carries, Keeps}
-use Rattle.flame_top.specs.Ordering.{IsUsageEnding, IsApartBy, KeepsOrder}
+use Rattle.flame_top.specs.Standing.{IsLine, Carries, Keeps}
+use Rattle.flame_top.specs.Ordering.{IsUsageEnding, IsApartBy, IsUnordered, KeepsOrder}
+use Rattle.flame_top.proofs.Standings.{unchanged}
 use Rattle.flame_top.proofs.ToldLines.{usage_is_line}
 
 -- ---- orders
@@ -51,7 +51,7 @@ module _ (answer : Result Order Usage) (order : Order) (ending : Ending) (files 
         ordered = λ refuses. absurd (keeps.ordered refuses);
         line = keeps.line;
         input = keeps.input;
-        refused = λ refused. absurd refused;
+        refused = tt;
         trial = trial;
         text = text;
         goes_on = keeps.goes_on;
@@ -60,25 +60,14 @@ module _ (answer : Result Order Usage) (order : Order) (ending : Ending) (files 
 
 -- ---- words that give none
 
--- nothing is done
-stands_nowhere :
-    (ending : Ending) (report : Report) (out : Outside)
-    → Ends ending report
-    → (IsWholeEnding ending → 0 ≡ length report.acts)
-    → Blames ending report.acts 0 out out
-    → Stands ending 0 report out out
-stands_nowhere ending report out ends whole blames = record {
-  done = 0;
-  has_done = record { stands = nothing_stands report.acts out out refl; count = refl };
-  ends = ends;
-  whole = whole;
-  blames = blames;
-}
-
 -- for want of memory nothing is done
 pub carries_nothing : (reading : Reading (List ℕ) Report) (out : Outside) → Carries reading NoMemory 0 out out
 carries_nothing reading out =
-    record { stands = stands_nowhere NoMemory (report_in reading) out tt (λ whole. absurd whole) tt; reached = tt }
+    record { stands = unchanged NoMemory (report_in reading) out out refl tt (λ whole. absurd whole) tt; reached = tt }
+
+unordered_by_memory : (answer : Result Order Usage) (out : Outside) → IsUnordered answer NoMemory 0 out out
+unordered_by_memory (Ok order) out = tt
+unordered_by_memory (Err usage) out = (tt, record { none = refl; same = refl })
 
 pub keeps_nothing : (answer : Result Order Usage) (out : Outside) → KeepsOrder answer NoMemory 0 out out
 keeps_nothing answer out = record {
@@ -86,8 +75,8 @@ keeps_nothing answer out = record {
   ordered = λ refuses. absurd refuses;
   line = tt;
   input = λ input. absurd input;
-  refused = λ refused. record { leaves = record { none = refl; same = refl }; memory = λ other. refl };
-  trial = λ trial. record { depot = refl; none = refl; read = λ fault. fault };
+  refused = unordered_by_memory answer out;
+  trial = λ trial. record { leaves = record { none = refl; depot = refl }; read = λ fault. fault };
   text = λ text. record { none = refl; depot = reads_same out.depot };
   goes_on = goes_on_same out;
 }
@@ -99,7 +88,7 @@ refused_carries :
     → Carries (known (refusal (usage_line usage) 2)) ending 0 out out
 refused_carries usage (RefusedWords line) out is =
     record {
-      stands = stands_nowhere (RefusedWords line) (refusal (usage_line usage) 2) out (refl, sym is) (λ whole. refl) tt;
+      stands = unchanged (RefusedWords line) (refusal (usage_line usage) 2) out out refl (refl, sym is) (λ whole. refl) tt;
       reached = tt;
     }
 refused_carries usage NoMemory out is = carries_nothing (known (refusal (usage_line usage) 2)) out
@@ -114,7 +103,7 @@ refused_keeps usage (RefusedWords line) out is = record {
   ordered = λ refuses. tt;
   line = subst IsLine (sym is) (usage_is_line usage);
   input = λ input. absurd input;
-  refused = λ refused. record { leaves = record { none = refl; same = refl }; memory = λ other. absurd (other tt) };
+  refused = (is, record { none = refl; same = refl });
   trial = λ trial. absurd trial;
   text = λ text. absurd text;
   goes_on = goes_on_same out;

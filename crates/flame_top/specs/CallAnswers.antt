@@ -8,10 +8,13 @@ use Rattle.flame_outside.specs.Scripts.{Act, puts, prints, Outside, HasDone, Fai
 use Rattle.flame_words.specs.declared.orders.Order.{Order}
 use Rattle.flame_words.specs.declared.orders.Order.TheVariants.{Check, Graph, Code, Trial}
 use Rattle.flame_words.specs.declared.faults.Usage.{Usage}
-use Rattle.flame_report.specs.FaultLines.{read_fault_line, write_fault_line, output_fault_line}
+use Rattle.flame_report.specs.FaultLines.{usage_line, read_fault_line, write_fault_line, output_fault_line}
 use Rattle.flame_load.specs.InputReads.{Reading}
 use Rattle.flame_top.specs.Reports.{Report, report_in}
-use Rattle.flame_top.specs.EndingLines.{no_memory_text}
+
+-- the line for want of memory [own]
+abbrev pub no_memory_text : List ℕ
+no_memory_text = codes "no memory\n"
 
 -- a front of the line was written, and the whole line where no write failed [own]
 pub record Tells (line : List ℕ) (old new : SeenSink) : Type 0 where
@@ -89,6 +92,11 @@ pub record LeavesAll (files : ℕ) (old new : Outside) : Type 0 where
   pub none : files ≡ 0
   pub same : new ≡ old
 
+-- nothing was read or put [own]
+pub record LeavesDepot (files : ℕ) (old new : Outside) : Type 0 where
+  pub none : files ≡ 0
+  pub depot : new.depot ≡ old.depot
+
 -- nothing was put, and the depot was read at most [own]
 pub record PutsNothing (files : ℕ) (old new : Outside) : Type 0 where
   pub none : files ≡ 0
@@ -104,34 +112,43 @@ pub record TellsALine (err err' : SeenSink) : Type 0 where
   pub line : List ℕ
   pub told : Tells (line ++ codes "\n") err err'
 
--- of a trial the depot is as it was, and none of its inputs could not be read [own]
-pub record IsApart (status files : ℕ) (old new : Outside) : Type 0 where
-  pub depot : new.depot ≡ old.depot
-  pub none : files ≡ 0
-  pub read : status ≢ 5
+-- the line of the words' fault of usage was told [own]
+abbrev pub TellsUsage : Result Order Usage → SeenSink → SeenSink → Type 0
+TellsUsage (Ok order) err err' = ⊥
+TellsUsage (Err usage) err err' = Tells (usage_line usage) err err'
 
--- why a call that was ordered so answers this status and so many files, and what it leaves as it was [own]
-pub record HasCause
-    (ordered : Result Order Usage) (status files : ℕ) (old new : Outside) (err err' : SeenSink) : Type 0 where
+-- why a call whose words are read so answers this status [own]
+pub record HasCause (words : Result Order Usage) (status : ℕ) (old new : Outside) : Type 0 where
   -- there are seven statuses
-  pub known : status ≤ 6
-  -- with 0 err is as it was
-  pub quiet : status ≡ 0 → err' ≡ err
-  -- with each other one but 4 a line is told
-  pub line : status ≢ 0 → status ≢ 4 → TellsALine err err'
-  -- 1 leaves all but the count of reads
-  pub input : status ≡ 1 → WritesNothing files old new
+  pub few : status ≤ 6
   -- 2 only for words that have a fault of usage
-  pub words : status ≡ 2 → AreRefused ordered
-  -- and for them nothing else, but for want of memory; they leave all as it was
-  pub refused : AreRefused ordered → (status ≡ 2) ⊎ (status ≡ 4)
-  pub untouched : AreRefused ordered → LeavesAll files old new
-  -- 4 for want of memory, which is told as far as err takes it
-  pub memory : status ≡ 4 → PrintsFront no_memory_text err err'
-  -- 5 only where a read failed; it leaves all but the count of reads
-  pub read : status ≡ 5 → ReadFailed old.depot new.depot × WritesNothing files old new
+  pub faulty : status ≡ 2 → AreRefused words
+  -- and for them nothing else, but for want of memory
+  pub refused : AreRefused words → (status ≡ 2) ⊎ (status ≡ 4)
+  -- 5 only where a read failed, and not for a trial, whose inputs are its own
+  pub read : status ≡ 5 → ReadFailed old.depot new.depot
+  pub trial : OrdersTrial words → status ≢ 5
   -- 6 only where a put or a print failed
   pub write : status ≡ 6 → PutFailed old.depot new.depot ⊎ WriteFailed old.output new.output
-  -- a trial leaves the depot as it is, and an order of a text puts nothing
-  pub trial : OrdersTrial ordered → IsApart status files old new
-  pub text : OrdersText ordered → PutsNothing files old new
+
+-- what err gets with this status, of a call whose words are read so [own]
+pub record TellsStatus (words : Result Order Usage) (status : ℕ) (err err' : SeenSink) : Type 0 where
+  -- with 0 nothing
+  pub quiet : status ≡ 0 → err' ≡ err
+  -- with 4 as much of the line for want of memory as it takes
+  pub memory : status ≡ 4 → PrintsFront no_memory_text err err'
+  -- with each other status a line
+  pub line : status ≢ 0 → status ≢ 4 → TellsALine err err'
+  -- and with 2 that of the fault of usage
+  pub usage : status ≡ 2 → TellsUsage words err err'
+
+-- what a call whose words are read so leaves as it was, with this status and so many files [own]
+pub record Leaves (words : Result Order Usage) (status files : ℕ) (old new : Outside) : Type 0 where
+  -- with 1 and 5 all but the count of reads
+  pub input : (status ≡ 1) ⊎ (status ≡ 5) → WritesNothing files old new
+  -- where the words have a fault of usage, all
+  pub refused : AreRefused words → LeavesAll files old new
+  -- a trial the depot
+  pub trial : OrdersTrial words → LeavesDepot files old new
+  -- an order of a text the files
+  pub text : OrdersText words → PutsNothing files old new

@@ -1,9 +1,10 @@
 -- The status and the line of an ending.
-use Rattle.std.specs.Prelude.{ℕ, List, [], codes}
+use Rattle.std.specs.Prelude.{ℕ, List, []}
 use Rattle.flame_report.specs.FaultLines.{read_fault_line, write_fault_line, output_fault_line}
 use Rattle.flame_top.specs.declared.ending.Ending.{Ending}
 use Rattle.flame_top.specs.declared.ending.Ending.TheVariants.{Done, RefusedWords, Refused, Faulted}
 use Rattle.flame_top.specs.declared.ending.Ending.TheVariants.{ReadFault, FileFault, OutputFault, NoMemory}
+use Rattle.flame_top.specs.CallAnswers.{no_memory_text}
 
 -- the status of an ending [own]
 abbrev pub status_of : Ending → ℕ
@@ -15,10 +16,6 @@ status_of NoMemory = 4
 status_of (ReadFault name) = 5
 status_of (FileFault name) = 6
 status_of OutputFault = 6
-
--- the line for want of memory [own]
-abbrev pub no_memory_text : List ℕ
-no_memory_text = codes "no memory\n"
 
 -- the line for err; there is none where the order was carried out [own]
 abbrev pub line_of : Ending → List ℕ

@@ -8,8 +8,8 @@ pub mod Reports
 pub mod RefusalLines
 pub mod TopLaws
 pub mod RestartedFiles
-pub mod EndingLines
 -- The words that only bodies and proofs use.
+pub mod EndingLines
 pub mod InputAnswers
 pub mod Ordering
 pub mod ModelTexts

@@ -1,12 +1,12 @@
 -- What holds of a command line that ends so, whatever the devices tell.
-use Rattle.std.specs.Prelude.{◌≡◌, ℕ, Result}
+use Rattle.std.specs.Prelude.{◌≡◌, ℕ, Result, Ok, Err}
 use Rattle.flame_outside.specs.Scripts.{Outside, GoesOn}
 use Rattle.flame_words.specs.declared.orders.Order.{Order}
 use Rattle.flame_words.specs.declared.faults.Usage.{Usage}
 use Rattle.flame_report.specs.FaultLines.{usage_line}
 use Rattle.flame_top.specs.declared.ending.Ending.{Ending}
 use Rattle.flame_top.specs.declared.ending.Ending.TheVariants.{RefusedWords, NoMemory}
-use Rattle.flame_top.specs.CallAnswers.{AreRefused, OrdersTrial, OrdersText, LeavesAll, PutsNothing, WritesNothing}
+use Rattle.flame_top.specs.CallAnswers.{AreRefused, OrdersTrial, OrdersText, LeavesAll, LeavesDepot, PutsNothing, WritesNothing}
 use Rattle.flame_top.specs.InputAnswers.{IsReadFault}
 use Rattle.flame_top.specs.Standing.{IsCaused, RefusesWords, IsOfInput, TellsLine}
 
@@ -18,14 +18,13 @@ IsUsageEnding usage ending = ⊥
 
 -- the depot is as it was, no file was put, and no input could not be read [own]
 pub record IsApartBy (ending : Ending) (files : ℕ) (old new : Outside) : Type 0 where
-  pub depot : new.depot ≡ old.depot
-  pub none : files ≡ 0
+  pub leaves : LeavesDepot files old new
   pub read : ¬ IsReadFault ending
 
--- the words are refused, and the ending says so, or that memory was not found [own]
-pub record IsUnordered (ending : Ending) (files : ℕ) (old new : Outside) : Type 0 where
-  pub leaves : LeavesAll files old new
-  pub memory : ¬ RefusesWords ending → ending ≡ NoMemory
+-- words that are refused leave all as it was, and the ending says so, or that memory was not found [own]
+abbrev pub IsUnordered : Result Order Usage → Ending → ℕ → Outside → Outside → Type 0
+IsUnordered (Ok order) ending files old new = Unit {0}
+IsUnordered (Err usage) ending files old new = IsUsageEnding usage ending × LeavesAll files old new
 
 -- what holds of a command line that gives this order or fault, and ends so with so many files [own]
 pub record KeepsOrder (answer : Result Order Usage) (ending : Ending) (files : ℕ) (old new : Outside) : Type 0 where
@@ -33,7 +32,7 @@ pub record KeepsOrder (answer : Result Order Usage) (ending : Ending) (files : �
   pub ordered : RefusesWords ending → AreRefused answer
   pub line : TellsLine ending
   pub input : IsOfInput ending → WritesNothing files old new
-  pub refused : AreRefused answer → IsUnordered ending files old new
+  pub refused : IsUnordered answer ending files old new
   pub trial : OrdersTrial answer → IsApartBy ending files old new
   pub text : OrdersText answer → PutsNothing files old new
   pub goes_on : GoesOn old new

@@ -3,8 +3,8 @@ use Rattle.std.specs.Prelude.{◌≡◌, ◌⊎◌, ℕ}
 use Rattle.flame_outside.specs.Devices.{SeenSink}
 use Rattle.flame_outside.specs.Printed.{PrintsFront}
 use Rattle.flame_top.specs.declared.ending.Ending.{Ending}
-use Rattle.flame_top.specs.EndingLines.{status_of, line_of, no_memory_text}
-use Rattle.flame_top.specs.CallAnswers.{Tells}
+use Rattle.flame_top.specs.EndingLines.{status_of, line_of}
+use Rattle.flame_top.specs.CallAnswers.{Tells, no_memory_text}
 
 -- the ending is told by its status and its line [own]
 pub record TellsEnding (ending : Ending) (status : ℕ) (old new : SeenSink) : Type 0 where

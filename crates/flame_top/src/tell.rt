@@ -4,8 +4,8 @@ ghost use Rattle.std.specs.Prelude.{◌≡◌, OnOk, OnErr};
 ghost use Rattle.flame_outside.specs.Printed.{PrintsFront};
 ghost use Rattle.flame_outside.specs.Frames.{Grows};
 ghost use Rattle.flame_report.specs.FaultLines.{file_line};
-ghost use Rattle.flame_top.specs.CallAnswers.{Tells};
-ghost use Rattle.flame_top.specs.EndingLines.{status_of, line_of, no_memory_text};
+ghost use Rattle.flame_top.specs.CallAnswers.{Tells, no_memory_text};
+ghost use Rattle.flame_top.specs.EndingLines.{status_of, line_of};
 ghost use Rattle.flame_top.specs.Telling.{Answers};
 
 use crate::ending::{Carried, Ending};

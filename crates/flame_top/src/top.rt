@@ -8,7 +8,7 @@ ghost use Rattle.flame_outside.specs.Scripts.{outside, GoesOn};
 ghost use Rattle.flame_words.specs.CommandLines.{order_of};
 ghost use Rattle.flame_load.specs.TextReads.{Reader, ReadsTexts};
 ghost use Rattle.flame_top.specs.OrderReports.{reading};
-ghost use Rattle.flame_top.specs.CallAnswers.{CarriesOut, HasCause};
+ghost use Rattle.flame_top.specs.CallAnswers.{CarriesOut, HasCause, TellsStatus, Leaves};
 
 use crate::orders::carry;
 use crate::tell::tell;
@@ -72,9 +72,11 @@ pub fn flame<Rt: Threads + Wait + Sync, D: Depot, S: Sink, G: Gate>(
         (S.seen err.old) (S.seen err.new) }
 
     // Whatever the devices tell.
-    ensures causes { HasCause (order_of (map string_bytes words.now)) result.status result.files
-        (outside (D.seen depot.old) (S.seen out.old)) (outside (D.seen depot.new) (S.seen out.new))
-        (S.seen err.old) (S.seen err.new) }
+    ensures causes { HasCause (order_of (map string_bytes words.now)) result.status
+        (outside (D.seen depot.old) (S.seen out.old)) (outside (D.seen depot.new) (S.seen out.new)) }
+    ensures tells { TellsStatus (order_of (map string_bytes words.now)) result.status (S.seen err.old) (S.seen err.new) }
+    ensures leaves { Leaves (order_of (map string_bytes words.now)) result.status result.files
+        (outside (D.seen depot.old) (S.seen out.old)) (outside (D.seen depot.new) (S.seen out.new)) }
     ensures goes_on { GoesOn
         (outside (D.seen depot.old) (S.seen out.old)) (outside (D.seen depot.new) (S.seen out.new)) }
     ensures error { Grows (S.seen err.old) (S.seen err.new) }

@@ -3,7 +3,7 @@ use Rattle.flame_outside.specs.Scripts.{outside}
 use Rattle.flame_words.specs.CommandLines.{order_of}
 use Rattle.flame_top.specs.OrderReports.{reading}
 use Rattle.flame_top.proofs.CarriedCalls.{carries_out}
-use Rattle.flame_top.proofs.Causes.{has_cause, calm_depot, calm_out}
+use Rattle.flame_top.proofs.Causes.{has_cause, tells_status, leaves, calm_depot, calm_out}
 use Rattle.flame_top.proofs.top.flame.Goals as goal
 
 pub returns-clause-carries : goal.returns-clause-carries
@@ -19,12 +19,30 @@ returns-clause-carries g c = λ told read tells reads.
 pub returns-clause-causes : goal.returns-clause-causes
 returns-clause-causes g c =
     let carried = c.carry-carried.result in
-    rw c.tell.ensures.files
-    (has_cause (order_of (map string_bytes c.args.words.now)) carried.ending carried.files c.tell.result.status
+    has_cause (order_of (map string_bytes c.args.words.now)) carried.ending carried.files c.tell.result.status
     (outside (g.D.Depot.seen c.args.depot.now) (g.S.Sink.seen c.args.out.now))
     (outside (g.D.Depot.seen c.carry-carried.new.depot) (g.S.Sink.seen c.carry-carried.new.out))
     (g.S.Sink.seen c.args.err.now) (g.S.Sink.seen c.tell.new.err)
-    c.carry-carried.ensures.keeps c.tell.ensures.answers c.tell.ensures.quiet)
+    c.carry-carried.ensures.keeps c.tell.ensures.answers
+
+pub returns-clause-tells : goal.returns-clause-tells
+returns-clause-tells g c =
+    let carried = c.carry-carried.result in
+    tells_status (order_of (map string_bytes c.args.words.now)) carried.ending carried.files c.tell.result.status
+    (outside (g.D.Depot.seen c.args.depot.now) (g.S.Sink.seen c.args.out.now))
+    (outside (g.D.Depot.seen c.carry-carried.new.depot) (g.S.Sink.seen c.carry-carried.new.out))
+    (g.S.Sink.seen c.args.err.now) (g.S.Sink.seen c.tell.new.err)
+    c.carry-carried.ensures.keeps c.tell.ensures.answers c.tell.ensures.quiet
+
+pub returns-clause-leaves : goal.returns-clause-leaves
+returns-clause-leaves g c =
+    let carried = c.carry-carried.result in
+    rw c.tell.ensures.files
+    (leaves (order_of (map string_bytes c.args.words.now)) carried.ending carried.files c.tell.result.status
+    (outside (g.D.Depot.seen c.args.depot.now) (g.S.Sink.seen c.args.out.now))
+    (outside (g.D.Depot.seen c.carry-carried.new.depot) (g.S.Sink.seen c.carry-carried.new.out))
+    (g.S.Sink.seen c.args.err.now) (g.S.Sink.seen c.tell.new.err)
+    c.carry-carried.ensures.keeps c.tell.ensures.answers)
 
 pub returns-clause-goes_on : goal.returns-clause-goes_on
 returns-clause-goes_on g c = c.carry-carried.ensures.keeps.goes_on
@@ -34,21 +52,19 @@ returns-clause-calm_depot g c =
     let carried = c.carry-carried.result in
     let old = outside (g.D.Depot.seen c.args.depot.now) (g.S.Sink.seen c.args.out.now) in
     let new = outside (g.D.Depot.seen c.carry-carried.new.depot) (g.S.Sink.seen c.carry-carried.new.out) in
-    let err = g.S.Sink.seen c.args.err.now in
-    let err' = g.S.Sink.seen c.tell.new.err in
     let words = order_of (map string_bytes c.args.words.now) in
-    calm_depot words c.tell.result.status carried.files old new err err'
-    (has_cause words carried.ending carried.files c.tell.result.status old new err err'
-    c.carry-carried.ensures.keeps c.tell.ensures.answers c.tell.ensures.quiet)
+    calm_depot words c.tell.result.status old new
+    (has_cause words carried.ending carried.files c.tell.result.status old new
+    (g.S.Sink.seen c.args.err.now) (g.S.Sink.seen c.tell.new.err)
+    c.carry-carried.ensures.keeps c.tell.ensures.answers)
 
 pub returns-clause-calm_out : goal.returns-clause-calm_out
 returns-clause-calm_out g c =
     let carried = c.carry-carried.result in
     let old = outside (g.D.Depot.seen c.args.depot.now) (g.S.Sink.seen c.args.out.now) in
     let new = outside (g.D.Depot.seen c.carry-carried.new.depot) (g.S.Sink.seen c.carry-carried.new.out) in
-    let err = g.S.Sink.seen c.args.err.now in
-    let err' = g.S.Sink.seen c.tell.new.err in
     let words = order_of (map string_bytes c.args.words.now) in
-    calm_out words c.tell.result.status carried.files old new err err'
-    (has_cause words carried.ending carried.files c.tell.result.status old new err err'
-    c.carry-carried.ensures.keeps c.tell.ensures.answers c.tell.ensures.quiet)
+    calm_out words c.tell.result.status old new
+    (has_cause words carried.ending carried.files c.tell.result.status old new
+    (g.S.Sink.seen c.args.err.now) (g.S.Sink.seen c.tell.new.err)
+    c.carry-carried.ensures.keeps c.tell.ensures.answers)
