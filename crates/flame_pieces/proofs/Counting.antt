@@ -1,0 +1,157 @@
+-- Counts of those that wait.
+use Rattle.std.proofs.Common.{◌≡◌, ℕ, zero, suc, ◌+◌, ◌-◌, ◌<◌, ◌≤◌, List, [], ◌∷◌, ◌++◌, length, take, get_or, set, replicate, refl, sym, ap, ◌∙◌, subst, arith, ⊎_elim, Bool, true, false, cond, get_or-set_same, get_or-set_other, length-set, zero-add, append-nil, take_all, drop}
+use Rattle.std.specs.Prelude.{◌==◌, ◌||◌, not, slice_index, slice_set}
+use Rattle.std.specs.List.{All, list_all}
+use Rattle.std.proofs.lemmas.List.{drop_all}
+use Rattle.std.proofs.lemmas.Bool.{eq-eqb, ne_eqb, cases_eq}
+use Rattle.std.proofs.lemmas.List.Elements.{All-set, All-push, All-get_or, All-nil, All-replicate}
+use Rattle.std.proofs.lemmas.List.Folds.{sum_by-zero, sum_by-replicate}
+use Rattle.std.proofs.lemmas.List.Sums.{sum_by-cons, sum_by_push, sum_by_more, sum_by_more_le, sum_by-set, get_or-le-sum_by}
+use Rattle.flame_spec.specs.Below.{is_in, times}
+use Rattle.flame_pieces.specs.Waiting.{Awaited, thing_at, is_free, waited_by, finished, open_times, AreCounts}
+
+abbrev pub one : Bool → ℕ
+one here = cond here 1 0
+
+-- ---- one less for each
+
+-- there is one to take away
+pub some_left : (waiters : List ℕ) (i left all : ℕ) → i < length waiters → left + times (get_or waiters i 0) (take i waiters) ≡ all
+    → times (get_or waiters i 0) waiters ≤ all → 1 ≤ left
+some_left waiters i left all within so_far enough =
+    let here = ap one (eq-eqb (get_or waiters i 0) (get_or waiters i 0) refl) in
+    omega (arith, sum_by_more_le (λ x. cond (x == get_or waiters i 0) 1 0) waiters i 0 within, here, so_far, enough)
+
+pub lessened : (waiters counts before : List ℕ) (i : ℕ) → i < length waiters → get_or waiters i 0 < length counts → 1 ≤ get_or counts (get_or waiters i 0) 0
+    → (number : ℕ) → get_or counts number 0 + times number (take i waiters) ≡ get_or before number 0
+    → get_or (set counts (get_or waiters i 0) (get_or counts (get_or waiters i 0) 0 - 1)) number 0 + times number (take (i + 1) waiters) ≡ get_or before number 0
+lessened waiters counts before i within there some number so_far =
+    let waiter = get_or waiters i 0 in
+    let after = set counts waiter (get_or counts waiter 0 - 1) in
+    let more = sum_by_more (λ x. cond (x == number) 1 0) waiters i 0 within in
+    ⊎_elim
+    (λ (same : waiter ≡ number).
+    let counted = ap one (eq-eqb waiter number same) in
+    let here : get_or after number 0 ≡ get_or counts waiter 0 - 1 = ap (λ k. get_or after k 0) (sym same) ∙ get_or-set_same counts waiter (get_or counts waiter 0 - 1) 0 there in
+    let was : get_or counts waiter 0 ≡ get_or counts number 0 = ap (λ k. get_or counts k 0) same in
+    omega (arith, here, was, counted, more, so_far, some))
+    (λ (apart : waiter ≡ number → ⊥).
+    let none = ap one (ne_eqb waiter number apart) in
+    let here : get_or after number 0 ≡ get_or counts number 0 = get_or-set_other counts waiter number (get_or counts waiter 0 - 1) 0 (λ same. apart (sym same)) in
+    omega (arith, here, none, more, so_far))
+    (cases_eq waiter number)
+
+-- a list that was lent whole
+pub whole : {X : Type 0} (xs ys : List X) (n : ℕ) → length xs ≡ length ys → n ≡ length ys → take n (xs ++ drop (length xs) ys) ≡ xs
+whole xs ys n long all =
+    ap (λ rest. take n (xs ++ rest)) (drop_all (length xs) ys (omega (arith, long))) ∙ ap (take n) (append-nil xs) ∙ take_all n xs (omega (arith, long, all))
+
+-- ---- a thing changes
+
+-- what is not done is there
+pub is_there : (things : List Awaited) (thing : ℕ) → (thing_at things thing).done ≡ false → thing < length things
+is_there [] thing waits = absurd cc
+is_there (first ∷ things) zero waits = omega arith
+is_there (first ∷ things) (suc thing) waits = omega (arith, is_there things thing waits)
+
+-- how often one waits for a thing that is not done
+pub open_is : (number : ℕ) (thing : Awaited) → thing.done ≡ false → open_times number thing ≡ times number thing.waiters
+open_is number thing waits = ap (λ d. cond d 0 (times number thing.waiters)) waits
+
+-- the counts have enough to take away
+pub counts_enough : (things : List Awaited) (counts : List ℕ) (thing : ℕ) → AreCounts things counts → (thing_at things thing).done ≡ false
+    → (number : ℕ) → times number (thing_at things thing).waiters ≤ slice_index counts number
+counts_enough things counts thing are waits number =
+    let least = get_or-le-sum_by (open_times number) things thing (record { waiters = []; done = true }) (is_there things thing waits) in
+    omega (arith, least, open_is number (thing_at things thing) waits, are.counted number)
+
+pub within_at : (things : List Awaited) (counts : List ℕ) (thing : ℕ) → AreCounts things counts → (thing_at things thing).done ≡ false
+    → All (λ waiter. waiter < length counts) (thing_at things thing).waiters
+within_at things counts thing are waits =
+    All-get_or (λ (t : Awaited). All (λ waiter. waiter < length counts) t.waiters) things thing (record { waiters = []; done = true }) (is_there things thing waits) are.within
+
+pub counts_finished : (things : List Awaited) (counts after : List ℕ) (thing : ℕ) → AreCounts things counts → (thing_at things thing).done ≡ false
+    → length after ≡ length counts
+    → ((number : ℕ) → slice_index after number + times number (thing_at things thing).waiters ≡ slice_index counts number)
+    → AreCounts (slice_set things thing (finished (thing_at things thing))) after
+counts_finished things counts after thing are waits long less = record {
+  within =
+      subst (λ n. All (λ (t : Awaited). All (λ waiter. waiter < n) t.waiters) (slice_set things thing (finished (thing_at things thing)))) (sym long)
+      (All-set (λ (t : Awaited). All (λ waiter. waiter < length counts) t.waiters) things thing (finished (thing_at things thing)) (within_at things counts thing are waits) are.within);
+  counted = λ number.
+      let changed = sum_by-set (open_times number) things thing (finished (thing_at things thing)) (record { waiters = []; done = true }) (is_there things thing waits) in
+      omega (arith, changed, open_is number (thing_at things thing) waits, are.counted number, less number);
+}
+
+pub counts_added : (things : List Awaited) (counts : List ℕ) (thing waiter : ℕ) → AreCounts things counts → (thing_at things thing).done ≡ false
+    → waiter < length counts
+    → AreCounts (slice_set things thing (waited_by waiter (thing_at things thing))) (slice_set counts waiter (slice_index counts waiter + 1))
+counts_added things counts thing waiter are waits within =
+    let now = thing_at things thing in
+    let more = waited_by waiter now in
+    let after = set counts waiter (get_or counts waiter 0 + 1) in
+    record {
+      within =
+          subst (λ n. All (λ (t : Awaited). All (λ w. w < n) t.waiters) (slice_set things thing more)) (sym (length-set counts waiter (get_or counts waiter 0 + 1)))
+          (All-set (λ (t : Awaited). All (λ w. w < length counts) t.waiters) things thing more
+          (All-push (λ w. w < length counts) now.waiters waiter (within_at things counts thing are waits) within) are.within);
+      counted = λ number.
+          let changed = sum_by-set (open_times number) things thing more (record { waiters = []; done = true }) (is_there things thing waits) in
+          let pushed : times number more.waiters ≡ times number now.waiters + one (waiter == number) = sum_by_push (λ x. cond (x == number) 1 0) now.waiters waiter in
+          let was = open_is number now waits in
+          let is = open_is number more waits in
+          ⊎_elim
+          (λ (same : waiter ≡ number).
+          let counted = ap one (eq-eqb waiter number same) in
+          let here : get_or after number 0 ≡ get_or counts waiter 0 + 1 = ap (λ k. get_or after k 0) (sym same) ∙ get_or-set_same counts waiter (get_or counts waiter 0 + 1) 0 within in
+          let there : get_or counts waiter 0 ≡ get_or counts number 0 = ap (λ k. get_or counts k 0) same in
+          omega (arith, here, there, counted, changed, pushed, was, is, are.counted number))
+          (λ (apart : waiter ≡ number → ⊥).
+          let none = ap one (ne_eqb waiter number apart) in
+          let here : get_or after number 0 ≡ get_or counts number 0 = get_or-set_other counts waiter number (get_or counts waiter 0 + 1) 0 (λ same. apart (sym same)) in
+          omega (arith, here, none, changed, pushed, was, is, are.counted number))
+          (cases_eq waiter number);
+    }
+
+-- ---- nothing is left
+
+times_none : (number : ℕ) (waiters : List ℕ) → (times number waiters == 0) ≡ not (is_in number waiters)
+times_none number [] = refl
+times_none number (waiter ∷ waiters) =
+    ap (λ n. n == 0) (sum_by-cons (λ x. cond (x == number) 1 0) waiter waiters)
+    ∙ elim (waiter == number) as (λ t. (cond t 1 0 + times number waiters == 0) ≡ not (t || is_in number waiters)) [
+      | true ↦ ne_eqb (1 + times number waiters) 0 (λ e. absurd (omega (arith, e)))
+      | false ↦ ap (λ n. n == 0) (zero-add (times number waiters)) ∙ times_none number waiters
+    ]
+
+open_none : (number : ℕ) (thing : Awaited) → (open_times number thing == 0) ≡ (thing.done || not (is_in number thing.waiters))
+open_none number thing =
+    elim thing.done as (λ d. (cond d 0 (times number thing.waiters) == 0) ≡ (d || not (is_in number thing.waiters))) [
+      | true ↦ refl
+      | false ↦ times_none number thing.waiters
+    ]
+
+-- who has no count left is free
+pub count_none : (things : List Awaited) (counts : List ℕ) (number count : ℕ) → AreCounts things counts
+    → (slice_index counts number == 0) ≡ is_free (record { things = things; count = count }) number
+count_none things counts number count are =
+    ap (λ n. n == 0) (are.counted number)
+    ∙ sum_by-zero (open_times number) things
+    ∙ (λ i. list_all (λ thing. open_none number thing i) things)
+
+-- at first nobody is counted
+abbrev zeros : ℕ → List ℕ
+zeros waiting = replicate waiting 0
+
+zero_at : (waiting number : ℕ) → slice_index (zeros waiting) number ≡ 0
+zero_at zero number = refl
+zero_at (suc waiting) zero = refl
+zero_at (suc waiting) (suc number) = zero_at waiting number
+
+pub counts_none : (things waiting : ℕ) (list : List Awaited) → list ≡ replicate things (record { waiters = []; done = false }) → AreCounts list (zeros waiting)
+counts_none things waiting list same =
+    let nobody : Awaited = record { waiters = []; done = false } in
+    subst (λ l. AreCounts l (zeros waiting)) (sym same) (record {
+      within = All-replicate (λ (t : Awaited). All (λ w. w < length (zeros waiting)) t.waiters) things nobody (All-nil (λ (w : ℕ). w < length (zeros waiting)));
+      counted = λ number. zero_at waiting number ∙ sym (sum_by-replicate (open_times number) things nobody ∙ omega arith);
+    })

@@ -1,0 +1,6 @@
+mod Counting
+mod Things
+mod Freeing
+mod Cutting
+mod Faults
+mod KeptParts
