@@ -11,6 +11,7 @@ use Rattle.flame_spec.specs.Functions.{Place, functions}
 use Rattle.flame_spec.specs.States.{is_entered, states}
 use Rattle.flame_sense.specs.Outcomes.{message_named}
 use Rattle.flame_world.specs.Fields.{state_place}
+use Rattle.flame_world.specs.Meaning.{outputs_at}
 use Rattle.flame_route.specs.declared.routes.Route.{Route}
 use Rattle.flame_route.specs.declared.routes.Routes.{Routes}
 
@@ -29,7 +30,7 @@ ReadMessages model =
     (function : ℕ) (place : Place) → slice_get (functions model) function ≡ Some place → ReadsEach model place.function
 
 -- the route of the function that stands in this place, but for its turn: its type, the states that it leaves and enters
--- among those of the type, and the message that each input reads [FLAME User Manual]
+-- among those of the type, the message that each input reads, and those that it adds [FLAME User Manual]
 pub record IsRouteOf (model : Model) (place : Place) (route : Route) : Type 0 where
   pub agent : route.agent ≡ place.agent
   pub from : route.from ≡ state_place place.type place.function.current
@@ -37,6 +38,7 @@ pub record IsRouteOf (model : Model) (place : Place) (route : Route) : Type 0 wh
   pub inputs :
       map (λ input. option_map (λ found. found.0) (message_named model.messages input.message)) place.function.inputs
       ≡ map Some route.inputs
+  pub outputs : route.outputs ≡ outputs_at (Some place) model
 
 -- for each state of each type the functions out of it, by number [own]
 abbrev pub AreLeaving : Model → List (List (List ℕ)) → Type 0

@@ -1,12 +1,13 @@
 //! The messages that inputs read.
 
 ghost use Rattle.std.specs.Prelude.{◌≡◌, ℕ, Some, IfOk, map, option_map, slice_get};
+ghost use Rattle.std.specs.List.{filter_map};
 ghost use Rattle.flame_spec.specs.declared.models.Input.{Input};
 ghost use Rattle.flame_sense.specs.Outcomes.{message_named};
 ghost use Rattle.flame_route.specs.ModelRoutes.{ReadsMessageOf};
 
 use flame_lookup::{Found, Table, messages_by_name};
-use flame_rows::NoMemory;
+use flame_rows::{NoMemory, Text};
 use flame_spec::{Input, MessageType};
 use std::alloc::Global;
 use std::marker::Model;
@@ -67,6 +68,30 @@ impl<'a> Messages<'a> {
         let mut numbers = Vec::new(alloc);
         for input in inputs {
             numbers.push(self.read_by(input))?;
+        }
+        Ok(numbers)
+    }
+
+    /// The number of the message of this name, if there is one.
+    fn number_of(&self, name: &Text) -> Option<u32>
+        ensures { result ≡ option_map (λ found. found.0) (message_named self.now.messages name.now) }
+    {
+        match self.by_name.get(name.as_str()) {
+            Some(found) => Some(found.at),
+            None => None,
+        }
+    }
+
+    /// The numbers of the messages of these names, without those that no message has.
+    pub(crate) fn numbers_of(&self, alloc: Global, names: &[Text]) -> Result<Vec<u32>, NoMemory>
+        ensures { IfOk result (λ numbers. numbers.items
+            ≡ filter_map (λ name. option_map (λ found. found.0) (message_named self.now.messages name)) names.now) }
+    {
+        let mut numbers = Vec::new(alloc);
+        for name in names {
+            if let Some(number) = self.number_of(name) {
+                numbers.push(number)?;
+            }
         }
         Ok(numbers)
     }

@@ -25,6 +25,8 @@ pub struct Route {
     pub turn: u32,
     /// The message that each of its inputs reads, by number.
     pub inputs: Seq<u32>,
+    /// The messages that it adds, by number.
+    pub outputs: Seq<u32>,
 }
 
 /// The routes of all functions of a model.

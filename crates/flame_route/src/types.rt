@@ -41,12 +41,14 @@ fn route_of(
     let from = number(own.place(function.current.as_str()))?;
     let to = number(own.place(function.next.as_str()))?;
     let inputs = messages.read_by_each(alloc, function.inputs.items())?;
+    let outputs = messages.numbers_of(alloc, function.outputs.items())?;
     Ok(Route {
         agent: at,
         from,
         to,
         turn,
         inputs: Seq::of(inputs),
+        outputs: Seq::of(outputs),
     })
 }
 

@@ -1,7 +1,7 @@
 -- The route, part by part.
-use Rattle.std.proofs.Common.{◌∙◌, Some, map, option_map, ap, sym, refl}
+use Rattle.std.proofs.Common.{◌∙◌, ℕ, List, Some, map, option_map, ap, sym, refl}
 use Rattle.std.specs.Prelude.{slice_get}
-use Rattle.std.specs.List.{position_or_len}
+use Rattle.std.specs.List.{position_or_len, filter_map}
 use Rattle.std.specs.Str.{bytes_eq}
 use Rattle.flame_spec.specs.declared.models.Input.{Input}
 use Rattle.flame_sense.specs.Outcomes.{message_named}
@@ -28,4 +28,7 @@ returns-clause-route c =
       inputs =
           ap (map (λ (input : Input). option_map (λ found. found.0) (message_named c.args.messages.now.messages input.message))) (sym c.items.ensures)
           ∙ c.in_ok-inputs.ensures ∙ ap (map Some) (sym c.of.ensures);
+      outputs =
+          c.of-2.ensures ∙ c.in_ok-outputs.ensures
+          ∙ ap (filter_map (λ (name : List ℕ). option_map (λ found. found.0) (message_named c.args.messages.now.messages name))) c.items-2.ensures;
     }
