@@ -250,7 +250,7 @@ fresh_messages (message ∷ messages) = ap (λ l. message ∷ l) (fresh_messages
 
 -- ---- messages one after another
 
-one_message : (one : Sent) (message : ℕ) → messages_of (one ∷ []) message ≡ cond (one.message == message) (one.row ∷ []) []
+pub one_message : (one : Sent) (message : ℕ) → messages_of (one ∷ []) message ≡ cond (one.message == message) (one.row ∷ []) []
 one_message one message =
     elim (one.message == message) as (λ t. map (λ (s : Sent). s.row) (cond t (one ∷ []) []) ≡ cond t (one.row ∷ []) []) [ true ↦ refl | false ↦ refl ]
 
@@ -269,3 +269,23 @@ messages_left sent i d message within =
     ap (λ l. messages_of l message) (drop-cons sent i d within ∙ ap (λ n. get_or sent i d ∷ drop n sent) (sym (add-one i)))
     ∙ messages_of-append message (get_or sent i d ∷ []) (drop (i + 1) sent)
     ∙ ap (λ l. l ++ messages_of (drop (i + 1) sent) message) (one_message (get_or sent i d) message)
+
+-- ---- an output is handed in
+
+same_default : {X : Type 0} (xs : List X) (k : ℕ) (d e : X) → k < length xs → slice_index_or xs k d ≡ slice_index_or xs k e
+same_default [] k d e within = absurd (omega (arith, within))
+same_default (x ∷ xs) zero d e within = refl
+same_default (x ∷ xs) (suc k) d e within = same_default xs k d e (omega (arith, within))
+
+pub set_back : {X : Type 0} (xs : List X) (k : ℕ) (d : X) → k < length xs → slice_set xs k (slice_index_or xs k d) ≡ xs
+set_back [] k d within = absurd (omega (arith, within))
+set_back (x ∷ xs) zero d within = refl
+set_back (x ∷ xs) (suc k) d within = ap (λ l. x ∷ l) (set_back xs k d (omega (arith, within)))
+
+pub hand_here : (outputs : List Output) (i message : ℕ) (d e : Output) → i < length outputs → i ≤ place_of message outputs
+    → (slice_index_or outputs i d).message ≡ message
+    → slice_set outputs i (handed (slice_index_or outputs i d))
+    ≡ slice_set outputs (place_of message outputs) (handed (slice_index_or outputs (place_of message outputs) e))
+hand_here outputs i message d e within below same =
+    ap (λ o. slice_set outputs i (handed o)) (same_default outputs i d e within)
+    ∙ ap (λ k. slice_set outputs k (handed (slice_index_or outputs k e))) (sym (place_here outputs i d message within below same))

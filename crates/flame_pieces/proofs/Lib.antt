@@ -4,3 +4,4 @@ mod Freeing
 mod Cutting
 mod Faults
 mod KeptParts
+mod MovedRows

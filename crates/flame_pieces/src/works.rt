@@ -1,20 +1,22 @@
 //! Pieces of functions that are open.
 
-ghost use Rattle.std.specs.Prelude.{◌≡◌, ◌+◌, ◌==◌, ℕ, List, true, false, IfOk, OnOk, Some, length, map, slice_get, option_map};
-ghost use Rattle.std.specs.List.{All, count_by, list_all};
+ghost use Rattle.std.specs.Prelude.{◌≡◌, ◌+◌, ◌≤◌, ◌++◌, ◌==◌, ℕ, List, true, false, IfOk, OnOk, Some, None, length, map, slice_get};
+ghost use Rattle.std.specs.Prelude.{option_map, slice_index_or, slice_set};
+ghost use Rattle.std.specs.List.{All, count_by, list_all, position_or_len};
 ghost use Rattle.std.specs.Option.{option_or};
-ghost use Rattle.std.specs.Vec.{vec_len};
+ghost use Rattle.std.specs.Vec.{vec_len, vec_capacity};
 ghost use Rattle.flame_spec.specs.Below.{HasNoTwice};
 ghost use Rattle.flame_world.specs.AgentRuns.{messages_of};
 ghost use Rattle.flame_events.specs.CoreStates.{has_left};
 ghost use Rattle.flame_events.specs.LegalEvents.{is_over, may_hand_in};
 ghost use Rattle.flame_events.specs.EventSteps.{fresh_work, with_sent};
-ghost use Rattle.flame_pieces.specs.RunWorks.{work_of, outputs_in, HasRoom};
+ghost use Rattle.flame_pieces.specs.RunWorks.{work_of, outputs_in, messages_in, handed, HasRoom};
 
 use flame_rows::{Bag, NoMemory, Row};
 use flame_spec::Sent;
 use flame_world::SimFault;
 use std::alloc::Global;
+use std::mem;
 
 /// An output of a piece: a message, and whether what the piece sent of it is handed in.
 #[derive(Clone, Copy, Debug)]
@@ -77,6 +79,42 @@ fn all_handed(outputs: &[Output]) -> bool
     ensures { result ≡ list_all (λ output. output.handed) outputs.now }
 {
     outputs.iter().all(|output| output.handed)
+}
+
+/// The row of a message, which has none any more.
+fn take_row(alloc: Global, one: &mut Sent) -> Row
+    ensures row { result ≡ one.old.row }
+    ensures message { one.new.message ≡ one.old.message }
+{
+    mem::replace(&mut one.row, Row::of(Vec::new(alloc)))
+}
+
+/// Moves the rows of the messages of this type behind the others, for which there is room.
+fn move_rows(alloc: Global, sent: &mut [Sent], message: u32, rows: &mut Vec<Row>)
+    requires { vec_len rows.old + length (messages_of sent.old message) ≤ vec_capacity rows.old }
+    ensures moved { rows.new.items ≡ rows.old.items ++ messages_of sent.old message }
+    ensures others { (other : ℕ) → (other ≡ message → ⊥) → messages_of sent.new other ≡ messages_of sent.old other }
+{
+    for one in sent {
+        if one.message == message {
+            rows.push_reserved(take_row(alloc, one));
+        }
+    }
+}
+
+/// The output of this message is handed in.
+fn hand(outputs: &mut [Output], message: u32)
+    ensures { outputs.new ≡ slice_set outputs.old
+        (position_or_len (λ output. output == message) (messages_in outputs.old))
+        (handed (slice_index_or outputs.old
+        (position_or_len (λ output. output == message) (messages_in outputs.old)) (record { message = 0; handed = true }))) }
+{
+    for output in outputs {
+        if output.message == message {
+            output.handed = true;
+            return;
+        }
+    }
 }
 
 impl Work {
@@ -160,6 +198,21 @@ impl Work {
             }
         }
         false
+    }
+
+    /// Hands in its messages of this type, which are an output of it: they join these rows, for which there is room.
+    pub fn hand_in(&mut self, alloc: Global, message: u32, rows: &mut Vec<Row>)
+        requires once { HasNoTwice (outputs_in self.old) }
+        requires room { vec_len rows.old + length (messages_of self.old.sent.items message) ≤ vec_capacity rows.old }
+        ensures rows { rows.new.items ≡ rows.old.items ++ messages_of self.old.sent.items message }
+        ensures work { work_of self.new ≡ record (work_of self.old) {
+          parts = slice_set (work_of self.old).parts
+              (position_or_len (λ output. output == message) (outputs_in self.old)) None;
+        } }
+        ensures outputs { outputs_in self.new ≡ outputs_in self.old }
+    {
+        move_rows(alloc, &mut self.sent, message, rows);
+        hand(&mut self.outputs, message);
     }
 
     /// Whether all of it ran, and everything is handed in.
