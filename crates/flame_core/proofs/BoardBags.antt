@@ -5,7 +5,7 @@ use Rattle.flame_rows.specs.Bags.{ascending}
 use Rattle.flame_core.specs.declared.boards.Board.{Board}
 use Rattle.flame_core.specs.declared.boards.Board.TheVariants as board
 use Rattle.flame_core.specs.RunFields.{board_bag}
-use Rattle.flame_core.proofs.Gathered.{ascending-twice}
+use Rattle.flame_progress.proofs.Gathered.{ascending-twice}
 
 pub board-in_order : (b : Board) → ascending (board_bag b) ≡ board_bag b
 board-in_order (board.Gathering gathering) = ascending-twice gathering.rows.items

@@ -1,6 +1,3 @@
-mod Gathered
-mod Joining
-mod Changed
 mod BoardBags
 mod StatePlaces
 mod LeftRows
@@ -9,3 +6,4 @@ mod TakenRuns
 mod Gets
 mod Beginnings
 mod Stepped
+mod InOrders

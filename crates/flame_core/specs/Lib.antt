@@ -1,7 +1,13 @@
 -- Each definition's comment ends with its source in brackets:
 -- libmboard: boards
 -- own: a choice of this project, or a word that a definition is made of
+-- ---- how a core is seen, and what its calls answer
+pub mod CoreCalls
+pub mod SeenCores
 -- ---- the words that only bodies and proofs use; what runners promise is said in flame_world's words
 pub mod RunFields
 pub mod TakerRuns
 pub mod RunSteps
+pub mod AgentLeavings
+pub mod RunReady
+pub mod RunShares

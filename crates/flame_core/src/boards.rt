@@ -3,10 +3,11 @@
 ghost use Rattle.std.specs.Prelude.{◌≡◌, [], ◌∷◌, IfOk, OnOk};
 ghost use Rattle.std.specs.Arc.{arc_value};
 ghost use Rattle.flame_rows.specs.Bags.{ascending, merge};
-ghost use Rattle.flame_core.specs.RunFields.{bag_of, board_bag};
+ghost use Rattle.flame_progress.specs.RunPools.{bag_of};
+ghost use Rattle.flame_core.specs.RunFields.{board_bag};
 
-use crate::gatherings::Gathering;
 use flame_index::Frozen;
+use flame_progress::Gathering;
 use flame_rows::{Bag, NoMemory, Row};
 use std::alloc::Global;
 use std::mem;

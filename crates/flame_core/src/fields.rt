@@ -6,11 +6,12 @@ ghost use Rattle.std.specs.List.{All};
 ghost use Rattle.flame_rows.specs.Bags.{ascending, merge};
 ghost use Rattle.flame_world.specs.AgentRuns.{births_of, messages_of};
 ghost use Rattle.flame_world.specs.Fields.{changed, changed_pool, joined, pool_in};
-ghost use Rattle.flame_core.specs.RunFields.{bag_of, bags_of, board_bag, pools_of};
+ghost use Rattle.flame_progress.specs.RunPools.{bag_of, bags_of, pools_of};
+ghost use Rattle.flame_core.specs.RunFields.{board_bag};
 
 use crate::boards::Board;
-use crate::gatherings::Gathering;
 use flame_index::Frozen;
+use flame_progress::Gathering;
 use flame_rows::{NoMemory, Row};
 use flame_spec::{Born, Sent};
 use std::alloc::Global;

@@ -7,17 +7,18 @@ ghost use Rattle.flame_spec.specs.ModelOrder.{model_order};
 ghost use Rattle.flame_world.specs.Fields.{changed, opening, gathered};
 ghost use Rattle.flame_world.specs.Iterations.{iteration as meant, steps};
 ghost use Rattle.flame_world.specs.WorldFits.{FitsField, FitsModel, FitTypes};
-ghost use Rattle.flame_core.specs.RunFields.{bag_of, bags_of, board_bag, field_of, pools_of};
+ghost use Rattle.flame_progress.specs.RunPools.{bag_of, bags_of, pools_of};
+ghost use Rattle.flame_core.specs.RunFields.{board_bag, field_of};
 ghost use Rattle.flame_core.specs.RunSteps.{result_of, round_of};
 
 use crate::boards::Board;
 use crate::fields::{Field, exchanged};
-use crate::gatherings::Gathering;
 use crate::rounds::Round;
 use crate::steps::{Stepped, step};
 use flame_laws::orders;
 use flame_pool::turn_over;
 use flame_program::Program;
+use flame_progress::Gathering;
 use flame_rows::{Bag, NoMemory, Row, Seq};
 use flame_spec::{AgentType, MessageType};
 use flame_world::{Boards, Turn, World};
@@ -42,7 +43,7 @@ fn begun(
 }
 
 /// The agents of each type in its start state.
-fn pools_begun(
+pub(crate) fn pools_begun(
     alloc: Global,
     program: &Program,
     agents: Seq<Bag>,
@@ -62,7 +63,7 @@ fn pools_begun(
 }
 
 /// No births of these types.
-fn no_births(alloc: Global, agents: &[AgentType]) -> Result<Vec<Gathering>, NoMemory>
+pub(crate) fn no_births(alloc: Global, agents: &[AgentType]) -> Result<Vec<Gathering>, NoMemory>
     ensures { IfOk result (λ born. bags_of born ≡ map (λ agent. []) agents.now) }
 {
     let mut born = Vec::new(alloc);
@@ -129,7 +130,7 @@ fn all_of(pools: Vec<Gathering>, born: Gathering) -> Result<Bag, NoMemory>
 }
 
 /// The agents of each type.
-fn agents_of(
+pub(crate) fn agents_of(
     alloc: Global,
     pools: Vec<Vec<Gathering>>,
     born: Vec<Gathering>,

@@ -13,17 +13,18 @@ ghost use Rattle.flame_world.specs.AgentRuns.{births_of, messages_of};
 ghost use Rattle.flame_world.specs.InputBoards.{boards_named};
 ghost use Rattle.flame_world.specs.Iterations.{step as meant, taking, staying};
 ghost use Rattle.flame_world.specs.WorldFits.{FitsField};
-ghost use Rattle.flame_core.specs.RunFields.{bags_of, board_bag, field_of, pools_of};
+ghost use Rattle.flame_progress.specs.RunPools.{bags_of, pools_of};
+ghost use Rattle.flame_core.specs.RunFields.{board_bag, field_of};
 ghost use Rattle.flame_core.specs.RunSteps.{GoesBy, HasRoute, FitsRun, result_of, round_of};
 ghost use Rattle.flame_core.specs.TakerRuns.{Leaves};
 
 use crate::fields::{Field, arrive, bear, exchange, freeze, send};
-use crate::gatherings::Gathering;
 use crate::rounds::Round;
 use crate::takers::{Left, Ran, run_named};
 use flame_index::Frozen;
 use flame_lookup::number;
 use flame_pool::{choose_here, take};
+use flame_progress::Gathering;
 use flame_route::Route;
 use flame_rows::{Bag, NoMemory, Seq};
 use flame_world::{Setting, SimFault};
@@ -40,7 +41,7 @@ pub(crate) enum Stepped {
 }
 
 /// The route of the function of this number.
-fn route_of<'a>(round: &Round<'a>, function: u32) -> &'a Route
+pub(crate) fn route_of<'a>(round: &Round<'a>, function: u32) -> &'a Route
     requires { function < function_count round.now.program.now.model }
     ensures { GoesBy round.now.program.now.model function result.now }
 {
@@ -48,7 +49,7 @@ fn route_of<'a>(round: &Round<'a>, function: u32) -> &'a Route
 }
 
 /// The functions out of the state that the function leaves which goes by this route.
-fn out_of<'a>(round: &Round<'a>, function: u32, route: &Route) -> &'a [u32]
+pub(crate) fn out_of<'a>(round: &Round<'a>, function: u32, route: &Route) -> &'a [u32]
     requires { GoesBy round.now.program.now.model function route.now }
     ensures { (place : Place) → slice_get (functions round.now.program.now.model) function ≡ Some place
         → result.now ≡ functions_out round.now.program.now.model place.agent place.function.current }

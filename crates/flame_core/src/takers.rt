@@ -74,7 +74,7 @@ impl Left {
 }
 
 /// The fault of an agent with this memory.
-fn fault_of(
+pub(crate) fn fault_of(
     setting: &Setting<'_>,
     function: u32,
     memory: &Row,

@@ -1,11 +1,11 @@
 //! How far functions are.
 
-ghost use Rattle.std.specs.Prelude.{◌≡◌, ◌<◌, ℕ, List, map, length, is_some, slice_get, option_map};
+ghost use Rattle.std.specs.Prelude.{◌≡◌, ◌<◌, ℕ, List, map, length, is_some, slice_get, option_map, IfSome};
 ghost use Rattle.flame_spec.specs.Below.{HasNoTwice};
 ghost use Rattle.flame_events.specs.CoreStates.{fault_in, fault_of, is_shut, is_waiting, works_of};
 ghost use Rattle.flame_events.specs.EventSteps.{done_with};
 ghost use Rattle.flame_events.specs.LegalEvents.{may_shut};
-ghost use Rattle.flame_pieces.specs.RunWorks.{work_of};
+ghost use Rattle.flame_pieces.specs.RunWorks.{work_of, outputs_in};
 ghost use Rattle.flame_pieces.specs.RunStatuses.{status_of, HasOutputs};
 
 use crate::works::{Work, all_over, or_else};
@@ -87,7 +87,9 @@ impl Status {
 
     /// The piece of this number, while it is open.
     pub fn work(&self, piece: u32) -> Option<&Work>
-        ensures { option_map (λ work. work_of work.now) result ≡ slice_get (works_of (status_of self.now)) piece }
+        ensures work { option_map (λ work. work_of work.now) result ≡ slice_get (works_of (status_of self.now)) piece }
+        ensures outputs { (outputs : List ℕ) → HasOutputs outputs self.now
+            → IfSome result (λ work. outputs_in work.now ≡ outputs) }
     {
         match self {
             Status::Waiting => None,

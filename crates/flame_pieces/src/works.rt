@@ -158,12 +158,12 @@ impl Work {
         Ok(())
     }
 
-    /// One agent more ran, and sent these messages, for which there is room, or faulted so.
-    pub fn add(&mut self, sent: Vec<Sent>, fault: Option<SimFault>)
+    /// So many agents more ran, and sent these messages, for which there is room; the least of them that faulted did so.
+    pub fn add(&mut self, ran: usize, sent: Vec<Sent>, fault: Option<SimFault>)
         requires room { HasRoom (vec_len sent) self.old }
-        requires left { has_left (work_of self.old) ≡ true }
+        requires left { (work_of self.old).ran + ran ≤ length (work_of self.old).agents }
         ensures work { work_of self.new ≡ record (work_of self.old) {
-          ran = (work_of self.old).ran + 1;
+          ran = (work_of self.old).ran + ran;
           parts = with_sent (outputs_in self.old) sent.items (work_of self.old).parts;
           fault = option_or (work_of self.old).fault fault;
         } }
@@ -173,7 +173,7 @@ impl Work {
         let _agents = self.agents.rows().iter();
         let mut sent = sent;
         let _room = self.sent.append(&mut sent);
-        self.ran += 1;
+        self.ran += ran;
         let earlier = self.fault.take();
         self.fault = or_else(earlier, fault);
     }

@@ -1,6 +1,6 @@
 use Rattle.flame_world.specs.Fields.{changed}
-use Rattle.flame_core.specs.RunFields.{bag_of, bags_of}
-use Rattle.flame_core.proofs.Changed.{map-written, within_list}
+use Rattle.flame_progress.specs.RunPools.{bag_of, bags_of}
+use Rattle.flame_progress.proofs.Changed.{map-written, within_list}
 use Rattle.flame_core.proofs.fields.exchange.Goals as goal
 
 pub returns-clause-put : goal.returns-clause-put

@@ -1,6 +1,6 @@
 use Rattle.std.proofs.Common.{ap}
-use Rattle.flame_core.specs.RunFields.{bag_of}
-use Rattle.flame_core.proofs.Changed.{map-written}
+use Rattle.flame_progress.specs.RunPools.{bag_of}
+use Rattle.flame_progress.proofs.Changed.{map-written}
 use Rattle.flame_core.proofs.fields.exchanged.Goals as goal
 
 pub returns-clause-put : goal.returns-clause-put

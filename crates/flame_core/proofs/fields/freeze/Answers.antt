@@ -3,7 +3,7 @@ use Rattle.std.specs.Prelude.{ℤ}
 use Rattle.std.specs.Arc.{arc_value}
 use Rattle.std.proofs.lemmas.List.{length-set, map-append, take_more}
 use Rattle.flame_core.specs.RunFields.{board_bag}
-use Rattle.flame_core.proofs.Changed.{map-written, map-at, changed-not}
+use Rattle.flame_progress.proofs.Changed.{map-written, map-at, changed-not}
 use Rattle.flame_core.proofs.fields.freeze.Goals as goal
 
 pub loop-message-preserved : goal.loop-message-preserved

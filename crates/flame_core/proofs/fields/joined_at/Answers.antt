@@ -1,6 +1,6 @@
 use Rattle.flame_rows.specs.Bags.{merge}
-use Rattle.flame_core.specs.RunFields.{bag_of}
-use Rattle.flame_core.proofs.Changed.{map-written}
+use Rattle.flame_progress.specs.RunPools.{bag_of}
+use Rattle.flame_progress.proofs.Changed.{map-written}
 use Rattle.flame_core.proofs.fields.joined_at.Goals as goal
 
 pub returns : goal.returns

@@ -7,9 +7,9 @@ use Rattle.flame_spec.specs.declared.outcomes.Sent.{Sent}
 use Rattle.flame_world.specs.AgentRuns.{messages_of}
 use Rattle.flame_world.specs.Fields.{joined}
 use Rattle.flame_core.specs.RunFields.{board_bag}
-use Rattle.flame_core.proofs.Changed.{map-written}
+use Rattle.flame_progress.proofs.Changed.{map-written}
 use Rattle.flame_core.proofs.BoardBags.{board-in_order}
-use Rattle.flame_core.proofs.Joining.{joined-message, joined-nothing}
+use Rattle.flame_progress.proofs.Joining.{joined-message, joined-nothing}
 use Rattle.flame_core.proofs.fields.send.Goals as goal
 
 none_left : {X : Type 0} (xs : List X) → length xs ≡ 0 → xs ≡ []

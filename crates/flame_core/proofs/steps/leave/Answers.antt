@@ -6,9 +6,9 @@ use Rattle.flame_spec.specs.Choice.{functions_out, leaves, takers}
 use Rattle.flame_spec.specs.Functions.{Place, functions}
 use Rattle.flame_world.specs.Fields.{changed_pool, pool_in, state_place}
 use Rattle.flame_world.specs.Iterations.{staying, taking}
-use Rattle.flame_core.specs.RunFields.{bag_of, pools_of}
+use Rattle.flame_progress.specs.RunPools.{bag_of, pools_of}
 use Rattle.flame_core.specs.RunSteps.{round_of}
-use Rattle.flame_core.proofs.Changed.{changed_pool-again, changed_pool-length, changed_pool-to}
+use Rattle.flame_progress.proofs.Changed.{changed_pool-again, changed_pool-length, changed_pool-to}
 use Rattle.flame_core.proofs.Gets.{numbers-in}
 use Rattle.flame_route.proofs.Places.{zip-length}
 use Rattle.flame_core.proofs.Stepped.{chosen-takers, one-place}

@@ -13,10 +13,11 @@ use Rattle.flame_world.specs.Iterations.{outcome_in, staying, taking}
 use Rattle.flame_world.specs.WorldFits.{AreWide}
 use Rattle.flame_core.specs.declared.takers.Ran.{Ran}
 use Rattle.flame_core.specs.declared.takers.Ran.TheVariants.{Left, Faulted}
-use Rattle.flame_core.specs.RunFields.{bag_of, board_bag, bags_of, field_of, pools_of}
+use Rattle.flame_progress.specs.RunPools.{bag_of, bags_of, pools_of}
+use Rattle.flame_core.specs.RunFields.{board_bag, field_of}
 use Rattle.flame_core.specs.RunSteps.{round_of}
 use Rattle.flame_core.specs.TakerRuns.{Leaves}
-use Rattle.flame_core.proofs.Changed.{changed_pool-length}
+use Rattle.flame_progress.proofs.Changed.{changed_pool-length}
 use Rattle.flame_core.proofs.LeftRows.{born-within, sent-within}
 use Rattle.flame_core.proofs.NamedNumbers.{numbers-within}
 use Rattle.flame_route.proofs.Places.{zip-length}

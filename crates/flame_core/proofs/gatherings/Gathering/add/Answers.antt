@@ -1,7 +1,0 @@
-use Rattle.std.proofs.Common.{ap, ◌∙◌, [], ◌∷◌}
-use Rattle.flame_rows.specs.Bags.{ascending}
-use Rattle.flame_core.proofs.Gathered.{ascending-append}
-use Rattle.flame_core.proofs.gatherings.Gathering.add.Goals as goal
-
-pub returns : goal.returns
-returns c = ap ascending c.in_ok-push.ensures.items ∙ ascending-append c.args.self.now.rows.items (c.args.row ∷ [])

@@ -1,0 +1,164 @@
+//! Shares: a piece's work that was done elsewhere.
+
+ghost use Rattle.std.specs.Prelude.{◌≡◌, ◌↔◌, ◌<◌, ◌++◌, [], ℕ, ℤ, List, true, false, IfOk, OnOk, OnErr, IsTrue, length, map};
+ghost use Rattle.std.specs.Prelude.{slice_index_or};
+ghost use Rattle.std.specs.Arc.{arc_value};
+ghost use Rattle.std.specs.List.{All, flat_map};
+ghost use Rattle.flame_world.specs.AgentRuns.{messages_of};
+ghost use Rattle.flame_world.specs.Shares.{piece_of, setting_of};
+ghost use Rattle.flame_events.specs.CoreStates.{Work as Meant, work_of};
+ghost use Rattle.flame_events.specs.AbsorbedPieces.{agent_events};
+ghost use Rattle.flame_events.specs.EventSteps.{replay};
+ghost use Rattle.flame_pieces.specs.RunWorks.{work_of as kept_work};
+ghost use Rattle.flame_progress.specs.declared.counts.Counts.{Counts as Kept};
+ghost use Rattle.flame_progress.specs.RunBoards.{board_bag, is_board_frozen};
+ghost use Rattle.flame_progress.specs.RunCores.{core_of};
+ghost use Rattle.flame_progress.specs.Tallying.{Came};
+ghost use Rattle.flame_core.specs.RunShares.{as_sent, CanTakeIn, IsFed, IsSettingOf};
+ghost use Rattle.flame_core.specs.RunReady.{Ready};
+ghost use Rattle.flame_core.specs.RunSteps.{GoesBy, round_of};
+
+use crate::rounds::Round;
+use crate::starting::same_rows;
+use crate::steps::route_of;
+use flame_index::Frozen;
+use flame_pieces::Work;
+use flame_progress::{Board, Leaving, Progress};
+use flame_route::Route;
+use flame_rows::{NoMemory, Row, Same};
+use flame_spec::Sent;
+use flame_world::{Part, Piece, Setting, Share};
+use std::alloc::Global;
+use std::sync::Arc;
+
+/// Whether these are the messages of the board, which is frozen.
+fn same_board(board: &Board, read: &Arc<Frozen>) -> bool
+    requires { is_board_frozen board.now ≡ true }
+    ensures { IsTrue result ↔ (arc_value read.now ≡ board_bag board.now) }
+{
+    match board.frozen() {
+        Some(frozen) => same_rows(read.bag().rows(), frozen.bag().rows()),
+        None => unreachable!(),
+    }
+}
+
+/// Whether these are the boards of these messages, which are frozen, in this order.
+fn same_boards(boards: &[Board], messages: &[u32], read: &[Arc<Frozen>]) -> bool
+    requires known { All (λ message. message < length boards.now) messages.now }
+    requires frozen { All (λ message. slice_index_or (map is_board_frozen boards.now) message false ≡ true) messages.now }
+    ensures { IsTrue result ↔ (map arc_value read.now
+        ≡ map (λ message. slice_index_or (map board_bag boards.now) message []) messages.now) }
+{
+    if messages.len() != read.len() {
+        return false;
+    }
+    for i in 0..messages.len() {
+        if !same_board(&boards[messages[i] as usize], &read[i]) {
+            return false;
+        }
+    }
+    true
+}
+
+/// Whether the piece has these agents, and none of them ran.
+fn is_untouched(work: &Work, piece: &Piece) -> bool
+    ensures { IsTrue result ↔ (((kept_work work.now).ran ≡ 0) × (piece.now.agents ≡ (kept_work work.now).agents)) }
+{
+    work.ran == 0 && same_rows(piece.agents.rows(), work.agents.rows())
+}
+
+/// Whether the setting is what the agents have before them of the function which goes by this route.
+fn is_setting(
+    round: &Round<'_>,
+    boards: &[Board],
+    function: u32,
+    route: &Route,
+    setting: &Setting<'_>,
+) -> bool
+    requires route { GoesBy round.now.program.now.model function route.now }
+    requires known { All (λ message. message < length boards.now) route.now.inputs }
+    requires frozen { All (λ message. slice_index_or (map is_board_frozen boards.now) message false ≡ true) route.now.inputs }
+    ensures { IsTrue result ↔ IsSettingOf round.now (map board_bag boards.now) function setting.now }
+{
+    round.program.source().same(setting.source)
+        && round.constants.same(setting.constants)
+        && round.iteration == setting.iteration
+        && round.fuel == setting.fuel
+        && same_boards(boards, route.inputs.items(), setting.boards.items())
+}
+
+/// Whether the share can be absorbed.
+pub(crate) fn can_absorb(round: &Round<'_>, progress: &Progress, share: &Share<'_>) -> bool
+    requires { (function : ℕ) → IsFed round.now.program.now.model progress.now function }
+    ensures { IsTrue result ↔ CanTakeIn round.now (core_of progress.now) share.now }
+{
+    let piece = share.piece();
+    match progress.work(piece.function, piece.number) {
+        None => false,
+        Some(work) => {
+            is_untouched(work, piece)
+                && is_setting(
+                    round,
+                    &progress.boards,
+                    piece.function,
+                    route_of(round, piece.function),
+                    share.setting(),
+                )
+        }
+    }
+}
+
+/// Adds the messages of this type.
+fn add_messages(sent: &mut Vec<Sent>, message: u32, rows: Vec<Row>) -> Result<(), NoMemory>
+    ensures { OnOk result ((other : ℕ) → messages_of sent.new.items other
+        ≡ messages_of sent.old.items other ++ messages_of (as_sent message rows.items) other) }
+{
+    for row in rows {
+        sent.push(Sent { message, row })?;
+    }
+    Ok(())
+}
+
+/// The messages of these parts, part by part.
+fn sent_in(alloc: Global, parts: Vec<Part>) -> Result<Vec<Sent>, NoMemory>
+    ensures { IfOk result (λ sent. sent.items ≡ flat_map (λ part. as_sent part.message part.rows) parts.items) }
+{
+    let mut sent = Vec::new(alloc);
+    for part in parts {
+        add_messages(&mut sent, part.message, part.rows.into_rows())?;
+    }
+    Ok(sent)
+}
+
+/// The share's piece ran, which can be absorbed.
+pub(crate) fn absorb(
+    alloc: Global,
+    round: &Round<'_>,
+    progress: &mut Progress,
+    share: Share<'_>,
+) -> Result<(), NoMemory>
+    requires can { CanTakeIn round.now (core_of progress.old) share.entry }
+    ensures ok { OnOk result ((pieces : ℕ) (counts : Kept) (work : Meant)
+        → Ready round.now pieces progress.old counts
+        → work_of (core_of progress.old) (piece_of share.entry).function (piece_of share.entry).number ≡ Some work
+        → Came round.now.program.now.model (replay (round_of round.now) pieces (core_of progress.old)
+        (agent_events (piece_of share.entry).function (piece_of share.entry).number work)) progress.new counts) }
+    ensures err { OnErr result ((pieces : ℕ) (counts : Kept)
+        → Ready round.now pieces progress.old counts
+        → Came round.now.program.now.model (core_of progress.old) progress.new counts) }
+{
+    let function = share.piece().function;
+    let piece = share.piece().number;
+    let ran = share.piece().agents.rows().len();
+    let route = route_of(round, function);
+    let (rest, parts) = share.split();
+    let leaving = Leaving {
+        ran,
+        survivors: rest.survivors.into_rows(),
+        sent: sent_in(alloc, parts.into_items())?,
+        born: rest.born.into_items(),
+        fault: rest.fault,
+    };
+    progress.settle(function, piece, route.agent, route.to, leaving)?;
+    Ok(())
+}

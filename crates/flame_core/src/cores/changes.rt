@@ -1,0 +1,111 @@
+//! How a core begins, and how it goes on.
+
+ghost use Rattle.std.specs.Prelude.{◌≡◌, ◌≤◌, IfOk, IfErr, OnOk};
+ghost use Rattle.flame_world.specs.WorldFits.{FitsModel};
+ghost use Rattle.flame_events.specs.CoreStates.{opening_core};
+ghost use Rattle.flame_core.specs.CoreCalls.{Absorbed, Happened, NotAbsorbed, Refused};
+
+use crate::absorbing::{absorb, can_absorb};
+use crate::cores::Core;
+use crate::faults::StepFault;
+use crate::happening::happen;
+use crate::rounds::Round;
+use crate::starting::{bags_copied, begun, counted};
+use flame_events::Event;
+use flame_events::laws::histories_grow;
+use flame_program::Program;
+use flame_rows::NoMemory;
+use flame_world::{Share, World};
+use std::alloc::Global;
+
+impl<'a> Core<'a> {
+    /// The core with which the iteration of this number begins in this world, which fits the model, with this fuel for each
+    /// call of a function: functions wait, boards gather. The agents of a function are cut into this many pieces at most,
+    /// which is one at least. `NoMemory` comes where none is found, and where 32 bits cannot number the parts of the model.
+    pub fn new(
+        alloc: Global,
+        program: &'a Program,
+        world: World,
+        iteration: i32,
+        fuel: u32,
+        pieces: u32,
+    ) -> Result<Core<'a>, NoMemory>
+        requires fits { FitsModel program.now.model world }
+        requires some { 1 ≤ pieces }
+        ensures { IfOk result (λ core. core ≡ record {
+          source = program.now;
+          world = world;
+          iteration = iteration;
+          fuel = fuel;
+          pieces = pieces;
+          core = opening_core program.now.model world.agents;
+        }) }
+    {
+        if !program.source().model.is_counted() {
+            return Err(NoMemory);
+        }
+        let agents = bags_copied(alloc, world.agents.items())?;
+        let progress = begun(alloc, program, agents)?;
+        let counts = counted(alloc, program)?;
+        Ok(Core {
+            program,
+            world,
+            iteration,
+            fuel,
+            pieces,
+            progress,
+            counts,
+        })
+    }
+
+    /// The event comes. `Illegal` exactly where it is not legal; nothing changes then, nor where no memory was found.
+    pub fn step(&mut self, alloc: Global, event: Event) -> Result<(), StepFault>
+        ensures ok { OnOk result (Happened event self.old self.new) }
+        ensures err { IfErr result (Refused event self.old self.new) }
+    {
+        histories_grow();
+        if !self.allows(event) {
+            return Err(StepFault::Illegal);
+        }
+        let round = Round {
+            program: self.program,
+            constants: &self.world.constants,
+            iteration: self.iteration,
+            fuel: self.fuel,
+        };
+        match happen(
+            alloc,
+            &round,
+            self.pieces,
+            &mut self.progress,
+            &mut self.counts,
+            event,
+        ) {
+            Ok(()) => Ok(()),
+            Err(NoMemory) => Err(StepFault::NoMemory),
+        }
+    }
+
+    /// The piece of the share ran: what its Agent events leave. `Illegal` exactly where the share's piece is no piece of an
+    /// open function, has other agents, has an agent that ran, or ran under another setting than that of the core and the
+    /// function; nothing changes then, nor where no memory was found.
+    pub fn absorb(&mut self, alloc: Global, share: Share<'_>) -> Result<(), StepFault>
+        ensures ok { OnOk result (Absorbed share.entry self.old self.new) }
+        ensures err { IfErr result (NotAbsorbed share.entry self.old self.new) }
+    {
+        histories_grow();
+        let round = Round {
+            program: self.program,
+            constants: &self.world.constants,
+            iteration: self.iteration,
+            fuel: self.fuel,
+        };
+        if !can_absorb(&round, &self.progress, &share) {
+            return Err(StepFault::Illegal);
+        }
+        match absorb(alloc, &round, &mut self.progress, share) {
+            Ok(()) => Ok(()),
+            Err(NoMemory) => Err(StepFault::NoMemory),
+        }
+    }
+}

@@ -1,0 +1,25 @@
+//! What a core comes to.
+
+ghost use Rattle.std.specs.Prelude.{◌≡◌, IfOk, true};
+ghost use Rattle.flame_world.specs.Iterations.{iteration as meant};
+ghost use Rattle.flame_events.specs.CoreEnds.{is_complete};
+
+use crate::cores::Core;
+use crate::ending::ended;
+use flame_events::laws::every_order;
+use flame_rows::NoMemory;
+use flame_world::Turn;
+use std::alloc::Global;
+
+impl<'a> Core<'a> {
+    /// The turn of the iteration, whatever the order in which its events came. The core is complete.
+    pub fn finish(self, alloc: Global) -> Result<Turn, NoMemory>
+        requires { is_complete self.source.model self.core ≡ true }
+        ensures { IfOk result (λ turn. turn
+            ≡ meant self.entry.source self.entry.world self.entry.iteration self.entry.fuel) }
+    {
+        every_order();
+        let _source = self.program.source();
+        ended(alloc, self.program, self.world.constants, self.progress)
+    }
+}

@@ -1,0 +1,94 @@
+//! What a core tells.
+
+ghost use Rattle.std.specs.Prelude.{◌≡◌, ◌<◌, ◌↔◌, Some, None, IfOk, IsTrue, length, option_map, slice_index_or, if◌then◌else◌};
+ghost use Rattle.flame_events.specs.CoreEnds.{is_complete, least_fault_rank};
+ghost use Rattle.flame_events.specs.CoreStates.{is_frozen, status_of, works_of};
+ghost use Rattle.flame_core.specs.CoreCalls.{allows, BeganWith, IsPieceOf};
+
+use crate::cores::Core;
+use crate::ending::{first_faulted, wanted_are_shut};
+use crate::starting::same_world;
+use flame_events::Event;
+use flame_index::Frozen;
+use flame_program::Program;
+use flame_rows::{NoMemory, Same};
+use flame_world::{Piece, World};
+
+impl<'a> Core<'a> {
+    /// Whether the event is legal. One that names no function, piece or message of this core is not.
+    pub fn allows(&self, event: Event) -> bool
+        ensures { result ≡ allows self.now event }
+    {
+        flame_progress::allows(&self.progress, &self.counts, event)
+    }
+
+    /// How many pieces the function of this number has, where it is open, else 0.
+    pub fn pieces(&self, function: u32) -> u32
+        ensures { result ≡ length (works_of (status_of self.now.core function)) }
+    {
+        self.progress.pieces(function) as u32
+    }
+
+    /// A copy of this piece of a function.
+    pub fn piece(&self, function: u32, piece: u32) -> Result<Piece, NoMemory>
+        requires { piece < length (works_of (status_of self.now.core function)) }
+        ensures { IfOk result (IsPieceOf self.now function piece) }
+    {
+        match self.progress.work(function, piece) {
+            Some(work) => Ok(Piece {
+                function,
+                number: piece,
+                agents: work.agents.copy()?,
+            }),
+            None => unreachable!(),
+        }
+    }
+
+    /// The board of this message, where it is frozen; none where it gathers, or is not there.
+    pub fn frozen(&self, message: u32) -> Option<&Frozen>
+        ensures { option_map (λ board. board.now) result ≡ (if is_frozen self.now.core message
+            then Some (slice_index_or self.now.core.field.boards message []) else None) }
+    {
+        self.progress.frozen(message)
+    }
+
+    /// The program.
+    pub fn program(&self) -> &'a Program
+        ensures { result.now ≡ self.now.source }
+    {
+        self.program
+    }
+
+    /// The least rank of a function that is faulted.
+    pub fn least_fault(&self) -> Option<u32>
+        ensures { result ≡ least_fault_rank self.now.source.model self.now.core }
+    {
+        first_faulted(self.program, &self.progress)
+    }
+
+    /// Whether it began so: with an equal program, an equal world, this iteration, this fuel and this many pieces.
+    pub fn starts_from(
+        &self,
+        program: &Program,
+        world: &World,
+        iteration: i32,
+        fuel: u32,
+        pieces: u32,
+    ) -> bool
+        ensures { IsTrue result ↔ BeganWith self.now program.now world.now iteration fuel pieces }
+    {
+        self.program.same(program)
+            && same_world(&self.world, world)
+            && self.iteration == iteration
+            && self.fuel == fuel
+            && self.pieces == pieces
+    }
+
+    /// Whether all functions are shut that are wanted: those of a rank below the least of a function that is faulted, and all
+    /// where none is.
+    pub fn complete(&self) -> bool
+        ensures { result ≡ is_complete self.now.source.model self.now.core }
+    {
+        wanted_are_shut(self.program, &self.progress)
+    }
+}

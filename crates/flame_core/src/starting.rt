@@ -1,0 +1,181 @@
+//! How a core begins.
+
+ghost use Rattle.std.specs.Prelude.{◌≡◌, ◌↔◌, [], ℕ, List, false, IfOk, IsTrue, length, map, replicate};
+ghost use Rattle.flame_spec.specs.Before.{before, function_count};
+ghost use Rattle.flame_spec.specs.Below.{is_in};
+ghost use Rattle.flame_spec.specs.Counted.{is_counted};
+ghost use Rattle.flame_world.specs.WorldFits.{FitTypes};
+ghost use Rattle.flame_events.specs.CoreStates.{opening_core};
+ghost use Rattle.flame_events.specs.LegalEvents.{inputs_of, outputs_of};
+ghost use Rattle.flame_pieces.specs.FreeThings.{Tells};
+ghost use Rattle.flame_progress.specs.RunBoards.{board_bag, is_board_frozen};
+ghost use Rattle.flame_progress.specs.RunCores.{core_of, HasOutputsAt};
+
+use crate::iterations::pools_begun;
+use flame_depend::edges;
+use flame_pieces::{Status, Waits};
+use flame_program::Program;
+use flame_progress::{Board, Counts, Progress, tell_waiters, wait_for};
+use flame_rows::{Bag, NoMemory, Row, Same, Seq};
+use flame_spec::MessageType;
+use flame_world::World;
+use std::alloc::Global;
+
+/// The same bags again.
+pub(crate) fn bags_copied(alloc: Global, bags: &[Bag]) -> Result<Seq<Bag>, NoMemory>
+    ensures { IfOk result (λ copies. copies ≡ bags.now) }
+{
+    let mut copies = Vec::new(alloc);
+    for bag in bags {
+        copies.push(bag.copy()?)?;
+    }
+    Ok(Seq::of(copies))
+}
+
+/// Whether both have the same rows in the same order.
+pub(crate) fn same_rows(ones: &[Row], twos: &[Row]) -> bool
+    ensures { IsTrue result ↔ (ones.now ≡ twos.now) }
+{
+    if ones.len() != twos.len() {
+        return false;
+    }
+    for i in 0..ones.len() {
+        if !ones[i].same(&twos[i]) {
+            return false;
+        }
+    }
+    true
+}
+
+/// Whether both are the same bags in the same order.
+fn same_bags(ones: &[Bag], twos: &[Bag]) -> bool
+    ensures { IsTrue result ↔ (ones.now ≡ twos.now) }
+{
+    if ones.len() != twos.len() {
+        return false;
+    }
+    for i in 0..ones.len() {
+        if !same_rows(ones[i].rows(), twos[i].rows()) {
+            return false;
+        }
+    }
+    true
+}
+
+/// Whether both have the same constants and the same agents.
+pub(crate) fn same_world(one: &World, two: &World) -> bool
+    ensures { IsTrue result ↔ (one.now ≡ two.now) }
+{
+    one.constants.same(&two.constants) && same_bags(one.agents.items(), two.agents.items())
+}
+
+/// So many functions that wait.
+fn all_waiting(alloc: Global, functions: usize) -> Result<Vec<Status>, NoMemory>
+    ensures statuses { IfOk result (λ statuses. statuses.items ≡ replicate functions Status.Waiting) }
+{
+    let mut statuses = Vec::new(alloc);
+    for _function in 0..functions {
+        statuses.push(Status::Waiting)?;
+    }
+    Ok(statuses)
+}
+
+/// Boards of these messages, which gather.
+fn all_gathering(alloc: Global, messages: &[MessageType]) -> Result<Vec<Board>, NoMemory>
+    ensures bags { IfOk result (λ boards. map board_bag boards.items ≡ map (λ message. []) messages.now) }
+    ensures marks { IfOk result (λ boards. map is_board_frozen boards.items ≡ map (λ message. false) messages.now) }
+{
+    let mut boards = Vec::new(alloc);
+    for _message in messages {
+        boards.push(Board::empty(alloc))?;
+    }
+    Ok(boards)
+}
+
+/// An iteration begins: functions wait, boards gather, and these agents rest in their start states.
+pub(crate) fn begun(
+    alloc: Global,
+    program: &Program,
+    agents: Seq<Bag>,
+) -> Result<Progress, NoMemory>
+    requires { FitTypes program.now.model agents }
+    ensures core { IfOk result (λ progress. core_of progress ≡ opening_core program.now.model agents) }
+    ensures outputs { IfOk result (λ progress. (function : ℕ) (outputs : List ℕ) → HasOutputsAt progress function outputs) }
+{
+    let statuses = all_waiting(alloc, program.functions())?;
+    let boards = all_gathering(alloc, program.source().model.messages.items())?;
+    let pools = pools_begun(alloc, program, agents)?;
+    Ok(Progress {
+        statuses,
+        pools,
+        born: Vec::new(alloc),
+        boards,
+    })
+}
+
+/// Functions wait for those that stand before them.
+fn functions_counted(alloc: Global, program: &Program) -> Result<Waits, NoMemory>
+    requires { IsTrue (is_counted program.now.model) }
+    ensures { IfOk result (Tells (function_count program.now.model) (function_count program.now.model)
+        (before program.now.model) (λ function. false)) }
+{
+    let count = program.functions();
+    let edges = edges(alloc, &program.source().model)?;
+    let mut waits = Waits::new(alloc, count, count)?;
+    for edge in edges.items() {
+        waits.add(edge.before, edge.after)?;
+    }
+    Ok(waits)
+}
+
+/// Functions wait for the boards of their inputs.
+fn inputs_counted(alloc: Global, program: &Program) -> Result<Waits, NoMemory>
+    requires { IsTrue (is_counted program.now.model) }
+    ensures { IfOk result (Tells (length program.now.model.messages) (function_count program.now.model)
+        (λ message function. is_in message (inputs_of program.now.model function)) (λ message. false)) }
+{
+    let messages = program.source().model.messages.len();
+    let mut waits = Waits::new(alloc, messages, program.functions())?;
+    let mut function: u32 = 0;
+    for route in program.routes().routes.items() {
+        wait_for(&mut waits, route.inputs.items(), function)?;
+        function += 1;
+    }
+    Ok(waits)
+}
+
+/// Boards wait for the functions that output their messages.
+fn outputs_counted(alloc: Global, program: &Program) -> Result<Waits, NoMemory>
+    requires { IsTrue (is_counted program.now.model) }
+    ensures { IfOk result (Tells (function_count program.now.model) (length program.now.model.messages)
+        (λ function message. is_in message (outputs_of program.now.model function)) (λ function. false)) }
+{
+    let messages = program.source().model.messages.len();
+    let mut waits = Waits::new(alloc, program.functions(), messages)?;
+    let mut function: u32 = 0;
+    for route in program.routes().routes.items() {
+        tell_waiters(&mut waits, function, route.outputs.items())?;
+        function += 1;
+    }
+    Ok(waits)
+}
+
+/// What functions and boards wait for, where nothing is done.
+pub(crate) fn counted(alloc: Global, program: &Program) -> Result<Counts, NoMemory>
+    requires { IsTrue (is_counted program.now.model) }
+    ensures functions { IfOk result (λ counts. Tells (function_count program.now.model) (function_count program.now.model)
+        (before program.now.model) (λ function. false) counts.functions) }
+    ensures inputs { IfOk result (λ counts. Tells (length program.now.model.messages) (function_count program.now.model)
+        (λ message function. is_in message (inputs_of program.now.model function)) (λ message. false) counts.inputs) }
+    ensures outputs { IfOk result (λ counts. Tells (function_count program.now.model) (length program.now.model.messages)
+        (λ function message. is_in message (outputs_of program.now.model function)) (λ function. false) counts.outputs) }
+{
+    let functions = functions_counted(alloc, program)?;
+    let inputs = inputs_counted(alloc, program)?;
+    let outputs = outputs_counted(alloc, program)?;
+    Ok(Counts {
+        functions,
+        inputs,
+        outputs,
+    })
+}

@@ -1,0 +1,10 @@
+pub mod Changed
+pub mod Gathered
+pub mod Joining
+pub mod Written
+pub mod Borne
+pub mod Kinds
+pub mod Tallied
+pub mod Cores
+pub mod Waiters
+pub mod Legal

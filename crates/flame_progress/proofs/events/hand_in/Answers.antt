@@ -1,0 +1,46 @@
+-- Messages of a piece join their board.
+use Rattle.std.proofs.Common.{◌≡◌, ◌<◌, false, length, refl, sym, ap, ◌∙◌, arith, length-set}
+use Rattle.std.specs.Prelude.{slice_set, slice_get}
+use Rattle.std.proofs.lemmas.List.{length-map}
+use Rattle.flame_rows.specs.Bags.{merge}
+use Rattle.flame_world.specs.Fields.{changed}
+use Rattle.flame_events.specs.CoreStates.{Status, Open, Core, is_shut, status_of, work_of, works_of}
+use Rattle.flame_events.specs.EventSteps.{handed_in, joined_board, with_work}
+use Rattle.flame_events.specs.LegalEvents.{outputs_of}
+use Rattle.flame_events.proofs.Sound.{opens_with}
+use Rattle.flame_pieces.specs.RunStatuses.{status_of as kept_status}
+use Rattle.flame_progress.specs.RunCores.{core_of}
+use Rattle.flame_progress.specs.RunWorkEvents.{without}
+use Rattle.flame_progress.proofs.Kinds.{may_hand_in_is}
+use Rattle.flame_progress.proofs.Tallied.{came, counted_kept, status_kept}
+use Rattle.flame_progress.proofs.events.hand_in.Goals as goal
+
+pub returns-in_err-hand_in : goal.returns-in_err-hand_in
+returns-in_err-hand_in c = λ round counts tallies.
+    let core = core_of c.args.progress.now in
+    came round.source.model c.args.progress.now c.hand_in.new.self counts counts core
+    c.in_err-hand_in.ensures.err refl refl c.in_err-hand_in.ensures.outputs tallies tallies.counted
+
+pub returns : goal.returns
+returns c = λ round pieces counts tallies legal.
+    let model = round.source.model in
+    let core = core_of c.args.progress.now in
+    let f = c.args.function in
+    let k = c.args.piece in
+    let m = c.args.message in
+    let outputs = outputs_of model f in
+    let may = may_hand_in_is outputs (work_of core f k) m legal in
+    let v : Status = Open (slice_set (works_of (status_of core f)) k (without outputs m may.one)) in
+    let less : f < length core.statuses = omega (arith, c.requires.known, length-map c.args.progress.now.statuses.items kept_status) in
+    let next : Core = record core {
+      statuses = slice_set core.statuses f v;
+      field = record core.field { boards = changed m (λ board. merge board may.rows) core.field.boards };
+    } in
+    let after_is : next ≡ handed_in f k m outputs (work_of core f k) core =
+    sym (ap (λ o. handed_in f k m outputs o core) may.there ∙ ap (λ p. joined_board f k m outputs may.one p core) may.part) in
+    let was : is_shut (status_of core f) ≡ false = ap is_shut (opens_with (status_of core f) k may.one may.there) in
+    let made = came model c.args.progress.now c.hand_in.new.self counts counts next
+    (c.in_ok-hand_in.ensures.ok outputs may.one may.rows (tallies.outputs f) may.there may.part)
+    (length-set core.statuses f v) refl c.in_ok-hand_in.ensures.outputs tallies
+    (counted_kept model core next counts (status_kept is_shut core.statuses f v less (sym was)) refl tallies.counted) in
+    record { core = made.core ∙ after_is; tallies = made.tallies }

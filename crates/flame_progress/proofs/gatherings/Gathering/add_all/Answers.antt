@@ -1,0 +1,7 @@
+use Rattle.std.proofs.Common.{ap, ◌∙◌}
+use Rattle.flame_rows.specs.Bags.{ascending}
+use Rattle.flame_progress.proofs.Gathered.{ascending-append}
+use Rattle.flame_progress.proofs.gatherings.Gathering.add_all.Goals as goal
+
+pub returns : goal.returns
+returns c = ap ascending c.in_ok-append.ensures.items ∙ ascending-append c.args.self.now.rows.items c.args.rows.items

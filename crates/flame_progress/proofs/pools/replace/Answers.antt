@@ -1,0 +1,10 @@
+use Rattle.flame_world.specs.Fields.{changed}
+use Rattle.flame_progress.specs.RunPools.{bag_of, bags_of}
+use Rattle.flame_progress.proofs.Changed.{map-written, within_list}
+use Rattle.flame_progress.proofs.pools.replace.Goals as goal
+
+pub returns : goal.returns
+returns c =
+    map-written bags_of (changed c.args.state (λ old. bag_of c.args.pool)) c.args.pools.now.items c.args.agent
+    c.index_mut.result.now _ (within_list bags_of c.args.pools.now.items c.args.agent c.args.state c.requires)
+    c.index_mut.ensures.value c.replace_in.ensures

@@ -1,0 +1,19 @@
+use Rattle.std.proofs.Common.{Some, None, sym, ap, ◌∙◌}
+use Rattle.std.specs.Prelude.{is_some}
+use Rattle.flame_events.specs.CoreStates.{Status, Waiting, fault_of}
+use Rattle.flame_pieces.specs.RunStatuses.{status_of as kept_status}
+use Rattle.flame_progress.specs.RunCores.{core_of}
+use Rattle.flame_progress.proofs.Written.{or_else_is}
+use Rattle.flame_progress.proofs.progress.Progress.is_faulted.Goals as goal
+
+pub returns-in-Some : goal.returns-in-Some
+returns-in-Some c =
+    let core = core_of c.args.self.now in
+    c.is_faulted.ensures
+    ∙ ap (λ (s : Status). is_some (fault_of s))
+    (sym (or_else_is core.statuses c.args.function Waiting (Some (kept_status c.in-Some.status.now)) c.in-Some.ensures.status))
+
+pub returns-in-None : goal.returns-in-None
+returns-in-None c =
+    let core = core_of c.args.self.now in
+    ap (λ (s : Status). is_some (fault_of s)) (sym (or_else_is core.statuses c.args.function Waiting None c.in-None.ensures.status))

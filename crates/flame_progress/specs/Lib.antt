@@ -1,0 +1,13 @@
+-- Each definition's comment ends with its source in brackets:
+-- libmboard: boards
+-- own: a choice of this project, or a word that a definition is made of
+-- ---- how an iteration is kept
+pub mod RunCores
+pub mod RunPools
+pub mod RunBoards
+-- ---- what waits for what
+pub mod RunCounts
+pub mod Tallying
+pub mod ManyWait
+-- ---- the words that only bodies and proofs use
+pub mod RunWorkEvents

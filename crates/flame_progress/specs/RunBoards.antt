@@ -1,0 +1,24 @@
+-- How boards are kept.
+use Rattle.std.specs.Prelude.{ℤ, List, Bool, true, false}
+use Rattle.std.specs.Arc.{arc_value}
+use Rattle.flame_rows.specs.Bags.{ascending}
+use Rattle.flame_progress.specs.declared.boards.Board.{Board}
+use Rattle.flame_progress.specs.declared.boards.Board.TheVariants as board
+
+-- the bag of its messages [libmboard]
+abbrev pub board_bag : Board → List (List ℤ)
+board_bag (board.Gathering rows) = ascending rows.items
+board_bag (board.Frozen frozen) = frozen
+board_bag (board.Shared frozen) = arc_value frozen
+
+-- no message comes any more [libmboard]
+abbrev pub is_board_frozen : Board → Bool
+is_board_frozen (board.Gathering rows) = false
+is_board_frozen (board.Frozen frozen) = true
+is_board_frozen (board.Shared frozen) = true
+
+-- those who read it may share it [own]
+abbrev pub is_board_shared : Board → Bool
+is_board_shared (board.Gathering rows) = false
+is_board_shared (board.Frozen frozen) = false
+is_board_shared (board.Shared frozen) = true

@@ -1,0 +1,150 @@
+//! Boards on the way from a gathering of messages to a list that is read.
+
+ghost use Rattle.std.specs.Prelude.{◌≡◌, [], true, false, Some, None, IfOk, OnOk, OnErr, option_map, if◌then◌else◌};
+ghost use Rattle.std.specs.Arc.{arc_value};
+ghost use Rattle.flame_progress.specs.RunBoards.{board_bag, is_board_frozen, is_board_shared};
+
+use flame_index::Frozen;
+use flame_rows::{Bag, NoMemory, Row};
+use std::alloc::Global;
+use std::mem;
+use std::sync::Arc;
+
+/// The board of a message (libmboard).
+#[derive(Debug, Drop)]
+pub enum Board {
+    /// Messages still come, in any order.
+    Gathering(Vec<Row>),
+    /// No message comes any more.
+    Frozen(Frozen),
+    /// The same, where those who read it may share it.
+    Shared(Arc<Frozen>),
+}
+
+/// The board, moved to where it may be shared.
+fn moved(alloc: Global, board: &mut Frozen) -> Result<Arc<Frozen>, NoMemory>
+    ensures ok { IfOk result (λ shared. arc_value shared ≡ board.old) }
+    ensures err { OnErr result (board.new ≡ board.old) }
+{
+    let mut shared = Arc::new(alloc, Frozen::of(Bag::empty(alloc)))?;
+    match Arc::get_mut(&mut shared) {
+        Some(place) => mem::swap(place, board),
+        None => return Err(NoMemory),
+    }
+    Ok(shared)
+}
+
+/// The same rows again.
+fn copied(alloc: Global, rows: &[Row]) -> Result<Vec<Row>, NoMemory>
+    ensures { IfOk result (λ copies. copies.items ≡ rows.now) }
+{
+    let mut copies = Vec::new(alloc);
+    for row in rows {
+        copies.push(row.copy()?)?;
+    }
+    Ok(copies)
+}
+
+/// The messages of a board that may be shared, given back. They are copied only where somebody still reads them.
+fn unshared(board: Arc<Frozen>) -> Result<Bag, NoMemory>
+    ensures { IfOk result (λ bag. bag ≡ arc_value board) }
+{
+    match Arc::try_unwrap(board) {
+        Ok(frozen) => Ok(frozen.into_bag()),
+        Err(board) => board.bag().copy(),
+    }
+}
+
+impl Board {
+    /// A board that gathers, without messages.
+    pub fn empty(alloc: Global) -> Board
+        ensures bag { board_bag result ≡ [] }
+        ensures gathers { is_board_frozen result ≡ false }
+    {
+        Board::Gathering(Vec::new(alloc))
+    }
+
+    /// Whether no message comes any more.
+    pub fn is_frozen(&self) -> bool
+        ensures { result ≡ is_board_frozen self.now }
+    {
+        match self {
+            Board::Gathering(_) => false,
+            Board::Frozen(_) => true,
+            Board::Shared(_) => true,
+        }
+    }
+
+    /// The messages, where no more come.
+    pub fn frozen(&self) -> Option<&Frozen>
+        ensures { option_map (λ board. board.now) result
+            ≡ (if is_board_frozen self.now then Some (board_bag self.now) else None) }
+    {
+        match self {
+            Board::Gathering(_) => None,
+            Board::Frozen(board) => Some(board),
+            Board::Shared(board) => Some(board),
+        }
+    }
+
+    /// No message comes any more: the board is put in order.
+    pub fn freeze(&mut self, alloc: Global) -> Result<(), NoMemory>
+        ensures bag { board_bag self.new ≡ board_bag self.old }
+        ensures ok { OnOk result (is_board_frozen self.new ≡ true) }
+        ensures err { OnErr result (is_board_frozen self.new ≡ is_board_frozen self.old) }
+    {
+        if let Board::Gathering(rows) = self {
+            let bag = Bag::of_rows(copied(alloc, rows)?)?;
+            *self = Board::Frozen(Frozen::of(bag));
+        }
+        Ok(())
+    }
+
+    /// Moves a board that is frozen to where it may be shared.
+    fn make_shared(&mut self, alloc: Global) -> Result<(), NoMemory>
+        requires { is_board_frozen self.old ≡ true }
+        ensures bag { board_bag self.new ≡ board_bag self.old }
+        ensures frozen { is_board_frozen self.new ≡ true }
+        ensures shared { OnOk result (is_board_shared self.new ≡ true) }
+    {
+        if let Board::Frozen(board) = self {
+            let shared = moved(alloc, board)?;
+            *self = Board::Shared(shared);
+        }
+        Ok(())
+    }
+
+    /// One who reads the board more.
+    fn reader(&self) -> Result<Arc<Frozen>, NoMemory>
+        requires { is_board_shared self.now ≡ true }
+        ensures { IfOk result (λ board. arc_value board ≡ board_bag self.now) }
+    {
+        match self {
+            Board::Gathering(_) => unreachable!(),
+            Board::Frozen(_) => unreachable!(),
+            Board::Shared(board) => Ok(Arc::try_clone(board)?),
+        }
+    }
+
+    /// The board, which is frozen, to be read.
+    pub fn share(&mut self, alloc: Global) -> Result<Arc<Frozen>, NoMemory>
+        requires { is_board_frozen self.old ≡ true }
+        ensures read { IfOk result (λ board. arc_value board ≡ board_bag self.old) }
+        ensures bag { board_bag self.new ≡ board_bag self.old }
+        ensures frozen { is_board_frozen self.new ≡ true }
+    {
+        self.make_shared(alloc)?;
+        self.reader()
+    }
+
+    /// The messages.
+    pub fn into_bag(self) -> Result<Bag, NoMemory>
+        ensures { IfOk result (λ bag. bag ≡ board_bag self) }
+    {
+        match self {
+            Board::Gathering(rows) => Bag::of_rows(rows),
+            Board::Frozen(board) => Ok(board.into_bag()),
+            Board::Shared(board) => unshared(board),
+        }
+    }
+}

@@ -1,0 +1,251 @@
+//! How far an iteration is.
+
+ghost use Rattle.std.specs.Prelude.{◌≡◌, ◌<◌, [], ℕ, ℤ, List, true, false, Some, None, OnOk, OnErr, length, map, option_map};
+ghost use Rattle.std.specs.Prelude.{is_some, IfSome, slice_get, slice_set, slice_index_or, if◌then◌else◌};
+ghost use Rattle.std.specs.Arc.{arc_value};
+ghost use Rattle.flame_rows.specs.Bags.{ascending, merge};
+ghost use Rattle.flame_spec.specs.Below.{HasNoTwice};
+ghost use Rattle.flame_world.specs.AgentRuns.{births_of};
+ghost use Rattle.flame_world.specs.Fields.{changed, changed_pool, joined, pool_in};
+ghost use Rattle.flame_events.specs.CoreStates.{Work as Meant, Open, is_waiting, is_shut, fault_of, fault_in, is_frozen, part_in};
+ghost use Rattle.flame_events.specs.CoreStates.{status_of, work_of, works_of};
+ghost use Rattle.flame_events.specs.EventSteps.{done_with, with_work};
+ghost use Rattle.flame_events.specs.LegalEvents.{may_run, may_hand_in, may_shut};
+ghost use Rattle.flame_pieces.specs.RunWorks.{work_of as kept_work, outputs_in};
+ghost use Rattle.flame_pieces.specs.RunStatuses.{status_of as kept_status, HasOutputs};
+ghost use Rattle.flame_progress.specs.RunPools.{pools_of};
+ghost use Rattle.flame_progress.specs.RunBoards.{board_bag, is_board_frozen};
+ghost use Rattle.flame_progress.specs.RunCores.{core_of, kept_at, HasOutputsAt};
+ghost use Rattle.flame_progress.specs.RunWorkEvents.{added, are_left, without, OutputsOnce};
+
+use crate::boards::Board;
+use crate::gatherings::Gathering;
+use crate::handing::hand_over_at;
+use crate::leavings::Leaving;
+use crate::pools::replace;
+use crate::settling::settle_function;
+use flame_index::Frozen;
+use flame_pieces::{Status, Work};
+use flame_rows::{Bag, NoMemory};
+use flame_spec::Born;
+use std::alloc::Global;
+use std::sync::Arc;
+
+/// How far an iteration is: how far each function is, and where agents, births and messages are.
+#[derive(Debug, Drop)]
+pub struct Progress {
+    /// How far each function is, in document order.
+    pub statuses: Vec<Status>,
+    /// For each agent type, for each of its states, the agents that rest there.
+    pub pools: Vec<Vec<Gathering>>,
+    /// All births so far, of whatever type.
+    pub born: Vec<Born>,
+    /// The board of each message.
+    pub boards: Vec<Board>,
+}
+
+impl Progress {
+    /// How far the function of this number is.
+    pub fn status(&self, function: u32) -> Option<&Status>
+        ensures kept { option_map (λ status. status.now) result ≡ slice_get self.now.statuses.items function }
+        ensures status { option_map (λ status. kept_status status.now) result ≡ slice_get (core_of self.now).statuses function }
+    {
+        self.statuses.get(function as usize)
+    }
+
+    /// The board of this number.
+    fn board(&self, message: u32) -> Option<&Board>
+        ensures bag { option_map (λ board. board_bag board.now) result ≡ slice_get (core_of self.now).field.boards message }
+        ensures frozen { option_map (λ board. is_board_frozen board.now) result ≡ slice_get (core_of self.now).frozen message }
+    {
+        self.boards.get(message as usize)
+    }
+
+    /// Whether it has not begun.
+    pub fn is_waiting(&self, function: u32) -> bool
+        ensures { result ≡ is_waiting (status_of (core_of self.now) function) }
+    {
+        match self.status(function) {
+            Some(status) => status.is_waiting(),
+            None => true,
+        }
+    }
+
+    /// Whether it is done without a fault.
+    pub fn is_shut(&self, function: u32) -> bool
+        ensures { result ≡ is_shut (status_of (core_of self.now) function) }
+    {
+        match self.status(function) {
+            Some(status) => status.is_shut(),
+            None => false,
+        }
+    }
+
+    /// Whether it is done with a fault.
+    pub fn is_faulted(&self, function: u32) -> bool
+        ensures { result ≡ is_some (fault_of (status_of (core_of self.now) function)) }
+    {
+        match self.status(function) {
+            Some(status) => status.is_faulted(),
+            None => false,
+        }
+    }
+
+    /// How many pieces it has, while it is open.
+    pub fn pieces(&self, function: u32) -> usize
+        ensures { result ≡ length (works_of (status_of (core_of self.now) function)) }
+    {
+        match self.status(function) {
+            Some(status) => status.pieces(),
+            None => 0,
+        }
+    }
+
+    /// The piece of this number, while it is open.
+    pub fn work(&self, function: u32, piece: u32) -> Option<&Work>
+        ensures work { option_map (λ work. kept_work work.now) result ≡ work_of (core_of self.now) function piece }
+        ensures outputs { (outputs : List ℕ) → HasOutputsAt self.now function outputs
+            → IfSome result (λ work. outputs_in work.now ≡ outputs) }
+    {
+        match self.status(function) {
+            Some(status) => status.work(piece),
+            None => None,
+        }
+    }
+
+    /// Whether the board of this number is frozen.
+    pub fn is_frozen(&self, message: u32) -> bool
+        ensures { result ≡ is_frozen (core_of self.now) message }
+    {
+        match self.board(message) {
+            Some(board) => board.is_frozen(),
+            None => false,
+        }
+    }
+
+    /// The messages of the board of this number, where it is frozen.
+    pub fn frozen(&self, message: u32) -> Option<&Frozen>
+        ensures { option_map (λ board. board.now) result ≡ (if is_frozen (core_of self.now) message
+            then Some (slice_index_or (core_of self.now).field.boards message []) else None) }
+    {
+        match self.board(message) {
+            Some(board) => board.frozen(),
+            None => None,
+        }
+    }
+
+    /// The function of this number is done.
+    pub fn shut(&mut self, function: u32)
+        requires { function < length self.old.statuses.items }
+        ensures core { core_of self.new ≡ record (core_of self.old) {
+          statuses = slice_set (core_of self.old).statuses function
+              (done_with (fault_in (works_of (status_of (core_of self.old) function))));
+        } }
+        ensures outputs { (other : ℕ) (outputs : List ℕ) → HasOutputsAt self.old other outputs → HasOutputsAt self.new other outputs }
+    {
+        self.statuses[function as usize].shut();
+    }
+
+    /// The board of this number is complete.
+    pub fn freeze(&mut self, alloc: Global, message: u32) -> Result<(), NoMemory>
+        requires { message < length self.old.boards.items }
+        ensures ok { OnOk result (core_of self.new
+            ≡ record (core_of self.old) { frozen = slice_set (core_of self.old).frozen message true }) }
+        ensures err { OnErr result (core_of self.new ≡ core_of self.old) }
+        ensures statuses { self.new.statuses ≡ self.old.statuses }
+    {
+        self.boards[message as usize].freeze(alloc)?;
+        Ok(())
+    }
+
+    /// The takers of the function of this number leave their state, in these pieces, and these agents stay.
+    pub fn start(&mut self, function: u32, works: Vec<Work>, agent: u32, state: u32, staying: Bag)
+        requires known { function < length self.old.statuses.items }
+        requires there { state < length (slice_index_or (core_of self.old).field.pools agent []) }
+        ensures { core_of self.new ≡ record (core_of self.old) {
+          statuses = slice_set (core_of self.old).statuses function (Open (map kept_work works.items));
+          field = record (core_of self.old).field {
+            pools = changed_pool agent state (λ old. staying) (core_of self.old).field.pools;
+          };
+        } }
+        ensures statuses { self.new.statuses.items ≡ slice_set self.old.statuses.items function (Status.Open works) }
+    {
+        replace(&mut self.pools, agent, state, Gathering::of(staying));
+        self.statuses[function as usize] = Status::Open(works);
+    }
+
+    /// The next agents of a piece of a function ran: those that live on arrive in this state of this type.
+    pub fn settle(
+        &mut self,
+        function: u32,
+        piece: u32,
+        agent: u32,
+        state: u32,
+        leaving: Leaving,
+    ) -> Result<(), NoMemory>
+        requires left { are_left leaving.ran (work_of (core_of self.old) function piece) ≡ true }
+        requires known { function < length self.old.statuses.items }
+        requires there { state < length (slice_index_or (core_of self.old).field.pools agent []) }
+        ensures ok { OnOk result ((outputs : List ℕ) (work : Meant)
+            → HasOutputsAt self.old function outputs
+            → work_of (core_of self.old) function piece ≡ Some work
+            → core_of self.new ≡ record (core_of self.old) {
+              statuses = with_work (core_of self.old) function piece
+                  (added outputs leaving work);
+              field = record (core_of self.old).field {
+                pools = changed_pool agent state (λ pool. merge pool (ascending leaving.survivors.items))
+                    (core_of self.old).field.pools;
+                born = joined (births_of leaving.born.items) (core_of self.old).field.born;
+              };
+            }) }
+        ensures outputs { (other : ℕ) (outputs : List ℕ) → HasOutputsAt self.old other outputs → HasOutputsAt self.new other outputs }
+        ensures err { OnErr result (core_of self.new ≡ core_of self.old) }
+    {
+        settle_function(
+            &mut self.statuses[function as usize],
+            piece,
+            &mut self.pools,
+            agent,
+            state,
+            &mut self.born,
+            leaving,
+        )?;
+        Ok(())
+    }
+
+    /// A piece of a function hands in its messages of this type, whose board gathers.
+    pub fn hand_in(
+        &mut self,
+        alloc: Global,
+        function: u32,
+        piece: u32,
+        message: u32,
+    ) -> Result<(), NoMemory>
+        requires known { function < length self.old.statuses.items }
+        requires there { piece < length (works_of (status_of (core_of self.old) function)) }
+        requires board { message < length self.old.boards.items }
+        requires gathers { is_frozen (core_of self.old) message ≡ false }
+        requires once { OutputsOnce (kept_at self.old function) }
+        ensures ok { OnOk result ((outputs : List ℕ) (work : Meant) (rows : List (List ℤ))
+            → HasOutputsAt self.old function outputs
+            → work_of (core_of self.old) function piece ≡ Some work
+            → part_in outputs work.parts message ≡ Some rows
+            → core_of self.new ≡ record (core_of self.old) {
+              statuses = with_work (core_of self.old) function piece (without outputs message work);
+              field = record (core_of self.old).field {
+                boards = changed message (λ board. merge board rows) (core_of self.old).field.boards;
+              };
+            }) }
+        ensures outputs { (other : ℕ) (outputs : List ℕ) → HasOutputsAt self.old other outputs → HasOutputsAt self.new other outputs }
+        ensures err { OnErr result (core_of self.new ≡ core_of self.old) }
+    {
+        hand_over_at(
+            alloc,
+            &mut self.statuses[function as usize],
+            piece,
+            message,
+            &mut self.boards,
+        )?;
+        Ok(())
+    }
+}
