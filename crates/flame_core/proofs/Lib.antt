@@ -7,3 +7,6 @@ mod Gets
 mod Beginnings
 mod Stepped
 mod InOrders
+mod Openings
+mod OutputsOnce
+mod Comings

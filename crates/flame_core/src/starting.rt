@@ -47,6 +47,13 @@ pub(crate) fn same_rows(ones: &[Row], twos: &[Row]) -> bool
     true
 }
 
+/// Whether both are the same bag.
+fn same_bag(one: &Bag, two: &Bag) -> bool
+    ensures { IsTrue result ↔ (one.now ≡ two.now) }
+{
+    same_rows(one.rows(), two.rows())
+}
+
 /// Whether both are the same bags in the same order.
 fn same_bags(ones: &[Bag], twos: &[Bag]) -> bool
     ensures { IsTrue result ↔ (ones.now ≡ twos.now) }
@@ -55,7 +62,7 @@ fn same_bags(ones: &[Bag], twos: &[Bag]) -> bool
         return false;
     }
     for i in 0..ones.len() {
-        if !same_rows(ones[i].rows(), twos[i].rows()) {
+        if !same_bag(&ones[i], &twos[i]) {
             return false;
         }
     }

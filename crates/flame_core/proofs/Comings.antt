@@ -1,0 +1,179 @@
+-- What events that run agents leave, put together from what the body makes.
+use Rattle.std.proofs.Common.{◌≡◌, ℕ, ◌+◌, ◌<◌, ◌≤◌, true, List, [], ◌∷◌, ◌++◌, length, map, Option, Some, None, refl, sym, ap, ◌∙◌, subst, append-nil}
+use Rattle.std.specs.Prelude.{ℤ, ◌&&◌, slice_get, slice_set, IsTrue}
+use Rattle.std.specs.Option.{option_or}
+use Rattle.std.specs.List.{cons_option}
+use Rattle.std.proofs.lemmas.Bool.{and_from}
+use Rattle.flame_rows.specs.Bags.{ascending, merge}
+use Rattle.flame_spec.specs.declared.models.Model.{Model}
+use Rattle.flame_spec.specs.declared.outcomes.Outcome.{Outcome}
+use Rattle.flame_spec.specs.declared.outcomes.Source.{Source}
+use Rattle.flame_spec.specs.Accepted.{IsAccepted}
+use Rattle.flame_spec.specs.Choice.{takers}
+use Rattle.flame_spec.specs.Functions.{Place, functions}
+use Rattle.flame_world.specs.declared.worlds.World.{World}
+use Rattle.flame_world.specs.AgentRuns.{born_by, born_from, births_of, fault_by, kept, sent_by, survivors}
+use Rattle.flame_world.specs.Fields.{changed_pool, joined, pool_in, state_place}
+use Rattle.flame_world.specs.Iterations.{Round, iteration, outcome_in, staying}
+use Rattle.flame_world.specs.Meaning.{outputs_at}
+use Rattle.flame_events.specs.declared.events.Event.{Event}
+use Rattle.flame_events.specs.declared.events.Event.TheVariants as event
+use Rattle.flame_events.specs.Cuts.{cut}
+use Rattle.flame_events.specs.CoreEnds.{ending, is_complete}
+use Rattle.flame_events.specs.CoreFits.{FitsCore}
+use Rattle.flame_events.specs.CoreStates.{Work, Open, Core, status_of, work_of}
+use Rattle.flame_events.specs.EventSteps.{after, arrived, fresh_work, opened, ran_agent, ran_next, replay, with_agent, with_sent, with_work}
+use Rattle.flame_events.specs.EveryOrder.{EveryOrderIsTheIteration}
+use Rattle.flame_events.specs.Histories.{Leads}
+use Rattle.flame_events.specs.LegalEvents.{is_legal, outputs_of}
+use Rattle.flame_events.proofs.CoreWidths.{fitting_cores_open}
+use Rattle.flame_events.proofs.Growing.{histories_fit, histories_grow}
+use Rattle.flame_route.proofs.Places.{zip-length}
+use Rattle.flame_progress.specs.declared.counts.Counts.{Counts}
+use Rattle.flame_progress.specs.declared.leavings.Leaving.{Leaving}
+use Rattle.flame_progress.specs.declared.progress.Progress.{Progress}
+use Rattle.flame_progress.specs.RunCores.{core_of}
+use Rattle.flame_progress.specs.RunWorkEvents.{added}
+use Rattle.flame_progress.specs.Tallying.{Came, Tallies}
+use Rattle.flame_progress.proofs.Changed.{changed_pool-to}
+use Rattle.flame_core.specs.AgentLeavings.{IsLeft}
+use Rattle.flame_core.specs.RunReady.{Stands}
+use Rattle.flame_core.specs.SeenCores.{Seen, IsReached, round_in, start_in, when_came}
+
+-- ---- a function is opened
+
+pub open_is : (round : Round) (pieces f : ℕ) (place : Place) (core : Core) (works : List Work) (agent from : ℕ) (stay pool : List (List ℤ))
+    → slice_get (functions round.source.model) f ≡ Some place
+    → agent ≡ place.agent
+    → from ≡ state_place place.type place.function.current
+    → pool ≡ pool_in core.field.pools place.agent (state_place place.type place.function.current)
+    → works ≡ map (fresh_work (outputs_at (Some place) round.source.model))
+    (cut pieces (takers round.source.model place.agent place.function.current f round.iteration pool))
+    → stay ≡ staying round f place pool
+    → (let next : Core = record core {
+      statuses = slice_set core.statuses f (Open works);
+      field = record core.field { pools = changed_pool agent from (λ old. stay) core.field.pools };
+    } in next)
+    ≡ after round pieces core (event.Open f)
+open_is round pieces f place core works agent from stay pool at agent_is from_is pool_is works_is stay_is =
+    let model = round.source.model in
+    let outputs : outputs_at (Some place) model ≡ outputs_of model f = ap (λ o. outputs_at o model) (sym at) in
+    let all = works_is
+    ∙ (λ i. map (fresh_work (outputs i)) (cut pieces (takers model place.agent place.function.current f round.iteration (pool_is i)))) in
+    let pools = (λ i. changed_pool (agent_is i) (from_is i) (λ old. (stay_is ∙ ap (staying round f place) pool_is) i) core.field.pools)
+    ∙ changed_pool-to place.agent (state_place place.type place.function.current) (staying round f place) core.field.pools in
+    let next : Core = opened round pieces f (Some place) core in
+    let is : (let made : Core = record core {
+      statuses = slice_set core.statuses f (Open works);
+      field = record core.field { pools = changed_pool agent from (λ old. stay) core.field.pools };
+    } in made) ≡ next =
+    λ i. record {
+      statuses = slice_set core.statuses f (Open (all i));
+      field = record { pools = pools i; born = core.field.born; boards = core.field.boards };
+      frozen = core.frozen;
+    } in
+    is ∙ sym (ap (λ o. opened round pieces f o core) at)
+
+-- ---- an agent runs
+
+pub agent_is : (round : Round) (pieces f k : ℕ) (place : Place) (core : Core) (work : Work) (memory : List ℤ) (leaving : Leaving) (agent to : ℕ)
+    → slice_get (functions round.source.model) f ≡ Some place
+    → work_of core f k ≡ Some work
+    → slice_get work.agents work.ran ≡ Some memory
+    → agent ≡ place.agent
+    → to ≡ state_place place.type place.function.next
+    → IsLeft round.iteration f memory (outcome_in round f core.field memory) leaving
+    → (let next : Core = record core {
+      statuses = with_work core f k (added (outputs_of round.source.model f) leaving work);
+      field = record core.field {
+        pools = changed_pool agent to (λ pool. merge pool (ascending leaving.survivors.items)) core.field.pools;
+        born = joined (births_of leaving.born.items) core.field.born;
+      };
+    } in next)
+    ≡ after round pieces core (event.Agent f k)
+agent_is round pieces f k place core work memory leaving agent to at there next agent_same to_same left =
+    let outcome = outcome_in round f core.field memory in
+    let outputs = outputs_of round.source.model f in
+    let ran : added outputs leaving work ≡ with_agent round f work memory outcome =
+    λ i. record {
+      agents = work.agents;
+      ran = work.ran + left.one i;
+      parts = with_sent outputs (left.sent_are i) work.parts;
+      fault = option_or work.fault (left.fault_is i);
+    } in
+    let pools = λ i. changed_pool (agent_same i) (to_same i) (λ pool. merge pool (ascending (left.survivors_are i))) core.field.pools in
+    let born : joined (births_of leaving.born.items) core.field.born ≡ joined (births_of (born_by outcome ++ [])) core.field.born =
+    ap (λ l. joined (births_of l) core.field.born) (left.born_are ∙ sym (append-nil (born_by outcome))) in
+    let is : (let made : Core = record core {
+      statuses = with_work core f k (added outputs leaving work);
+      field = record core.field {
+        pools = changed_pool agent to (λ pool. merge pool (ascending leaving.survivors.items)) core.field.pools;
+        born = joined (births_of leaving.born.items) core.field.born;
+      };
+    } in made) ≡ ran_agent round f k place work (Some memory) core =
+    λ i. record {
+      statuses = with_work core f k (ran i);
+      field = record { pools = pools i; born = born i; boards = core.field.boards };
+      frozen = core.frozen;
+    } in
+    is
+    ∙ sym (ap (λ o. ran_next round f k o (work_of core f k) core) at
+    ∙ ap (λ o. ran_next round f k (Some place) o core) there
+    ∙ ap (λ o. ran_agent round f k place work o core) next)
+
+-- ---- what is kept stands
+
+pub reached_fits : (seen : Seen) → IsReached seen → FitsCore seen.source.model seen.core
+reached_fits seen reached =
+    histories_fit (round_in seen) seen.pieces (start_in seen) seen.core reached.events reached.some
+    (fitting_cores_open seen.source.model seen.world reached.fits) reached.leads
+
+-- a core to which events led, and further ones
+pub reached_on : (seen : Seen) (events : List Event) (core : Core) → IsReached seen → Leads (round_in seen) seen.pieces seen.core events core
+    → IsReached (record seen { core = core })
+reached_on seen events core reached leads = record {
+  fits = reached.fits;
+  some = reached.some;
+  events = reached.events ++ events;
+  leads = histories_grow (round_in seen) seen.pieces (start_in seen) seen.core core reached.events events reached.leads leads;
+}
+
+-- these events came, each legal when it did
+pub stands_on : (seen : Seen) (earlier progress : Progress) (counted counts : Counts) (events : List Event) (core : Core)
+    → Stands seen earlier counted → Leads (round_in seen) seen.pieces seen.core events core → Came seen.source.model core progress counts
+    → Stands (record seen { core = core_of progress }) progress counts
+stands_on seen earlier progress counted counts events core stands leads came = record {
+  reached =
+      subst (λ (k : Core). IsReached (record seen { core = k })) (sym came.core)
+      (reached_on seen events core stands.reached leads);
+  numbered = stands.numbered;
+  tallies = came.tallies;
+}
+
+pub one_leads : (round : Round) (pieces : ℕ) (core : Core) (e : Event) → is_legal round.source.model core e ≡ true
+    → Leads round pieces core (e ∷ []) (after round pieces core e)
+one_leads round pieces core e legal = record { legal = and_from (is_legal round.source.model core e) true legal refl; left = refl }
+
+-- nothing came
+pub stands_still : (seen : Seen) (earlier progress : Progress) (counted counts : Counts)
+    → Stands seen earlier counted → Came seen.source.model seen.core progress counts
+    → Stands (record seen { core = core_of progress }) progress counts
+stands_still seen earlier progress counted counts stands came = record {
+  reached = subst (λ (k : Core). IsReached (record seen { core = k })) (sym came.core) stands.reached;
+  numbered = stands.numbered;
+  tallies = came.tallies;
+}
+
+-- ---- what a core comes to
+
+pub ends_so : EveryOrderIsTheIteration → (seen : Seen) → IsAccepted seen.source → IsReached seen
+    → is_complete seen.source.model seen.core ≡ true
+    → ending (round_in seen) seen.core ≡ iteration seen.source seen.world seen.iteration seen.fuel
+ends_so every seen accepted reached complete =
+    let round = round_in seen in
+    let start = start_in seen in
+    let left = reached.leads.left in
+    let many = sym (zip-length _ seen.source.model.agents seen.world.agents reached.fits.agents) in
+    ap (ending round) left
+    ∙ (every seen.source seen.world seen.iteration seen.fuel seen.pieces reached.events accepted many reached.some reached.leads.legal).0
+    (ap (is_complete seen.source.model) (sym left) ∙ complete)
