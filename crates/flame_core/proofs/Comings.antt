@@ -1,9 +1,10 @@
 -- What events that run agents leave, put together from what the body makes.
-use Rattle.std.proofs.Common.{◌≡◌, ℕ, ◌+◌, ◌<◌, ◌≤◌, true, List, [], ◌∷◌, ◌++◌, length, map, Option, Some, None, refl, sym, ap, ◌∙◌, subst, append-nil}
-use Rattle.std.specs.Prelude.{ℤ, ◌&&◌, slice_get, slice_set, IsTrue}
+use Rattle.std.proofs.Common.{◌≡◌, ℕ, ◌+◌, ◌<◌, ◌≤◌, true, false, Vec, ⊎_elim, get_or-set_same, get_or-set_other, List, [], ◌∷◌, ◌++◌, length, map, Option, Some, None, refl, sym, ap, ◌∙◌, subst, append-nil}
+use Rattle.std.specs.Global.{Global}
+use Rattle.std.specs.Prelude.{ℤ, ◌&&◌, slice_get, slice_index_or, slice_set, IsTrue}
 use Rattle.std.specs.Option.{option_or}
-use Rattle.std.specs.List.{cons_option}
-use Rattle.std.proofs.lemmas.Bool.{and_from}
+use Rattle.std.specs.List.{All, cons_option}
+use Rattle.std.proofs.lemmas.Bool.{and_from, cases_eq}
 use Rattle.flame_rows.specs.Bags.{ascending, merge}
 use Rattle.flame_spec.specs.declared.models.Model.{Model}
 use Rattle.flame_spec.specs.declared.outcomes.Outcome.{Outcome}
@@ -21,7 +22,7 @@ use Rattle.flame_events.specs.declared.events.Event.TheVariants as event
 use Rattle.flame_events.specs.Cuts.{cut}
 use Rattle.flame_events.specs.CoreEnds.{ending, is_complete}
 use Rattle.flame_events.specs.CoreFits.{FitsCore}
-use Rattle.flame_events.specs.CoreStates.{Work, Open, Core, status_of, work_of}
+use Rattle.flame_events.specs.CoreStates.{Work, Status, Waiting, Open, Shut, Faulted, is_shut, is_waiting, Core, status_of, work_of}
 use Rattle.flame_events.specs.EventSteps.{after, arrived, fresh_work, opened, ran_agent, ran_next, replay, with_agent, with_sent, with_work}
 use Rattle.flame_events.specs.EveryOrder.{EveryOrderIsTheIteration}
 use Rattle.flame_events.specs.Histories.{Leads}
@@ -29,13 +30,20 @@ use Rattle.flame_events.specs.LegalEvents.{is_legal, outputs_of}
 use Rattle.flame_events.proofs.CoreWidths.{fitting_cores_open}
 use Rattle.flame_events.proofs.Growing.{histories_fit, histories_grow}
 use Rattle.flame_route.proofs.Places.{zip-length}
+use Rattle.flame_pieces.specs.declared.works.Work as run
+use Rattle.flame_pieces.specs.declared.statuses.Status as kept
+use Rattle.flame_pieces.specs.declared.statuses.Status.TheVariants as is
+use Rattle.flame_pieces.specs.RunWorks.{outputs_in}
+use Rattle.flame_pieces.specs.RunStatuses.{HasOutputs}
 use Rattle.flame_progress.specs.declared.counts.Counts.{Counts}
 use Rattle.flame_progress.specs.declared.leavings.Leaving.{Leaving}
 use Rattle.flame_progress.specs.declared.progress.Progress.{Progress}
 use Rattle.flame_progress.specs.RunCores.{core_of}
+use Rattle.flame_progress.specs.RunCounts.{Counted}
 use Rattle.flame_progress.specs.RunWorkEvents.{added}
 use Rattle.flame_progress.specs.Tallying.{Came, Tallies}
 use Rattle.flame_progress.proofs.Changed.{changed_pool-to}
+use Rattle.flame_progress.proofs.Tallied.{counted_kept, status_kept}
 use Rattle.flame_core.specs.AgentLeavings.{IsLeft}
 use Rattle.flame_core.specs.RunReady.{Stands}
 use Rattle.flame_core.specs.SeenCores.{Seen, IsReached, round_in, start_in, when_came}
@@ -63,7 +71,7 @@ open_is round pieces f place core works agent from stay pool at agent_is from_is
     let pools = (λ i. changed_pool (agent_is i) (from_is i) (λ old. (stay_is ∙ ap (staying round f place) pool_is) i) core.field.pools)
     ∙ changed_pool-to place.agent (state_place place.type place.function.current) (staying round f place) core.field.pools in
     let next : Core = opened round pieces f (Some place) core in
-    let is : (let made : Core = record core {
+    let made_is : (let made : Core = record core {
       statuses = slice_set core.statuses f (Open works);
       field = record core.field { pools = changed_pool agent from (λ old. stay) core.field.pools };
     } in made) ≡ next =
@@ -72,7 +80,7 @@ open_is round pieces f place core works agent from stay pool at agent_is from_is
       field = record { pools = pools i; born = core.field.born; boards = core.field.boards };
       frozen = core.frozen;
     } in
-    is ∙ sym (ap (λ o. opened round pieces f o core) at)
+    made_is ∙ sym (ap (λ o. opened round pieces f o core) at)
 
 -- ---- an agent runs
 
@@ -104,7 +112,7 @@ agent_is round pieces f k place core work memory leaving agent to at there next 
     let pools = λ i. changed_pool (agent_same i) (to_same i) (λ pool. merge pool (ascending (left.survivors_are i))) core.field.pools in
     let born : joined (births_of leaving.born.items) core.field.born ≡ joined (births_of (born_by outcome ++ [])) core.field.born =
     ap (λ l. joined (births_of l) core.field.born) (left.born_are ∙ sym (append-nil (born_by outcome))) in
-    let is : (let made : Core = record core {
+    let made_is : (let made : Core = record core {
       statuses = with_work core f k (added outputs leaving work);
       field = record core.field {
         pools = changed_pool agent to (λ pool. merge pool (ascending leaving.survivors.items)) core.field.pools;
@@ -116,7 +124,7 @@ agent_is round pieces f k place core work memory leaving agent to at there next 
       field = record { pools = pools i; born = born i; boards = core.field.boards };
       frozen = core.frozen;
     } in
-    is
+    made_is
     ∙ sym (ap (λ o. ran_next round f k o (work_of core f k) core) at
     ∙ ap (λ o. ran_next round f k (Some place) o core) there
     ∙ ap (λ o. ran_agent round f k place work o core) next)
@@ -177,3 +185,37 @@ ends_so every seen accepted reached complete =
     ap (ending round) left
     ∙ (every seen.source seen.world seen.iteration seen.fuel seen.pieces reached.events accepted many reached.some reached.leads.legal).0
     (ap (is_complete seen.source.model) (sym left) ∙ complete)
+
+-- ---- what is kept when a function is opened
+
+pub opened_has : (statuses : List kept.Status) (f : ℕ) (works : Vec run.Work Global) (outputs : ℕ → List ℕ) → f < length statuses
+    → All (λ work. outputs_in work ≡ outputs f) works.items
+    → ((g : ℕ) → HasOutputs (outputs g) (slice_index_or statuses g is.Waiting))
+    → (g : ℕ) → HasOutputs (outputs g) (slice_index_or (slice_set statuses f (is.Open works)) g is.Waiting)
+opened_has statuses f works outputs less all has g = ⊎_elim
+    (λ (here : g ≡ f).
+    subst (λ k. HasOutputs (outputs k) (slice_index_or (slice_set statuses f (is.Open works)) k is.Waiting)) (sym here)
+    (let P : kept.Status → Type 0 = λ s. HasOutputs (outputs f) s in
+    subst P (sym (get_or-set_same statuses f (is.Open works) is.Waiting less)) all))
+    (λ (apart : g ≡ f → ⊥).
+    let P : kept.Status → Type 0 = λ s. HasOutputs (outputs g) s in
+    subst P (sym (get_or-set_other statuses f g (is.Open works) is.Waiting apart)) (has g))
+    (cases_eq g f)
+
+-- nothing is done by it
+pub opened_counted : (model : Model) (core next : Core) (counts : Counts) (f : ℕ) (works : List Work)
+    → f < length core.statuses → is_waiting (status_of core f) ≡ true
+    → next.statuses ≡ slice_set core.statuses f (Open works) → next.frozen ≡ core.frozen
+    → Counted model core counts → Counted model next counts
+opened_counted model core next counts f works less waits put marks counted =
+    counted_kept model core next counts
+    (λ g.
+    ap (λ l. is_shut (slice_index_or l g Waiting)) put
+    ∙ status_kept is_shut core.statuses f (Open works) less (sym (not_shut (status_of core f) waits)) g)
+    marks counted
+  where
+    not_shut : (status : Status) → is_waiting status ≡ true → is_shut status ≡ false
+    not_shut Waiting waits = refl
+    not_shut (Open works) waits = refl
+    not_shut Shut waits = sym waits
+    not_shut (Faulted fault) waits = refl

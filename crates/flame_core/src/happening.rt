@@ -48,7 +48,7 @@ fn open_function(
     ensures err { OnErr result (Came round.now.program.now.model (core_of progress.old) progress.new counts.now) }
 {
     let route = route_of(round, function);
-    let pool = progress.pools[route.agent as usize][route.from as usize].copied()?;
+    let pool = progress.pool(route.agent, route.from).copied()?;
     let (takers, staying) = part(alloc, round, function, route, pool)?;
     let works = works_of(alloc, route.outputs.items(), cut(alloc, takers, pieces)?)?;
     progress.start(function, works, route.agent, route.from, staying);

@@ -115,11 +115,11 @@ mark_set marks m less k = ⊎_elim
 
 -- ---- what came is told of
 
-pub came : (model : Model) (old new : Progress) (earlier counts : Counts) (next : Core)
+pub came_as : (model : Model) (old new : Progress) (earlier counts : Counts) (next : Core)
     → core_of new ≡ next → length next.statuses ≡ length (core_of old).statuses → length next.frozen ≡ length (core_of old).frozen
-    → ((f : ℕ) (outputs : List ℕ) → HasOutputsAt old f outputs → HasOutputsAt new f outputs)
+    → ((f : ℕ) → HasOutputsAt new f (outputs_of model f))
     → Tallies model old earlier → Counted model next counts → Came model next new counts
-came model old new earlier counts next is long marks outputs tallies counted = record {
+came_as model old new earlier counts next is long marks outputs tallies counted = record {
   core = is;
   tallies = record {
     functions =
@@ -128,8 +128,15 @@ came model old new earlier counts next is long marks outputs tallies counted = r
     messages =
         sym (length-map new.boards.items is_board_frozen) ∙ ap (λ (c : Core). length c.frozen) is ∙ marks
         ∙ length-map old.boards.items is_board_frozen ∙ tallies.messages;
-    outputs = λ f. outputs f (outputs_of model f) (tallies.outputs f);
+    outputs = outputs;
     once = tallies.once;
     counted = subst (λ (c : Core). Counted model c counts) (sym is) counted;
   };
 }
+
+pub came : (model : Model) (old new : Progress) (earlier counts : Counts) (next : Core)
+    → core_of new ≡ next → length next.statuses ≡ length (core_of old).statuses → length next.frozen ≡ length (core_of old).frozen
+    → ((f : ℕ) → HasOutputsAt old f (outputs_of model f) → HasOutputsAt new f (outputs_of model f))
+    → Tallies model old earlier → Counted model next counts → Came model next new counts
+came model old new earlier counts next is long marks outputs tallies counted =
+    came_as model old new earlier counts next is long marks (λ f. outputs f (tallies.outputs f)) tallies counted

@@ -2,9 +2,7 @@
 
 ghost use Rattle.std.specs.Prelude.{◌≡◌, ◌<◌, [], ℕ, ℤ, List, true, false, Some, None, OnOk, OnErr, length, map, option_map};
 ghost use Rattle.std.specs.Prelude.{is_some, IfSome, slice_get, slice_set, slice_index_or, if◌then◌else◌};
-ghost use Rattle.std.specs.Arc.{arc_value};
 ghost use Rattle.flame_rows.specs.Bags.{ascending, merge};
-ghost use Rattle.flame_spec.specs.Below.{HasNoTwice};
 ghost use Rattle.flame_world.specs.AgentRuns.{births_of};
 ghost use Rattle.flame_world.specs.Fields.{changed, changed_pool, joined, pool_in};
 ghost use Rattle.flame_events.specs.CoreStates.{Work as Meant, Open, is_waiting, is_shut, fault_of, fault_in, is_frozen, part_in};
@@ -13,7 +11,7 @@ ghost use Rattle.flame_events.specs.EventSteps.{done_with, with_work};
 ghost use Rattle.flame_events.specs.LegalEvents.{may_run, may_hand_in, may_shut};
 ghost use Rattle.flame_pieces.specs.RunWorks.{work_of as kept_work, outputs_in};
 ghost use Rattle.flame_pieces.specs.RunStatuses.{status_of as kept_status, HasOutputs};
-ghost use Rattle.flame_progress.specs.RunPools.{pools_of};
+ghost use Rattle.flame_progress.specs.RunPools.{bag_of};
 ghost use Rattle.flame_progress.specs.RunBoards.{board_bag, is_board_frozen};
 ghost use Rattle.flame_progress.specs.RunCores.{core_of, kept_at, HasOutputsAt};
 ghost use Rattle.flame_progress.specs.RunWorkEvents.{added, are_left, without, OutputsOnce};
@@ -22,14 +20,13 @@ use crate::boards::Board;
 use crate::gatherings::Gathering;
 use crate::handing::hand_over_at;
 use crate::leavings::Leaving;
-use crate::pools::replace;
+use crate::pools::{pool_of, replace};
 use crate::settling::settle_function;
 use flame_index::Frozen;
 use flame_pieces::{Status, Work};
 use flame_rows::{Bag, NoMemory};
 use flame_spec::Born;
 use std::alloc::Global;
-use std::sync::Arc;
 
 /// How far an iteration is: how far each function is, and where agents, births and messages are.
 #[derive(Debug, Drop)]
@@ -134,6 +131,14 @@ impl Progress {
         }
     }
 
+    /// The agents that rest in this state of this type.
+    pub fn pool(&self, agent: u32, state: u32) -> &Gathering
+        requires { state < length (slice_index_or (core_of self.now).field.pools agent []) }
+        ensures { bag_of result.now ≡ pool_in (core_of self.now).field.pools agent state }
+    {
+        pool_of(&self.pools, agent, state)
+    }
+
     /// The function of this number is done.
     pub fn shut(&mut self, function: u32)
         requires { function < length self.old.statuses.items }
@@ -152,7 +157,7 @@ impl Progress {
         ensures ok { OnOk result (core_of self.new
             ≡ record (core_of self.old) { frozen = slice_set (core_of self.old).frozen message true }) }
         ensures err { OnErr result (core_of self.new ≡ core_of self.old) }
-        ensures statuses { self.new.statuses ≡ self.old.statuses }
+        ensures statuses { self.new.statuses.items ≡ self.old.statuses.items }
     {
         self.boards[message as usize].freeze(alloc)?;
         Ok(())

@@ -3,6 +3,7 @@ use Rattle.std.proofs.Common.{◌≡◌, ◌<◌, List, true, length, refl, sym,
 use Rattle.std.specs.Prelude.{ℕ, slice_set, slice_index_or}
 use Rattle.std.proofs.lemmas.List.{length-map}
 use Rattle.flame_events.specs.CoreStates.{Core}
+use Rattle.flame_events.specs.LegalEvents.{outputs_of}
 use Rattle.flame_pieces.specs.declared.statuses.Status.{Status}
 use Rattle.flame_pieces.specs.declared.statuses.Status.TheVariants.{Waiting}
 use Rattle.flame_pieces.specs.RunStatuses.{HasOutputs}
@@ -23,7 +24,8 @@ pub returns-in_err-freeze : goal.returns-in_err-freeze
 returns-in_err-freeze c = λ round tallies.
     let core = core_of c.args.progress.now in
     came round.source.model c.args.progress.now c.freeze.new.self c.args.counts.now c.args.counts.now core
-    c.in_err-freeze.ensures.err refl refl (same_outputs c.args.progress.now c.freeze.new.self c.in_err-freeze.ensures.statuses)
+    c.in_err-freeze.ensures.err refl refl
+    (λ g has. same_outputs c.args.progress.now c.freeze.new.self c.in_err-freeze.ensures.statuses g (outputs_of round.source.model g) has)
     tallies tallies.counted
 
 pub returns : goal.returns
@@ -35,7 +37,8 @@ returns c = λ round pieces tallies legal.
     let next : Core = record core { frozen = slice_set core.frozen m true } in
     let P : Counts → Type 0 = λ counts. Counted model next counts in
     came model c.args.progress.now c.freeze.new.self c.args.counts.now c.freeze-2.new.self next c.in_ok-freeze.ensures.ok
-    refl (length-set core.frozen m true) (same_outputs c.args.progress.now c.freeze.new.self c.in_ok-freeze.ensures.statuses) tallies
+    refl (length-set core.frozen m true)
+    (λ g has. same_outputs c.args.progress.now c.freeze.new.self c.in_ok-freeze.ensures.statuses g (outputs_of model g) has) tallies
     (subst P (sym c.freeze-2.ensures)
     (counted_frozen model core next c.args.counts.now m (omega (arith, c.requires.known, tallies.messages))
     (mark_set core.frozen m less) refl tallies.counted))

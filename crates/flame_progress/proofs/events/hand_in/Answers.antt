@@ -19,7 +19,8 @@ pub returns-in_err-hand_in : goal.returns-in_err-hand_in
 returns-in_err-hand_in c = λ round counts tallies.
     let core = core_of c.args.progress.now in
     came round.source.model c.args.progress.now c.hand_in.new.self counts counts core
-    c.in_err-hand_in.ensures.err refl refl c.in_err-hand_in.ensures.outputs tallies tallies.counted
+    c.in_err-hand_in.ensures.err refl refl
+    (λ g has. c.in_err-hand_in.ensures.outputs g (outputs_of round.source.model g) has) tallies tallies.counted
 
 pub returns : goal.returns
 returns c = λ round pieces counts tallies legal.
@@ -41,6 +42,7 @@ returns c = λ round pieces counts tallies legal.
     let was : is_shut (status_of core f) ≡ false = ap is_shut (opens_with (status_of core f) k may.one may.there) in
     let made = came model c.args.progress.now c.hand_in.new.self counts counts next
     (c.in_ok-hand_in.ensures.ok outputs may.one may.rows (tallies.outputs f) may.there may.part)
-    (length-set core.statuses f v) refl c.in_ok-hand_in.ensures.outputs tallies
+    (length-set core.statuses f v) refl
+    (λ g has. c.in_ok-hand_in.ensures.outputs g (outputs_of model g) has) tallies
     (counted_kept model core next counts (status_kept is_shut core.statuses f v less (sym was)) refl tallies.counted) in
     record { core = made.core ∙ after_is; tallies = made.tallies }

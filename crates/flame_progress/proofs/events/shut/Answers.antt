@@ -26,7 +26,7 @@ returns-then-not-is_shut c = λ round pieces tallies legal.
     ∙ ap (λ (k : Core). is_shut (status_of k f)) (sym c.shut.ensures.core) ∙ sym c.if-not-is_shut.ensures in
     let was : is_shut (status_of core f) ≡ false = ap is_shut (may_shut_is (outputs_of model f) (status_of core f) legal) in
     came model c.args.progress.now c.shut.new.self c.args.counts.now c.args.counts.now next c.shut.ensures.core
-    (length-set core.statuses f v) refl c.shut.ensures.outputs tallies
+    (length-set core.statuses f v) refl (λ g has. c.shut.ensures.outputs g (outputs_of model g) has) tallies
     (counted_kept model core next c.args.counts.now (status_kept is_shut core.statuses f v less (now ∙ sym was)) refl tallies.counted)
 
 pub returns : goal.returns
@@ -42,7 +42,7 @@ returns c = λ round pieces tallies legal.
     ∙ ap (λ (k : Core). is_shut (status_of k f)) (sym c.shut.ensures.core) ∙ sym c.if-not-is_shut.ensures in
     let P : Counts → Type 0 = λ counts. Counted model next counts in
     came model c.args.progress.now c.shut.new.self c.args.counts.now c.shut-2.new.self next c.shut.ensures.core
-    (length-set core.statuses f v) refl c.shut.ensures.outputs tallies
+    (length-set core.statuses f v) refl (λ g has. c.shut.ensures.outputs g (outputs_of model g) has) tallies
     (subst P (sym c.shut-2.ensures)
     (counted_shut model core next c.args.counts.now f (omega (arith, c.requires.known, tallies.functions))
     (status_shut core.statuses f v less now) refl tallies.counted))
