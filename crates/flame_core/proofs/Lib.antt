@@ -10,3 +10,4 @@ mod InOrders
 mod Openings
 mod OutputsOnce
 mod Comings
+mod Ranks

@@ -11,3 +11,4 @@ pub mod RunSteps
 pub mod AgentLeavings
 pub mod RunReady
 pub mod RunShares
+pub mod RunStarts

@@ -8,6 +8,7 @@ ghost use Rattle.flame_world.specs.WorldFits.{FitTypes};
 ghost use Rattle.flame_events.specs.CoreStates.{opening_core};
 ghost use Rattle.flame_events.specs.LegalEvents.{inputs_of, outputs_of};
 ghost use Rattle.flame_pieces.specs.FreeThings.{Tells};
+ghost use Rattle.flame_core.specs.RunStarts.{SameStart};
 ghost use Rattle.flame_progress.specs.RunBoards.{board_bag, is_board_frozen};
 ghost use Rattle.flame_progress.specs.RunCores.{core_of, HasOutputsAt};
 
@@ -70,10 +71,33 @@ fn same_bags(ones: &[Bag], twos: &[Bag]) -> bool
 }
 
 /// Whether both have the same constants and the same agents.
-pub(crate) fn same_world(one: &World, two: &World) -> bool
+fn same_world(one: &World, two: &World) -> bool
     ensures { IsTrue result ↔ (one.now ≡ two.now) }
 {
     one.constants.same(&two.constants) && same_bags(one.agents.items(), two.agents.items())
+}
+
+/// With what an iteration begins.
+#[derive(Clone, Copy)]
+pub(crate) struct Start<'a> {
+    pub program: &'a Program,
+    pub world: &'a World,
+    pub iteration: i32,
+    pub fuel: u32,
+    pub pieces: u32,
+}
+
+impl Start<'_> {
+    /// Whether both are equal, programs being equal where their sources are.
+    pub(crate) fn same(&self, other: &Start<'_>) -> bool
+        ensures { IsTrue result ↔ SameStart self.now other.now }
+    {
+        self.program.same(other.program)
+            && same_world(self.world, other.world)
+            && self.iteration == other.iteration
+            && self.fuel == other.fuel
+            && self.pieces == other.pieces
+    }
 }
 
 /// So many functions that wait.

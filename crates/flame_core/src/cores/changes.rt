@@ -104,8 +104,9 @@ impl<'a> Core<'a> {
             return Err(StepFault::Illegal);
         }
         match absorb(alloc, &round, &mut self.progress, share) {
-            Ok(()) => Ok(()),
-            Err(NoMemory) => Err(StepFault::NoMemory),
+            Ok(()) => {}
+            Err(_) => return Err(StepFault::NoMemory),
         }
+        Ok(())
     }
 }

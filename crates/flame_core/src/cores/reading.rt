@@ -7,11 +7,11 @@ ghost use Rattle.flame_core.specs.CoreCalls.{allows, BeganWith, IsPieceOf};
 
 use crate::cores::Core;
 use crate::ending::{first_faulted, wanted_are_shut};
-use crate::starting::same_world;
+use crate::starting::Start;
 use flame_events::Event;
 use flame_index::Frozen;
 use flame_program::Program;
-use flame_rows::{NoMemory, Same};
+use flame_rows::NoMemory;
 use flame_world::{Piece, World};
 
 impl<'a> Core<'a> {
@@ -26,6 +26,8 @@ impl<'a> Core<'a> {
     pub fn pieces(&self, function: u32) -> u32
         ensures { result ≡ length (works_of (status_of self.now.core function)) }
     {
+        // No function has more pieces than this.
+        let _most = self.pieces;
         self.progress.pieces(function) as u32
     }
 
@@ -77,11 +79,20 @@ impl<'a> Core<'a> {
     ) -> bool
         ensures { IsTrue result ↔ BeganWith self.now program.now world.now iteration fuel pieces }
     {
-        self.program.same(program)
-            && same_world(&self.world, world)
-            && self.iteration == iteration
-            && self.fuel == fuel
-            && self.pieces == pieces
+        let own = Start {
+            program: self.program,
+            world: &self.world,
+            iteration: self.iteration,
+            fuel: self.fuel,
+            pieces: self.pieces,
+        };
+        own.same(&Start {
+            program,
+            world,
+            iteration,
+            fuel,
+            pieces,
+        })
     }
 
     /// Whether all functions are shut that are wanted: those of a rank below the least of a function that is faulted, and all

@@ -14,5 +14,5 @@ all_lookup P xs i (Some x) is all = subst P (sym is.1) (all i x.now is.3.0)
 pub returns-in-Open-clause-outputs : goal.returns-in-Open-clause-outputs
 returns-in-Open-clause-outputs c = λ outputs has.
     let P : Status → Type 0 = λ s. HasOutputs outputs s in
-    all_lookup (λ work. outputs_in work ≡ outputs) c.in-Open.works.now.items c.args.piece c.get.result c.get.ensures
+    all_lookup (λ work. outputs_in work ≡ outputs) c.in-Open.works.items c.args.piece c.get.result c.get.ensures
     (subst P c.in-Open.is has)

@@ -1,0 +1,31 @@
+-- Functions one after another in model order, up to the first that is faulted.
+use Rattle.std.proofs.Common.{◌≡◌, ℕ, zero, suc, ◌+◌, ◌<◌, ◌≤◌, Bool, true, false, cond, List, [], ◌∷◌, ◌++◌, length, drop, get_or, Option, Some, None, refl, sym, ap, ◌∙◌, arith, length-append}
+use Rattle.std.specs.Prelude.{not, ◌&&◌}
+use Rattle.flame_spec.specs.ModelOrder.{next, order, order_after, with_next}
+use Rattle.flame_events.specs.CoreStates.{Core, is_shut, status_of}
+use Rattle.flame_events.specs.CoreEnds.{is_faulted, unfaulted}
+use Rattle.flame_events.specs.LegalEvents.{are_shut}
+use Rattle.flame_events.proofs.Ends.{unfaulted-cons}
+
+-- model order has no more functions than there are
+order_after-few : (more n : ℕ) (before : ℕ → ℕ → Bool) (taken : List ℕ) → length (order_after more n before taken) ≤ more + length taken
+order_after-few zero n before taken = omega arith
+order_after-few (suc more) n before taken = go (next n before taken)
+  where
+    go : (o : Option ℕ) → length (with_next o taken (order_after more n before)) ≤ suc more + length taken
+    go None = omega arith
+    go (Some g) = omega (arith, order_after-few more n before (taken ++ g ∷ []), length-append taken (g ∷ []))
+
+pub order_few : (n : ℕ) (before : ℕ → ℕ → Bool) → length (order n before) ≤ n
+order_few n before = omega (arith, order_after-few n n before [])
+
+-- ---- are all shut that are wanted
+
+pub wanted_next : (core : Core) (f : ℕ) (fs : List ℕ) → is_faulted core f ≡ false
+    → are_shut core (unfaulted core (f ∷ fs)) ≡ (is_shut (status_of core f) && are_shut core (unfaulted core fs))
+wanted_next core f fs sound =
+    ap (are_shut core) (unfaulted-cons core f fs ∙ ap (λ b. cond (not b) (f ∷ unfaulted core fs) []) sound)
+
+pub wanted_ends : (core : Core) (f : ℕ) (fs : List ℕ) → is_faulted core f ≡ true → are_shut core (unfaulted core (f ∷ fs)) ≡ true
+wanted_ends core f fs faulted =
+    ap (are_shut core) (unfaulted-cons core f fs ∙ ap (λ b. cond (not b) (f ∷ unfaulted core fs) []) faulted)
