@@ -11,3 +11,4 @@ mod Openings
 mod OutputsOnce
 mod Comings
 mod Ranks
+mod Past

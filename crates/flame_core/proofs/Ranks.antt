@@ -1,6 +1,8 @@
 -- Functions one after another in model order, up to the first that is faulted.
 use Rattle.std.proofs.Common.{◌≡◌, ℕ, zero, suc, ◌+◌, ◌<◌, ◌≤◌, Bool, true, false, cond, List, [], ◌∷◌, ◌++◌, length, drop, get_or, Option, Some, None, refl, sym, ap, ◌∙◌, arith, length-append}
-use Rattle.std.specs.Prelude.{not, ◌&&◌}
+use Rattle.std.specs.Prelude.{not, ◌&&◌, nat_lt, position}
+use Rattle.std.proofs.lemmas.Bool.{le-ltb, lt-ltb}
+use Rattle.std.proofs.lemmas.List.Sums.{position_or_len_is}
 use Rattle.flame_spec.specs.ModelOrder.{next, order, order_after, with_next}
 use Rattle.flame_events.specs.CoreStates.{Core, is_shut, status_of}
 use Rattle.flame_events.specs.CoreEnds.{is_faulted, unfaulted}
@@ -29,3 +31,17 @@ wanted_next core f fs sound =
 pub wanted_ends : (core : Core) (f : ℕ) (fs : List ℕ) → is_faulted core f ≡ true → are_shut core (unfaulted core (f ∷ fs)) ≡ true
 wanted_ends core f fs faulted =
     ap (are_shut core) (unfaulted-cons core f fs ∙ ap (λ b. cond (not b) (f ∷ unfaulted core fs) []) faulted)
+
+-- ---- the first that is faulted
+
+pub found_rank : (test : ℕ → Bool) (items : List ℕ) (i : ℕ) → i < length items → ((k : ℕ) → k < i → test (get_or items k 0) ≡ false)
+    → test (get_or items i 0) ≡ true → position test items ≡ Some i
+found_rank test items i less earlier here =
+    let is = position_or_len_is test items i 0 (omega (arith, less)) earlier (λ within. here) in
+    (λ j. cond (nat_lt (is j) (length items)) (Some (is j)) None) ∙ ap (λ b. cond b (Some i) None) (lt-ltb i (length items) less)
+
+pub none_ranked : (test : ℕ → Bool) (items : List ℕ) → ((k : ℕ) → k < length items → test (get_or items k 0) ≡ false) → position test items ≡ None
+none_ranked test items all =
+    let is = position_or_len_is test items (length items) 0 (omega arith) all (λ over. absurd (omega (arith, over))) in
+    (λ j. cond (nat_lt (is j) (length items)) (Some (is j)) None)
+    ∙ ap (λ b. cond b (Some (length items)) None) (le-ltb (length items) (length items) (omega arith))

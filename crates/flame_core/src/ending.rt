@@ -1,23 +1,24 @@
 //! What an iteration comes to.
 
-ghost use Rattle.std.specs.Prelude.{◌≡◌, ◌<◌, ◌^◌, None, IfOk, length, map};
-ghost use Rattle.std.specs.List.{All};
+ghost use Rattle.std.specs.Prelude.{◌≡◌, ◌<◌, ◌^◌, [], ◌∷◌, IfOk, OnOk, length, map};
 ghost use Rattle.flame_spec.specs.ModelOrder.{model_order};
 ghost use Rattle.flame_world.specs.Iterations.{turn_of, unless_faulted};
-ghost use Rattle.flame_world.specs.Fields.{gathered};
+ghost use Rattle.flame_rows.specs.Bags.{merge};
+ghost use Rattle.flame_world.specs.AgentRuns.{births_of};
+ghost use Rattle.flame_world.specs.Fields.{changed, gathered, joined};
 ghost use Rattle.flame_events.specs.CoreEnds.{first_fault, is_complete, least_fault_rank};
 ghost use Rattle.flame_events.specs.CoreStates.{fault_of};
 ghost use Rattle.flame_pieces.specs.RunStatuses.{status_of};
 ghost use Rattle.flame_progress.specs.RunBoards.{board_bag};
 ghost use Rattle.flame_progress.specs.RunCores.{core_of};
+ghost use Rattle.flame_progress.specs.RunPools.{bags_of};
 
-use crate::fields::bear;
 use crate::iterations::{agents_of, no_births};
 use flame_pieces::Status;
 use flame_program::Program;
-use flame_progress::{Board, Progress};
+use flame_progress::{Board, Gathering, Progress};
 use flame_rows::{Bag, NoMemory, Row, Seq};
-use flame_spec::AgentType;
+use flame_spec::{AgentType, Born};
 use flame_world::{Boards, SimFault, Turn, World};
 use std::alloc::Global;
 use std::mem;
@@ -68,6 +69,7 @@ fn taken_fault(status: &mut Status) -> Option<SimFault>
 fn taken_first(progress: &mut Progress, functions: &[u32]) -> Option<SimFault>
     ensures fault { result ≡ first_fault (core_of progress.old) functions.now }
     ensures field { (core_of progress.new).field ≡ (core_of progress.old).field }
+    ensures pools { length progress.new.pools.items ≡ length progress.old.pools.items }
 {
     for function in functions {
         if progress.is_faulted(*function) {
@@ -88,6 +90,29 @@ fn bags_of_boards(alloc: Global, boards: Vec<Board>) -> Result<Vec<Bag>, NoMemor
     Ok(bags)
 }
 
+/// Sets a birth aside; one of no type is none.
+fn bear_one(born: &mut Vec<Gathering>, birth: Born) -> Result<(), NoMemory>
+    ensures { OnOk result (bags_of born.new
+        ≡ changed birth.agent (λ bag. merge bag (birth.row ∷ [])) (bags_of born.old)) }
+{
+    if birth.agent as usize >= born.len() {
+        return Ok(());
+    }
+    born[birth.agent as usize].add(birth.row)?;
+    Ok(())
+}
+
+/// The births of each of these types.
+fn borne(alloc: Global, agents: &[AgentType], births: Vec<Born>) -> Result<Vec<Gathering>, NoMemory>
+    ensures { IfOk result (λ born. bags_of born ≡ joined (births_of births.items) (map (λ agent. []) agents.now)) }
+{
+    let mut born = no_births(alloc, agents)?;
+    for birth in births {
+        bear_one(&mut born, birth)?;
+    }
+    Ok(born)
+}
+
 /// An iteration ends without a fault: survivors and births are the agents of the world.
 fn closed(
     alloc: Global,
@@ -95,8 +120,7 @@ fn closed(
     constants: Row,
     progress: Progress,
 ) -> Result<(World, Boards), NoMemory>
-    requires types { length agents.now ≡ length progress.pools.items }
-    requires births { All (λ birth. birth.agent < length agents.now) progress.born.items }
+    requires { length agents.now ≡ length progress.pools.items }
     ensures world { IfOk result (λ end. end.0.agents ≡ gathered (core_of progress).field) }
     ensures constants { IfOk result (λ end. end.0.constants ≡ constants) }
     ensures boards { IfOk result (λ end. end.1.boards ≡ (core_of progress).field.boards) }
@@ -107,11 +131,10 @@ fn closed(
         boards,
         ..
     } = progress;
-    let mut bags = no_births(alloc, agents)?;
-    bear(&mut bags, born)?;
+    let born = borne(alloc, agents, born)?;
     let world = World {
         constants,
-        agents: Seq::of(agents_of(alloc, pools, bags)?),
+        agents: Seq::of(agents_of(alloc, pools, born)?),
     };
     let boards = Boards {
         boards: Seq::of(bags_of_boards(alloc, boards)?),
@@ -126,8 +149,7 @@ pub(crate) fn ended(
     constants: Row,
     progress: Progress,
 ) -> Result<Turn, NoMemory>
-    requires types { length program.now.model.agents ≡ length progress.pools.items }
-    requires births { All (λ birth. birth.agent < length program.now.model.agents) progress.born.items }
+    requires { length program.now.model.agents ≡ length progress.pools.items }
     ensures { IfOk result (λ turn. turn ≡ turn_of constants
         (unless_faulted (first_fault (core_of progress) (model_order program.now.model)) (core_of progress).field)) }
 {
@@ -135,12 +157,8 @@ pub(crate) fn ended(
     match taken_first(&mut progress, program.plan().order.items()) {
         Some(fault) => Ok(Turn::Faulted(fault)),
         None => {
-            let (world, boards) = closed(
-                alloc,
-                program.source().model.agents.items(),
-                constants,
-                progress,
-            )?;
+            let agents = program.source().model.agents.items();
+            let (world, boards) = closed(alloc, agents, constants, progress)?;
             Ok(Turn::Done(world, boards))
         }
     }
