@@ -12,3 +12,5 @@ mod OutputsOnce
 mod Comings
 mod Ranks
 mod Past
+mod Finished
+mod Faulting

@@ -32,6 +32,12 @@ none_has zero f outputs = tt
 none_has (suc n) zero outputs = tt
 none_has (suc n) (suc f) outputs = none_has n f outputs
 
+pub same_for_all : {X Y Z : Type 0} (z : Z) (xs : List X) (ys : List Y) → length xs ≡ length ys → map (λ x. z) xs ≡ map (λ y. z) ys
+same_for_all z [] [] long = refl
+same_for_all z [] (y ∷ ys) long = absurd (omega (arith, long))
+same_for_all z (x ∷ xs) [] long = absurd (omega (arith, long))
+same_for_all z (x ∷ xs) (y ∷ ys) long = λ i. z ∷ same_for_all z xs ys (omega (arith, long)) i
+
 pub zip_long : {X Y Z : Type 0} (R : X → Y → Type 0) (f : X × Y → Z) (xs : List X) (ys : List Y) → AllZip R xs ys → length (map f (zip xs ys)) ≡ length xs
 zip_long R f [] [] all = refl
 zip_long R f [] (y ∷ ys) all = refl
