@@ -14,3 +14,4 @@ mod Ranks
 mod Past
 mod Finished
 mod Faulting
+mod Counting

@@ -12,12 +12,18 @@ use Rattle.flame_spec.specs.Functions.{Place, functions}
 use Rattle.flame_spec.proofs.FirstBelow.{is_in-all_below}
 use Rattle.flame_depend.specs.declared.pairs.Edge.{Edge}
 use Rattle.flame_depend.specs.Edges.{edge, edges_below, edges_of, edges_to}
+use Rattle.flame_world.specs.Meaning.{outputs_at}
 use Rattle.flame_events.specs.CoreStates.{Status, Waiting}
+use Rattle.flame_events.specs.LegalEvents.{inputs_of, outputs_of}
+use Rattle.flame_events.proofs.Spots.{get_below, get_there, output_named}
 use Rattle.flame_pieces.specs.FreeThings.{Tells}
 use Rattle.flame_pieces.specs.Waiting as waits
 use Rattle.flame_pieces.specs.declared.statuses.Status as kept
 use Rattle.flame_pieces.specs.declared.statuses.Status.TheVariants as is
 use Rattle.flame_pieces.specs.RunStatuses.{status_of, HasOutputs}
+use Rattle.flame_progress.specs.ManyWait.{waited_for_by, waiting_for}
+use Rattle.flame_progress.proofs.Legal.{all_in, inputs_below}
+use Rattle.flame_progress.proofs.Waiters.{waiters_told, waiting_is_told}
 
 -- ---- statuses, pools and births
 
@@ -31,12 +37,6 @@ pub none_has : (n f : ℕ) (outputs : List ℕ) → HasOutputs outputs (slice_in
 none_has zero f outputs = tt
 none_has (suc n) zero outputs = tt
 none_has (suc n) (suc f) outputs = none_has n f outputs
-
-pub same_for_all : {X Y Z : Type 0} (z : Z) (xs : List X) (ys : List Y) → length xs ≡ length ys → map (λ x. z) xs ≡ map (λ y. z) ys
-same_for_all z [] [] long = refl
-same_for_all z [] (y ∷ ys) long = absurd (omega (arith, long))
-same_for_all z (x ∷ xs) [] long = absurd (omega (arith, long))
-same_for_all z (x ∷ xs) (y ∷ ys) long = λ i. z ∷ same_for_all z xs ys (omega (arith, long)) i
 
 pub zip_long : {X Y Z : Type 0} (R : X → Y → Type 0) (f : X × Y → Z) (xs : List X) (ys : List Y) → AllZip R xs ys → length (map f (zip xs ys)) ≡ length xs
 zip_long R f [] [] all = refl
@@ -204,3 +204,45 @@ all_found {X} f (x ∷ xs) (n ∷ numbers) is =
     let here : f x ≡ Some n = cc in
     let rest : map f xs ≡ map Some numbers = cc in
     ap (λ o. cons_option o (filter_map f xs)) here ∙ (λ i. n ∷ all_found f xs numbers rest i)
+
+-- what is told of the functions so far, and of the next one, which waits for these
+pub inputs_told : (model : Model) (k : ℕ) (own : List ℕ) (waiting : waits.Waiting) → k < function_count model → own ≡ inputs_of model k
+    → Tells (length model.messages) (function_count model) (λ m f. nat_lt f k && is_in m (inputs_of model f)) (λ m. false) waiting
+    → Tells (length model.messages) (function_count model) (λ m f. nat_lt f (k + 1) && is_in m (inputs_of model f)) (λ m. false) (waiting_for k own waiting)
+inputs_told model k own waiting less is tells =
+    tells_as (length model.messages) (function_count model)
+    (λ m f. (nat_lt f k && is_in m (inputs_of model f)) || (is_in m own && (f == k)))
+    (λ m f. nat_lt f (k + 1) && is_in m (inputs_of model f)) (λ m. false) (waiting_for k own waiting)
+    (λ m f within. told_more k f (λ g. is_in m (inputs_of model g)) (is_in m own) (ap (is_in m) (sym is)))
+    (waiting_is_told (length model.messages) (function_count model) (λ m f. nat_lt f k && is_in m (inputs_of model f)) (λ m. false) k own waiting
+    (subst (All (λ m. m < length model.messages)) (sym is) (inputs_below model k less)) tells)
+
+pub outputs_told : (model : Model) (k : ℕ) (own : List ℕ) (waiting : waits.Waiting) → k < function_count model → own ≡ outputs_of model k
+    → Tells (function_count model) (length model.messages) (λ f m. nat_lt f k && is_in m (outputs_of model f)) (λ f. false) waiting
+    → Tells (function_count model) (length model.messages) (λ f m. nat_lt f (k + 1) && is_in m (outputs_of model f)) (λ f. false) (waited_for_by k own waiting)
+outputs_told model k own waiting less is tells =
+    tells_as (function_count model) (length model.messages)
+    (λ f m. (nat_lt f k && is_in m (outputs_of model f)) || ((f == k) && is_in m own))
+    (λ f m. nat_lt f (k + 1) && is_in m (outputs_of model f)) (λ f. false) (waited_for_by k own waiting)
+    (λ f m within.
+    ap (λ b. (nat_lt f k && is_in m (outputs_of model f)) || b) (turned (f == k) (is_in m own))
+    ∙ told_more k f (λ g. is_in m (outputs_of model g)) (is_in m own) (ap (is_in m) (sym is)))
+    (waiters_told (function_count model) (length model.messages) (λ f m. nat_lt f k && is_in m (outputs_of model f)) (λ f. false) k own waiting less tells)
+  where
+    turned : (a b : Bool) → (a && b) ≡ (b && a)
+    turned true true = refl
+    turned true false = refl
+    turned false true = refl
+    turned false false = refl
+
+-- all functions are told of
+pub all_told : (n f : ℕ) (b : Bool) → f < n → (nat_lt f n && b) ≡ b
+all_told n f b less = ap (λ t. t && b) (lt-ltb f n less)
+
+pub outputs_below : (model : Model) (f : ℕ) → f < function_count model → All (λ m. m < length model.messages) (outputs_of model f)
+outputs_below model f less =
+    let place = get_there (functions model) f less in
+    all_in (λ m. m < length model.messages) (outputs_of model f)
+    (λ m among.
+    let output = output_named model place.0 m (sym (ap (λ o. is_in m (outputs_at o model)) place.1) ∙ among) in
+    get_below model.messages m output.named.message output.named.there)

@@ -54,7 +54,7 @@ outputs_at statuses f old outputs less at has = subst (HasOutputs outputs) (sym 
 
 -- ---- births
 
-same_for_all : {X Y Z : Type 0} (z : Z) (xs : List X) (ys : List Y) → length xs ≡ length ys → map (λ x. z) xs ≡ map (λ y. z) ys
+pub same_for_all : {X Y Z : Type 0} (z : Z) (xs : List X) (ys : List Y) → length xs ≡ length ys → map (λ x. z) xs ≡ map (λ y. z) ys
 same_for_all z [] [] long = refl
 same_for_all z [] (y ∷ ys) long = absurd (omega (arith, long))
 same_for_all z (x ∷ xs) [] long = absurd (omega (arith, long))

@@ -5,7 +5,7 @@ use Rattle.flame_rows.specs.Bags.{merge}
 use Rattle.flame_world.specs.AgentRuns.{births_of}
 use Rattle.flame_world.specs.Fields.{joined}
 use Rattle.flame_progress.specs.RunPools.{pools_of}
-use Rattle.flame_core.proofs.Openings.{same_for_all}
+use Rattle.flame_progress.proofs.Cores.{same_for_all}
 use Rattle.flame_core.proofs.ending.closed.Goals as goal
 
 pub returns-clause-world : goal.returns-clause-world

@@ -14,7 +14,8 @@ use Rattle.flame_pieces.specs.declared.statuses.Status.TheVariants as is
 use Rattle.flame_pieces.specs.RunStatuses.{status_of, HasOutputs}
 use Rattle.flame_progress.specs.RunPools.{bags_of, pools_of}
 use Rattle.flame_progress.proofs.Joining.{joined-nothing}
-use Rattle.flame_core.proofs.Openings.{all_wait, none_has, same_for_all, zip_long}
+use Rattle.flame_core.proofs.Openings.{all_wait, none_has, zip_long}
+use Rattle.flame_progress.proofs.Cores.{same_for_all}
 use Rattle.flame_core.proofs.starting.begun.Goals as goal
 
 pub returns-clause-core : goal.returns-clause-core
