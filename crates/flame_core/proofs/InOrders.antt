@@ -45,6 +45,12 @@ in_order_opens model pieces agents =
       few = λ f. omega (arith, ap (λ s. length (works_of s)) (waits f));
     }
 
+pub nothing_shut : (model : Model) (agents : List (List (List ℤ))) (f : ℕ) → is_shut (status_of (opening_core model agents) f) ≡ false
+nothing_shut model agents f = ap is_shut (all_one Waiting (functions model) f)
+
+pub nothing_frozen : (model : Model) (agents : List (List (List ℤ))) (m : ℕ) → is_frozen (opening_core model agents) m ≡ false
+nothing_frozen model agents m = all_one false model.messages m
+
 -- ---- the status of one function changes
 
 module _ (model : Model) (pieces : ℕ) (core : Core) (f : ℕ) (v : Status) (less : f < length core.statuses) where

@@ -1,0 +1,85 @@
+-- A core begins.
+use Rattle.std.proofs.Common.{◌≡◌, ◌∙◌, ◌<◌, ◌≤◌, [], true, false, ap, length, refl, sym, subst}
+use Rattle.std.specs.Prelude.{ℕ}
+use Rattle.std.proofs.lemmas.List.{length-map}
+use Rattle.flame_spec.specs.declared.outcomes.Source.{Source}
+use Rattle.flame_spec.specs.Before.{before, function_count}
+use Rattle.flame_spec.specs.Below.{is_in}
+use Rattle.flame_spec.specs.Counted.{is_counted}
+use Rattle.flame_spec.specs.Functions.{functions}
+use Rattle.flame_world.specs.WorldFits.{FitTypes}
+use Rattle.flame_events.specs.CoreStates.{Core, is_shut, is_frozen, status_of, opening_core}
+use Rattle.flame_events.specs.LegalEvents.{inputs_of, outputs_of}
+use Rattle.flame_pieces.specs.RunStatuses.{status_of as kept_status}
+use Rattle.flame_progress.specs.RunBoards.{is_board_frozen}
+use Rattle.flame_progress.specs.RunCores.{core_of}
+use Rattle.flame_progress.proofs.Tallied.{tells_same}
+use Rattle.flame_core.proofs.Counting.{functions_numbered}
+use Rattle.flame_core.proofs.InOrders.{nothing_frozen, nothing_shut}
+use Rattle.flame_core.proofs.OutputsOnce.{outputs_once}
+use Rattle.flame_core.proofs.cores.Core.new.Goals as goal
+
+pub counted-requires : goal.counted-requires
+counted-requires c =
+    sym c.if-not-is_counted.ensures ∙ ap (λ (s : Source). is_counted s.model) c.source.ensures.same
+
+pub begun-requires : goal.begun-requires
+begun-requires c =
+    subst (λ bags. FitTypes c.args.program.now.model bags) (sym (c.in_ok-agents.ensures ∙ c.items.ensures)) c.requires.fits.agents
+
+pub invariant_of-result : goal.invariant_of-result
+invariant_of-result c =
+    let source = c.args.program.now in
+    let model = source.model in
+    let progress = c.in_ok-progress.progress in
+    let is : core_of progress ≡ opening_core model c.args.world.agents =
+    c.in_ok-progress.ensures.core ∙ ap (opening_core model) (c.in_ok-agents.ensures ∙ c.items.ensures) in
+    let counted : is_counted model ≡ true =
+    sym c.if-not-is_counted.ensures ∙ ap (λ (s : Source). is_counted s.model) c.source.ensures.same in
+    let shut : (f : ℕ) → false ≡ is_shut (status_of (core_of progress) f) =
+    λ f. sym (ap (λ (k : Core). is_shut (status_of k f)) is ∙ nothing_shut model c.args.world.agents f) in
+    let frozen : (m : ℕ) → false ≡ is_frozen (core_of progress) m =
+    λ m. sym (ap (λ (k : Core). is_frozen k m) is ∙ nothing_frozen model c.args.world.agents m) in
+    let counts = c.in_ok-counts.ensures in
+    record {
+      reached = record {
+        fits = c.requires.fits;
+        some = c.requires.some;
+        events = [];
+        leads = record { legal = refl; left = is };
+      };
+      numbered = functions_numbered model counted;
+      tallies = record {
+        functions =
+            sym (length-map progress.statuses.items kept_status)
+            ∙ ap (λ (k : Core). length k.statuses) is
+            ∙ length-map (functions model) _;
+        messages =
+            sym (length-map progress.boards.items is_board_frozen)
+            ∙ ap (λ (k : Core). length k.frozen) is
+            ∙ length-map model.messages _;
+        outputs = λ f. c.in_ok-progress.ensures.outputs f (outputs_of model f);
+        once = outputs_once source c.source.ensures.accepted;
+        counted = record {
+          functions = tells_same (function_count model) (function_count model) (before model) (λ f. false)
+              (λ f. is_shut (status_of (core_of progress) f)) c.in_ok-counts.counts.functions shut counts.functions;
+          inputs = tells_same (length model.messages) (function_count model) (λ m f. is_in m (inputs_of model f)) (λ m. false)
+              (is_frozen (core_of progress)) c.in_ok-counts.counts.inputs frozen counts.inputs;
+          outputs = tells_same (function_count model) (length model.messages) (λ f m. is_in m (outputs_of model f)) (λ f. false)
+              (λ f. is_shut (status_of (core_of progress) f)) c.in_ok-counts.counts.outputs shut counts.outputs;
+        };
+      };
+    }
+
+pub returns : goal.returns
+returns c =
+    let model = c.args.program.now.model in
+    let is = c.in_ok-progress.ensures.core ∙ ap (opening_core model) (c.in_ok-agents.ensures ∙ c.items.ensures) in
+    λ i. record {
+      source = c.args.program.now;
+      world = c.args.world;
+      iteration = c.args.iteration;
+      fuel = c.args.fuel;
+      pieces = c.args.pieces;
+      core = is i;
+    }
