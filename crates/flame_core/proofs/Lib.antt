@@ -15,3 +15,4 @@ mod Past
 mod Finished
 mod Faulting
 mod Counting
+mod Leaving

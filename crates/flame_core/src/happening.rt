@@ -6,7 +6,7 @@ ghost use Rattle.flame_spec.specs.declared.outcomes.Outcome.TheVariants.{Ended, 
 ghost use Rattle.flame_sense.specs.Outcomes.{outcome, place_of};
 ghost use Rattle.flame_agent.specs.FunctionFits.{FitsFunction};
 ghost use Rattle.flame_world.specs.InputBoards.{boards_named};
-ghost use Rattle.flame_world.specs.Meaning.{outcome_under};
+ghost use Rattle.flame_world.specs.Settings.{boards_of};
 ghost use Rattle.flame_events.specs.declared.events.Event.TheVariants as event;
 ghost use Rattle.flame_events.specs.EventSteps.{after};
 ghost use Rattle.flame_events.specs.LegalEvents.{is_legal};
@@ -98,7 +98,8 @@ fn faulted(
     })
 }
 
-/// What the agent of this memory leaves that runs the function under this setting.
+/// What the agent of this memory leaves that runs the function, where the setting has those boards that the function's
+/// inputs name.
 fn left_under(
     alloc: Global,
     program: &Program,
@@ -108,7 +109,10 @@ fn left_under(
 ) -> Result<Leaving, NoMemory>
     requires source { setting.now.source.now ≡ program.now }
     requires fits { FitsFunction program.now.model function setting.now memory.now }
-    ensures { IfOk result (IsLeft setting.now.iteration function memory.now (outcome_under setting.now function memory.now)) }
+    ensures { IfOk result (λ leaving. (all : List (List (List ℤ)))
+        → boards_of setting.now ≡ boards_named (place_of program.now function) program.now.model all
+        → IsLeft setting.now.iteration function memory.now (outcome program.now function memory.now all
+        setting.now.constants.now setting.now.iteration setting.now.fuel) leaving) }
 {
     match run_agent(alloc, program, setting, function, memory)? {
         Outcome::Ended(effect) => ended(alloc, effect),

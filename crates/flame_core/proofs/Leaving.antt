@@ -1,0 +1,68 @@
+-- What the next agent of a piece leaves.
+use Rattle.std.proofs.Common.{◌≡◌, ℕ, zero, suc, ◌<◌, Bool, true, false, List, [], ◌∷◌, length, map, Option, Some, None, refl, sym, ap, ◌∙◌, subst, arith}
+use Rattle.std.specs.Prelude.{ℤ, slice_get, slice_index_or}
+use Rattle.std.specs.List.{All, list_all}
+use Rattle.std.proofs.lemmas.Bool.{and_parts, false≢true, ltb-true}
+use Rattle.flame_spec.specs.declared.outcomes.Outcome.{Outcome}
+use Rattle.flame_spec.specs.declared.outcomes.Source.{Source}
+use Rattle.flame_sense.specs.Outcomes.{outcome, place_of}
+use Rattle.flame_sense.specs.RangeLaws.{Each}
+use Rattle.flame_world.specs.declared.settings.Setting.{Setting}
+use Rattle.flame_world.specs.InputBoards.{boards_named}
+use Rattle.flame_world.specs.Meaning.{outcome_under}
+use Rattle.flame_world.specs.Settings.{boards_of}
+use Rattle.flame_world.proofs.NamedBoards.{named_boards_are_enough}
+use Rattle.flame_events.specs.CoreStates.{Work, Core, has_left, work_of}
+use Rattle.flame_events.specs.LegalEvents.{may_run}
+use Rattle.flame_events.proofs.Spots.{get_there}
+use Rattle.flame_progress.specs.declared.leavings.Leaving.{Leaving}
+use Rattle.flame_progress.specs.RunWorkEvents.{are_left}
+use Rattle.flame_core.specs.AgentLeavings.{HasNext, IsLeft, IsNext}
+
+-- what is left under a setting is left over the boards of all messages
+pub named_left : (setting : Setting) (source : Source) (f : ℕ) (all : List (List (List ℤ))) (memory : List ℤ) (leaving : Leaving)
+    → setting.source.now ≡ source
+    → boards_of setting ≡ boards_named (place_of source f) source.model all
+    → IsLeft setting.iteration f memory (outcome_under setting f memory) leaving
+    → IsLeft setting.iteration f memory (outcome source f memory all setting.constants.now setting.iteration setting.fuel) leaving
+named_left setting source f all memory leaving same named left =
+    let P : Source → Type 0 = λ s.
+    boards_of setting ≡ boards_named (place_of s f) s.model all
+    → IsLeft setting.iteration f memory (outcome s f memory all setting.constants.now setting.iteration setting.fuel) leaving in
+    let Q : Outcome → Type 0 = λ o. IsLeft setting.iteration f memory o leaving in
+    subst P same (λ own. subst Q (named_boards_are_enough setting f memory all own) left) named
+
+-- ---- the next agent
+
+-- a piece that may run has a next agent
+pub has_next : (core : Core) (f k : ℕ) → may_run (work_of core f k) ≡ true → HasNext core f k
+has_next core f k may = go (work_of core f k) refl may
+  where
+    go : (o : Option Work) → work_of core f k ≡ o → may_run o ≡ true → HasNext core f k
+    go None is left = absurd (false≢true left)
+    go (Some work) is left =
+        let row = get_there work.agents work.ran (ltb-true work.ran (length work.agents) left) in
+        record { memory = row.0; is = record { work = work; there = is; next = row.1 } }
+
+-- there is one next agent alone
+pub one_next : (core : Core) (f k : ℕ) (memory other : List ℤ) → IsNext core f k memory → IsNext core f k other → memory ≡ other
+one_next core f k memory other one two =
+    let works : one.work ≡ two.work = some_work one.work two.work (sym one.there ∙ two.there) in
+    some_row memory other (sym one.next ∙ ap (λ (w : Work). slice_get w.agents w.ran) works ∙ two.next)
+  where
+    some_work : (x y : Work) → Some x ≡ Some y → x ≡ y
+    some_work x y e = cc
+
+    some_row : (x y : List ℤ) → Some x ≡ Some y → x ≡ y
+    some_row x y e = cc
+
+-- what passes a test passes it at each place
+pub each_passes : (test : ℕ → Bool) (numbers : List ℕ) → list_all test numbers ≡ true → All (λ n. test n ≡ true) numbers
+each_passes test [] all = λ k d less. absurd (omega (arith, less))
+each_passes test (n ∷ numbers) all =
+    let both = and_parts (test n) (list_all test numbers) all in
+    at both.0 (each_passes test numbers both.1)
+  where
+    at : test n ≡ true → All (λ m. test m ≡ true) numbers → (k d : ℕ) → k < suc (length numbers) → test (slice_index_or (n ∷ numbers) k d) ≡ true
+    at here later zero d less = here
+    at here later (suc k) d less = later k d (omega (arith, less))
