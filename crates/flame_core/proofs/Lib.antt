@@ -16,3 +16,4 @@ mod Finished
 mod Faulting
 mod Counting
 mod Leaving
+mod Running

@@ -1,0 +1,79 @@
+-- A piece whose next agent runs.
+use Rattle.std.proofs.Common.{◌≡◌, ℕ, ◌<◌, true, false, List, length, map, Some, Vec, refl, sym, ap, ◌∙◌, subst, arith}
+use Rattle.std.specs.Global.{Global}
+use Rattle.std.specs.Prelude.{ℤ, slice_get, slice_index_or}
+use Rattle.std.specs.List.{All, list_all}
+use Rattle.std.proofs.lemmas.List.{length-map}
+use Rattle.flame_spec.specs.declared.models.Model.{Model}
+use Rattle.flame_spec.specs.Before.{function_count}
+use Rattle.flame_spec.specs.Columns.{width}
+use Rattle.flame_spec.specs.Functions.{Place, functions}
+use Rattle.flame_events.specs.CoreFits.{FitsCore, FitsWork}
+use Rattle.flame_events.specs.CoreStates.{Work, Core, is_waiting, status_of, work_of, works_of, is_frozen}
+use Rattle.flame_events.specs.LegalEvents.{inputs_at, inputs_of, may_run}
+use Rattle.flame_events.proofs.Sound.{opens_with}
+use Rattle.flame_events.proofs.Works.{each_at}
+use Rattle.flame_pieces.specs.RunStatuses.{status_of as kept_status}
+use Rattle.flame_progress.specs.declared.boards.Board.{Board}
+use Rattle.flame_progress.specs.declared.counts.Counts.{Counts}
+use Rattle.flame_progress.specs.declared.progress.Progress.{Progress}
+use Rattle.flame_progress.specs.RunBoards.{board_bag, is_board_frozen}
+use Rattle.flame_progress.specs.RunCores.{core_of}
+use Rattle.flame_progress.specs.Tallying.{Tallies}
+use Rattle.flame_progress.proofs.Kinds.{open_within}
+use Rattle.flame_route.specs.declared.routes.Route.{Route}
+use Rattle.flame_core.specs.AgentLeavings.{IsNext}
+use Rattle.flame_core.specs.RunReady.{InOrder}
+use Rattle.flame_core.specs.RunSteps.{GoesBy}
+use Rattle.flame_core.proofs.Leaving.{each_passes, has_next}
+use Rattle.flame_core.proofs.NamedNumbers.{numbers-within}
+use Rattle.flame_core.proofs.Openings.{all_found}
+
+-- boards that are shared are the boards that they were
+pub same_core : (progress : Progress) (boards : Vec Board Global)
+    → map board_bag boards.items ≡ map board_bag progress.boards.items
+    → map is_board_frozen boards.items ≡ map is_board_frozen progress.boards.items
+    → core_of (record progress { boards = boards }) ≡ core_of progress
+same_core progress boards bags marks =
+    let core = core_of progress in
+    λ i. record {
+      statuses = core.statuses;
+      field = record { pools = core.field.pools; born = core.field.born; boards = bags i };
+      frozen = marks i;
+    }
+
+-- the next agent is as wide as its type declares
+pub next_wide : (model : Model) (core : Core) (f k : ℕ) (place : Place) (memory : List ℤ) → FitsCore model core
+    → slice_get (functions model) f ≡ Some place → IsNext core f k memory → length memory ≡ width place.type.memory
+next_wide model core f k place memory fits at next =
+    let work = each_at (FitsWork model f place.type) (works_of (status_of core f)) k next.work (fits.works f place at) next.there in
+    each_at (λ (row : List ℤ). length row ≡ width place.type.memory) next.work.agents next.work.ran memory work.agents next.next
+
+-- a function that may run is one of the model's
+pub running_below : (model : Model) (progress : Progress) (counts : Counts) (f k : ℕ) → Tallies model progress counts
+    → may_run (work_of (core_of progress) f k) ≡ true → f < function_count model
+running_below model progress counts f k tallies may =
+    let core = core_of progress in
+    let next = has_next core f k may in
+    let is = opens_with (status_of core f) k next.is.work next.is.there in
+    omega (arith, open_within core.statuses f (works_of (status_of core f)) is, length-map progress.statuses.items kept_status, tallies.functions)
+
+-- the messages that it reads, by its route
+pub inputs_are : (model : Model) (f : ℕ) (route : Route) (goes : GoesBy model f route) → inputs_of model f ≡ route.inputs
+inputs_are model f route goes =
+    ap (λ o. inputs_at o model) goes.there ∙ all_found _ goes.place.function.inputs route.inputs goes.routed.inputs
+
+-- their boards are frozen
+pub inputs_frozen : (model : Model) (pieces : ℕ) (core : Core) (f k : ℕ) (route : Route) (goes : GoesBy model f route) → InOrder model pieces core
+    → may_run (work_of core f k) ≡ true → All (λ m. is_frozen core m ≡ true) route.inputs
+inputs_frozen model pieces core f k route goes in_order may =
+    let next = has_next core f k may in
+    let is = opens_with (status_of core f) k next.is.work next.is.there in
+    subst (All (λ m. is_frozen core m ≡ true)) (inputs_are model f route goes)
+    (each_passes (is_frozen core) (inputs_of model f) (in_order.fed f (ap is_waiting is)))
+
+pub inputs_known : (model : Model) (progress : Progress) (counts : Counts) (f : ℕ) (route : Route) (goes : GoesBy model f route) → Tallies model progress counts
+    → All (λ m. m < length progress.boards.items) route.inputs
+inputs_known model progress counts f route goes tallies =
+    subst (λ n. All (λ m. m < n) route.inputs) (sym tallies.messages)
+    (numbers-within model goes.place.function.inputs route.inputs goes.routed.inputs)
