@@ -44,6 +44,11 @@ has_next core f k may = go (work_of core f k) refl may
         let row = get_there work.agents work.ran (ltb-true work.ran (length work.agents) left) in
         record { memory = row.0; is = record { work = work; there = is; next = row.1 } }
 
+-- and so many agents are left in it
+pub left_of_it : (core : Core) (f k : ℕ) (next : HasNext core f k) → may_run (work_of core f k) ≡ true → next.is.work.ran < length next.is.work.agents
+left_of_it core f k next may =
+    ltb-true next.is.work.ran (length next.is.work.agents) (sym (ap may_run next.is.there) ∙ may)
+
 -- there is one next agent alone
 pub one_next : (core : Core) (f k : ℕ) (memory other : List ℤ) → IsNext core f k memory → IsNext core f k other → memory ≡ other
 one_next core f k memory other one two =

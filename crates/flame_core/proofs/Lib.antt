@@ -17,3 +17,4 @@ mod Faulting
 mod Counting
 mod Leaving
 mod Running
+mod Allowed

@@ -239,10 +239,11 @@ outputs_told model k own waiting less is tells =
 pub all_told : (n f : ℕ) (b : Bool) → f < n → (nat_lt f n && b) ≡ b
 all_told n f b less = ap (λ t. t && b) (lt-ltb f n less)
 
-pub outputs_below : (model : Model) (f : ℕ) → f < function_count model → All (λ m. m < length model.messages) (outputs_of model f)
-outputs_below model f less =
+pub output_below : (model : Model) (f m : ℕ) → f < function_count model → is_in m (outputs_of model f) ≡ true → m < length model.messages
+output_below model f m less among =
     let place = get_there (functions model) f less in
-    all_in (λ m. m < length model.messages) (outputs_of model f)
-    (λ m among.
     let output = output_named model place.0 m (sym (ap (λ o. is_in m (outputs_at o model)) place.1) ∙ among) in
-    get_below model.messages m output.named.message output.named.there)
+    get_below model.messages m output.named.message output.named.there
+
+pub outputs_below : (model : Model) (f : ℕ) → f < function_count model → All (λ m. m < length model.messages) (outputs_of model f)
+outputs_below model f less = all_in (λ m. m < length model.messages) (outputs_of model f) (λ m among. output_below model f m less among)

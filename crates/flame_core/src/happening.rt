@@ -210,17 +210,25 @@ pub(crate) fn happen(
     ensures err { OnErr result (Came round.now.program.now.model (core_of progress.old) progress.new counts.new) }
 {
     match event {
-        Event::Open(function) => open_function(alloc, round, pieces, progress, counts, function),
+        Event::Open(function) => {
+            open_function(alloc, round, pieces, progress, counts, function)?;
+            Ok(())
+        }
         Event::Agent(function, piece) => {
-            run_next(alloc, round, pieces, progress, counts, function, piece)
+            run_next(alloc, round, pieces, progress, counts, function, piece)?;
+            Ok(())
         }
         Event::HandIn(function, piece, message) => {
-            hand_in(alloc, progress, function, piece, message)
+            hand_in(alloc, progress, function, piece, message)?;
+            Ok(())
         }
         Event::Shut(function) => {
             shut(progress, counts, function);
             Ok(())
         }
-        Event::Freeze(message) => freeze(alloc, progress, counts, message),
+        Event::Freeze(message) => {
+            freeze(alloc, progress, counts, message)?;
+            Ok(())
+        }
     }
 }

@@ -1,5 +1,5 @@
 -- The next agent of a piece runs.
-use Rattle.std.proofs.Common.{◌≡◌, ◌∙◌, ◌+◌, ◌<◌, ◌≤◌, true, false, List, [], length, map, refl, sym, ap, subst, arith, length-set}
+use Rattle.std.proofs.Common.{◌≡◌, ◌∙◌, ◌+◌, ◌<◌, ◌≤◌, true, false, Some, List, [], length, map, refl, sym, ap, subst, arith, length-set}
 use Rattle.std.specs.Prelude.{ℤ, ℕ, slice_get, slice_index_or, slice_set}
 use Rattle.std.specs.Arc.{arc_value}
 use Rattle.std.specs.List.{All}
@@ -23,7 +23,7 @@ use Rattle.flame_progress.proofs.Tallied.{came, counted_kept, status_kept}
 use Rattle.flame_core.specs.AgentLeavings.{HasNext, IsNext}
 use Rattle.flame_core.specs.RunSteps.{round_of}
 use Rattle.flame_core.proofs.Comings.{agent_is}
-use Rattle.flame_core.proofs.Leaving.{has_next}
+use Rattle.flame_core.proofs.Leaving.{has_next, left_of_it}
 use Rattle.flame_core.proofs.Running.{inputs_frozen, inputs_known, next_wide, running_below, same_core}
 use Rattle.flame_core.proofs.Stepped.{frozen-named, frozen-wide, has-route}
 use Rattle.flame_core.proofs.happening.run_next.Goals as goal
@@ -73,7 +73,25 @@ next_leaving-requires-clause-fits c = λ memory next.
     }
 
 pub settle-requires-clause-left : goal.settle-requires-clause-left
-settle-requires-clause-left c = ?
+settle-requires-clause-left c =
+    let source = c.args.round.now.program.now in
+    let progress = c.args.progress.now in
+    let core = core_of progress in
+    let f = c.args.function in
+    let k = c.args.piece in
+    let goes = c.route_of-route.ensures in
+    let same = same_core progress c.share.new.boards c.in_ok-share.ensures.bags c.in_ok-share.ensures.frozen in
+    let next = has_next core f k c.requires.legal in
+    let P : Core → Type 0 = λ k′. IsNext k′ f k next.memory in
+    let read = ap (map arc_value) c.of-boards.ensures ∙ c.in_ok-share.ensures.read
+    ∙ ap (map (λ message. slice_index_or (map board_bag progress.boards.items) message [])) c.items.ensures in
+    let named = frozen-named source f goes.place c.route_of-route.result.now.inputs core.field.boards _ goes.there goes.routed.inputs read in
+    let left = c.in_ok-leaving.ensures core.field.boards next.memory (subst P (sym same) next.is) named in
+    let work = next.is.work in
+    ap (λ (k′ : Core). are_left c.in_ok-leaving.leaving.ran (work_of k′ f k)) same
+    ∙ ap (are_left c.in_ok-leaving.leaving.ran) next.is.there
+    ∙ ap (λ n. are_left n (Some work)) left.one
+    ∙ le-leb (work.ran + 1) (length work.agents) (omega (arith, left_of_it core f k next c.requires.legal))
 
 pub settle-requires-clause-known : goal.settle-requires-clause-known
 settle-requires-clause-known c =
@@ -85,3 +103,50 @@ pub settle-requires-clause-there : goal.settle-requires-clause-there
 settle-requires-clause-there c =
     (has-route c.args.round.now.program.now.model c.args.function c.route_of-route.result.now (core_of c.args.progress.now).field
     c.route_of-route.ensures c.requires.ready.fits.field).to
+
+pub returns : goal.returns
+returns c =
+    let round = round_of c.args.round.now in
+    let source = c.args.round.now.program.now in
+    let model = source.model in
+    let progress = c.args.progress.now in
+    let core = core_of progress in
+    let f = c.args.function in
+    let k = c.args.piece in
+    let route = c.route_of-route.result.now in
+    let goes = c.route_of-route.ensures in
+    let leaving = c.in_ok-leaving.leaving in
+    let same = same_core progress c.share.new.boards c.in_ok-share.ensures.bags c.in_ok-share.ensures.frozen in
+    let next = has_next core f k c.requires.legal in
+    let work = next.is.work in
+    let P : Core → Type 0 = λ k′. IsNext k′ f k next.memory in
+    let read = ap (map arc_value) c.of-boards.ensures ∙ c.in_ok-share.ensures.read
+    ∙ ap (map (λ message. slice_index_or (map board_bag progress.boards.items) message [])) c.items.ensures in
+    let named = frozen-named source f goes.place route.inputs core.field.boards _ goes.there goes.routed.inputs read in
+    let left = c.in_ok-leaving.ensures core.field.boards next.memory (subst P (sym same) next.is) named in
+    let outputs = outputs_of model f in
+    let tallies = c.requires.ready.tallies in
+    let made : Core → Core = λ old. record old {
+      statuses = with_work old f k (added outputs leaving work);
+      field = record old.field {
+        pools = changed_pool route.agent route.to (λ pool. merge pool (ascending leaving.survivors.items)) old.field.pools;
+        born = joined (births_of leaving.born.items) old.field.born;
+      };
+    } in
+    let is : core_of c.settle.new.self ≡ made core =
+    c.in_ok-settle.ensures.ok outputs work (tallies.outputs f) (ap (λ (k′ : Core). work_of k′ f k) same ∙ next.is.there)
+    ∙ ap made same in
+    let open_is = opens_with (status_of core f) k work next.is.there in
+    let less = open_within core.statuses f (works_of (status_of core f)) open_is in
+    let v : Status = Open (slice_set (works_of (status_of core f)) k (added outputs leaving work)) in
+    let all = came model progress c.settle.new.self c.args.counts.now c.args.counts.now (made core) is
+    (length-set core.statuses f v) refl (λ g has. c.in_ok-settle.ensures.outputs g (outputs_of model g) has) tallies
+    (counted_kept model core (made core) c.args.counts.now
+    (status_kept is_shut core.statuses f v less (sym (ap is_shut open_is))) refl tallies.counted) in
+    record {
+      core =
+          all.core
+          ∙ agent_is round c.args.pieces f k goes.place core work next.memory leaving route.agent route.to goes.there next.is.there
+          next.is.next goes.routed.agent goes.routed.to left;
+      tallies = all.tallies;
+    }
