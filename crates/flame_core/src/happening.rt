@@ -7,7 +7,7 @@ ghost use Rattle.flame_sense.specs.Outcomes.{outcome, place_of};
 ghost use Rattle.flame_agent.specs.FunctionFits.{FitsFunction};
 ghost use Rattle.flame_world.specs.InputBoards.{boards_named};
 ghost use Rattle.flame_world.specs.Settings.{boards_of};
-ghost use Rattle.flame_events.specs.declared.events.Event.TheVariants as event;
+ghost use Rattle.flame_events.specs.declared.events.Event.TheVariants as kind;
 ghost use Rattle.flame_events.specs.EventSteps.{after};
 ghost use Rattle.flame_events.specs.LegalEvents.{is_legal};
 ghost use Rattle.flame_progress.specs.RunCores.{core_of};
@@ -42,9 +42,9 @@ fn open_function(
     function: u32,
 ) -> Result<(), NoMemory>
     requires ready { Ready round.now pieces progress.old counts.now }
-    requires legal { IsTrue (is_legal round.now.program.now.model (core_of progress.old) (event.Open function)) }
+    requires legal { IsTrue (is_legal round.now.program.now.model (core_of progress.old) (kind.Open function)) }
     ensures ok { OnOk result (Came round.now.program.now.model
-        (after (round_of round.now) pieces (core_of progress.old) (event.Open function)) progress.new counts.now) }
+        (after (round_of round.now) pieces (core_of progress.old) (kind.Open function)) progress.new counts.now) }
     ensures err { OnErr result (Came round.now.program.now.model (core_of progress.old) progress.new counts.now) }
 {
     let route = route_of(round, function);
@@ -182,9 +182,9 @@ fn run_next(
     piece: u32,
 ) -> Result<(), NoMemory>
     requires ready { Ready round.now pieces progress.old counts.now }
-    requires legal { IsTrue (is_legal round.now.program.now.model (core_of progress.old) (event.Agent function piece)) }
+    requires legal { IsTrue (is_legal round.now.program.now.model (core_of progress.old) (kind.Agent function piece)) }
     ensures ok { OnOk result (Came round.now.program.now.model
-        (after (round_of round.now) pieces (core_of progress.old) (event.Agent function piece)) progress.new counts.now) }
+        (after (round_of round.now) pieces (core_of progress.old) (kind.Agent function piece)) progress.new counts.now) }
     ensures err { OnErr result (Came round.now.program.now.model (core_of progress.old) progress.new counts.now) }
 {
     let route = route_of(round, function);

@@ -167,7 +167,7 @@ impl Progress {
     pub fn start(&mut self, function: u32, works: Vec<Work>, agent: u32, state: u32, staying: Bag)
         requires known { function < length self.old.statuses.items }
         requires there { state < length (slice_index_or (core_of self.old).field.pools agent []) }
-        ensures { core_of self.new ≡ record (core_of self.old) {
+        ensures core { core_of self.new ≡ record (core_of self.old) {
           statuses = slice_set (core_of self.old).statuses function (Open (map kept_work works.items));
           field = record (core_of self.old).field {
             pools = changed_pool agent state (λ old. staying) (core_of self.old).field.pools;
