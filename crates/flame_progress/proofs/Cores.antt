@@ -5,7 +5,7 @@ use Rattle.std.specs.Prelude.{ℤ, slice_set, slice_index_or}
 use Rattle.std.proofs.lemmas.List.{length-map, map-set}
 use Rattle.flame_spec.specs.declared.outcomes.Born.{Born}
 use Rattle.flame_world.specs.AgentRuns.{births_of}
-use Rattle.flame_world.specs.Fields.{changed_pool, joined}
+use Rattle.flame_world.specs.Fields.{changed, changed_pool, joined}
 use Rattle.flame_events.specs.CoreStates.{Work, Status, Waiting, Open, status_of, works_of}
 use Rattle.flame_events.proofs.Pools.{length-changed}
 use Rattle.flame_pieces.specs.declared.statuses.Status as kept
@@ -70,7 +70,7 @@ none_same old new long =
 
 pub pools_long : (old new : Vec (Vec Gathering Global) Global) (agent state : ℕ) (change : List (List ℤ) → List (List ℤ))
     → pools_of new ≡ changed_pool agent state change (pools_of old) → none_of new ≡ none_of old
-pools_long old new agent state change is = none_same old new (ap length is ∙ length-changed agent _ (pools_of old))
+pools_long old new agent state change is = none_same old new (ap length is ∙ length-changed agent (changed state change) (pools_of old))
 
 -- births come after the earlier ones
 pub born_more : (old new : Vec (Vec Gathering Global) Global) (born births all : List Born) → none_of new ≡ none_of old → all ≡ born ++ births
