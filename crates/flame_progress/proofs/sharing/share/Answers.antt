@@ -19,6 +19,52 @@ share-requires c =
     ∙ ap (λ l. slice_index_or l message false) old.marks
     ∙ c.requires.frozen place 0 c.loop-message-test.true
 
+pub returns-in_err-share-clause-bags : goal.returns-in_err-share-clause-bags
+returns-in_err-share-clause-bags c =
+    let old = c.loop-message.invariant in
+    let place = c.loop-message.message-index in
+    let message = slice_index_or c.args.messages.now place 0 in
+    let boards = c.loop-message.boards.items in
+    let here : message < length boards = omega (arith, c.requires.known place 0 c.loop-message-test.true, old.count) in
+    let at = c.index_mut.ensures.value in
+    map-kept board_bag boards message c.index_mut.result.now c.share.new.self here at c.in_err-share.ensures.bag ∙ old.bags
+
+pub returns-in_err-share-clause-frozen : goal.returns-in_err-share-clause-frozen
+returns-in_err-share-clause-frozen c =
+    let old = c.loop-message.invariant in
+    let place = c.loop-message.message-index in
+    let message = slice_index_or c.args.messages.now place 0 in
+    let boards = c.loop-message.boards.items in
+    let here : message < length boards = omega (arith, c.requires.known place 0 c.loop-message-test.true, old.count) in
+    let at = c.index_mut.ensures.value in
+    let marked = sym (map-at is_board_frozen false boards message c.index_mut.result.now here at)
+    ∙ ap (λ l. slice_index_or l message false) old.marks ∙ c.requires.frozen place 0 c.loop-message-test.true in
+    map-kept is_board_frozen boards message c.index_mut.result.now c.share.new.self here at (c.in_err-share.ensures.frozen ∙ sym marked)
+    ∙ old.marks
+
+pub returns-in_err-push-clause-bags : goal.returns-in_err-push-clause-bags
+returns-in_err-push-clause-bags c =
+    let old = c.loop-message.invariant in
+    let place = c.loop-message.message-index in
+    let message = slice_index_or c.args.messages.now place 0 in
+    let boards = c.loop-message.boards.items in
+    let here : message < length boards = omega (arith, c.requires.known place 0 c.loop-message-test.true, old.count) in
+    let at = c.index_mut.ensures.value in
+    map-kept board_bag boards message c.index_mut.result.now c.share.new.self here at c.in_ok-share.ensures.bag ∙ old.bags
+
+pub returns-in_err-push-clause-frozen : goal.returns-in_err-push-clause-frozen
+returns-in_err-push-clause-frozen c =
+    let old = c.loop-message.invariant in
+    let place = c.loop-message.message-index in
+    let message = slice_index_or c.args.messages.now place 0 in
+    let boards = c.loop-message.boards.items in
+    let here : message < length boards = omega (arith, c.requires.known place 0 c.loop-message-test.true, old.count) in
+    let at = c.index_mut.ensures.value in
+    let marked = sym (map-at is_board_frozen false boards message c.index_mut.result.now here at)
+    ∙ ap (λ l. slice_index_or l message false) old.marks ∙ c.requires.frozen place 0 c.loop-message-test.true in
+    map-kept is_board_frozen boards message c.index_mut.result.now c.share.new.self here at (c.in_ok-share.ensures.frozen ∙ sym marked)
+    ∙ old.marks
+
 pub loop-message-preserved : goal.loop-message-preserved
 loop-message-preserved c =
     let old = c.loop-message.invariant in

@@ -2,6 +2,7 @@ use Rattle.std.proofs.Common.{◌≡◌, ℕ, List, Option, Some, None, Bor, IfS
 use Rattle.std.specs.List.{All}
 use Rattle.std.specs.Slice.{IsItemAt}
 use Rattle.flame_pieces.specs.declared.statuses.Status.{Status}
+use Rattle.flame_pieces.specs.declared.works.Work.{Work}
 use Rattle.flame_pieces.specs.RunWorks.{outputs_in}
 use Rattle.flame_pieces.specs.RunStatuses.{HasOutputs}
 use Rattle.flame_pieces.proofs.statuses.Status.work.Goals as goal
@@ -14,5 +15,6 @@ all_lookup P xs i (Some x) is all = subst P (sym is.1) (all i x.now is.3.0)
 pub returns-in-Open-clause-outputs : goal.returns-in-Open-clause-outputs
 returns-in-Open-clause-outputs c = λ outputs has.
     let P : Status → Type 0 = λ s. HasOutputs outputs s in
-    all_lookup (λ work. outputs_in work ≡ outputs) c.in-Open.works.items c.args.piece c.get.result c.get.ensures
-    (subst P c.in-Open.is has)
+    let Q : List Work → Type 0 = λ l. All (λ work. outputs_in work ≡ outputs) l in
+    all_lookup (λ work. outputs_in work ≡ outputs) c.deref.result.now c.args.piece c.get.result c.get.ensures.lookup
+    (subst Q (sym c.deref.ensures.value) (subst P c.in-Open.is has))
