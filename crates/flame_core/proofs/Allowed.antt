@@ -22,7 +22,7 @@ use Rattle.flame_progress.specs.RunBoards.{is_board_frozen}
 use Rattle.flame_progress.specs.RunCores.{core_of, kept_at}
 use Rattle.flame_progress.specs.RunWorkEvents.{OutputsOnce}
 use Rattle.flame_progress.specs.Tallying.{Tallies}
-use Rattle.flame_progress.proofs.Kinds.{got_within, may_hand_in_is, may_shut_is, open_within, outputs_once}
+use Rattle.flame_progress.proofs.Known.{got_within, may_hand_in_is, may_shut_is, open_within, outputs_once}
 use Rattle.flame_core.specs.RunReady.{InOrder}
 use Rattle.flame_core.proofs.Openings.{output_below}
 

@@ -24,7 +24,7 @@ use Rattle.flame_core.specs.SeenCores.{Seen, IsReached, round_in, start_in}
 use Rattle.flame_events.proofs.Legality.{in_writers}
 use Rattle.flame_events.proofs.Sound.{can_open, opens_with, past_waiting}
 use Rattle.flame_events.proofs.Works.{all_of_list}
-use Rattle.flame_progress.proofs.Kinds.{may_hand_in_is, may_shut_is, open_within}
+use Rattle.flame_progress.proofs.Known.{may_hand_in_is, may_shut_is, open_within}
 use Rattle.flame_progress.proofs.Tallied.{mark_set}
 use Rattle.flame_core.specs.RunReady.{InOrder}
 

@@ -18,4 +18,4 @@ mod Counting
 mod Leaving
 mod Running
 mod Allowed
-mod Absorbing
+mod SharedPieces

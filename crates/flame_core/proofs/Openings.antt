@@ -22,7 +22,7 @@ use Rattle.flame_pieces.specs.declared.statuses.Status as kept
 use Rattle.flame_pieces.specs.declared.statuses.Status.TheVariants as is
 use Rattle.flame_pieces.specs.RunStatuses.{status_of, HasOutputs}
 use Rattle.flame_progress.specs.ManyWait.{waited_for_by, waiting_for}
-use Rattle.flame_progress.proofs.Legal.{all_in, inputs_below}
+use Rattle.flame_progress.proofs.Allowing.{all_in, inputs_below}
 use Rattle.flame_progress.proofs.Waiters.{waiters_told, waiting_is_told}
 
 -- ---- statuses, pools and births

@@ -20,7 +20,7 @@ use Rattle.flame_progress.specs.declared.progress.Progress.{Progress}
 use Rattle.flame_progress.specs.RunBoards.{board_bag, is_board_frozen}
 use Rattle.flame_progress.specs.RunCores.{core_of}
 use Rattle.flame_progress.specs.Tallying.{Tallies}
-use Rattle.flame_progress.proofs.Kinds.{open_within}
+use Rattle.flame_progress.proofs.Known.{open_within}
 use Rattle.flame_route.specs.declared.routes.Route.{Route}
 use Rattle.flame_core.specs.AgentLeavings.{IsNext}
 use Rattle.flame_core.specs.RunReady.{InOrder}

@@ -1,6 +1,6 @@
-mod Counting
+pub mod Counting
 mod Things
-mod Freeing
+pub mod Freeing
 mod Cutting
 mod Faults
 mod KeptParts

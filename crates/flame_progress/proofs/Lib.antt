@@ -3,8 +3,8 @@ pub mod Gathered
 pub mod Joining
 pub mod Written
 pub mod Borne
-pub mod Kinds
+pub mod Known
 pub mod Tallied
 pub mod Cores
 pub mod Waiters
-pub mod Legal
+pub mod Allowing

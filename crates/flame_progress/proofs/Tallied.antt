@@ -10,7 +10,7 @@ use Rattle.flame_spec.specs.Below.{is_in}
 use Rattle.flame_events.specs.CoreStates.{Status, Waiting, Open, Shut, Faulted, is_shut, is_waiting, Core, status_of, works_of, is_frozen}
 use Rattle.flame_events.specs.LegalEvents.{inputs_of, outputs_of}
 use Rattle.flame_pieces.specs.FreeThings.{Tells}
-use Rattle.flame_pieces.specs.Waiting as waits
+use Rattle.flame_pieces.specs.Waiting as kinds
 use Rattle.flame_pieces.specs.Waiting.{thing_at, with_done}
 use Rattle.flame_pieces.specs.RunStatuses.{status_of as kept_status}
 use Rattle.flame_pieces.proofs.Freeing.{what_is_done_is_told}
@@ -23,7 +23,7 @@ use Rattle.flame_progress.specs.Tallying.{Tallies, Came}
 
 -- ---- what is told of others
 
-pub tells_same : (things count : ℕ) (waits : ℕ → ℕ → Bool) (is_done other : ℕ → Bool) (waiting : waits.Waiting)
+pub tells_same : (things count : ℕ) (waits : ℕ → ℕ → Bool) (is_done other : ℕ → Bool) (waiting : kinds.Waiting)
     → ((thing : ℕ) → is_done thing ≡ other thing)
     → Tells things count waits is_done waiting → Tells things count waits other waiting
 tells_same things count waits is_done other waiting same tells = record {

@@ -1,5 +1,5 @@
 -- Lists of which one element is written, as they are seen.
-use Rattle.std.proofs.Common.{◌≡◌, ℕ, zero, suc, ◌<◌, List, [], ◌∷◌, length, map, get_or, Option, Some, None, refl, sym, ap, ◌∙◌, arith}
+use Rattle.std.proofs.Common.{◌≡◌, ℕ, zero, suc, ◌<◌, List, [], ◌∷◌, length, map, get_or, Option, Some, None, Result, Ok, Err, OnErr, refl, sym, ap, ◌∙◌, arith}
 use Rattle.std.specs.Prelude.{slice_get, slice_set, slice_index_or, unwrap_or}
 use Rattle.std.proofs.lemmas.Option.{unwrap_or-slice_get}
 
@@ -25,3 +25,8 @@ got_is g (x ∷ xs) (suc place) old y at there = got_is g xs place old y at ther
 -- a list of which this is got, or nothing
 pub or_else_is : {X : Type 0} (xs : List X) (place : ℕ) (d : X) (got : Option X) → got ≡ slice_get xs place → slice_index_or xs place d ≡ unwrap_or got d
 or_else_is xs place d got is = sym (unwrap_or-slice_get xs place d) ∙ ap (λ o. unwrap_or o d) (sym is)
+
+-- what holds anyway holds where there is an error
+pub on_err : {A E P : Type 0} (r : Result A E) → P → OnErr r P
+on_err (Ok a) holds = tt
+on_err (Err e) holds = holds

@@ -26,6 +26,6 @@ pub record Sizes (progress : Progress) (counts : Counts) : Type 0 where
   pub outputs : counts.outputs.count ≡ length progress.boards.items
 
 -- this core came, and is told of [own]
-pub record Came (model : Model) (core : Core) (progress : Progress) (counts : Counts) : Type 0 where
-  pub core : core_of progress ≡ core
+pub record Came (model : Model) (next : Core) (progress : Progress) (counts : Counts) : Type 0 where
+  pub core : core_of progress ≡ next
   pub tallies : Tallies model progress counts

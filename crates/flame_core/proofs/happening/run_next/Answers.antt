@@ -18,7 +18,7 @@ use Rattle.flame_progress.specs.declared.progress.Progress.{Progress}
 use Rattle.flame_progress.specs.RunBoards.{board_bag, is_board_frozen}
 use Rattle.flame_progress.specs.RunCores.{core_of}
 use Rattle.flame_progress.specs.RunWorkEvents.{added, are_left}
-use Rattle.flame_progress.proofs.Kinds.{open_within}
+use Rattle.flame_progress.proofs.Known.{open_within}
 use Rattle.flame_progress.proofs.Tallied.{came, counted_kept, status_kept}
 use Rattle.flame_core.specs.AgentLeavings.{HasNext, IsNext}
 use Rattle.flame_core.specs.RunSteps.{round_of}

@@ -2,6 +2,7 @@
 use Rattle.std.proofs.Common.{◌≡◌, ◌<◌, List, true, length, refl, sym, ap, ◌∙◌, subst, arith, length-set}
 use Rattle.std.specs.Prelude.{ℕ, slice_set, slice_index_or}
 use Rattle.std.proofs.lemmas.List.{length-map}
+use Rattle.flame_world.specs.Iterations.{Round}
 use Rattle.flame_events.specs.CoreStates.{Core}
 use Rattle.flame_events.specs.LegalEvents.{outputs_of}
 use Rattle.flame_pieces.specs.declared.statuses.Status.{Status}
@@ -12,6 +13,8 @@ use Rattle.flame_progress.specs.declared.progress.Progress.{Progress}
 use Rattle.flame_progress.specs.RunBoards.{is_board_frozen}
 use Rattle.flame_progress.specs.RunCores.{core_of, HasOutputsAt}
 use Rattle.flame_progress.specs.RunCounts.{Counted}
+use Rattle.flame_progress.specs.Tallying.{Came, Tallies}
+use Rattle.flame_progress.proofs.Written.{on_err}
 use Rattle.flame_progress.proofs.Tallied.{came, counted_frozen, mark_set}
 use Rattle.flame_progress.proofs.events.freeze.Goals as goal
 
@@ -20,16 +23,19 @@ same_outputs : (old new : Progress) → new.statuses.items ≡ old.statuses.item
 same_outputs old new same f outputs has =
     let P : List Status → Type 0 = λ l. HasOutputs outputs (slice_index_or l f Waiting) in subst P (sym same) has
 
-pub returns-in_err-freeze : goal.returns-in_err-freeze
-returns-in_err-freeze c = λ round tallies.
-    let core = core_of c.args.progress.now in
-    came round.source.model c.args.progress.now c.freeze.new.self c.args.counts.now c.args.counts.now core
-    c.in_err-freeze.ensures.err refl refl
-    (λ g has. same_outputs c.args.progress.now c.freeze.new.self c.in_err-freeze.ensures.statuses g (outputs_of round.source.model g) has)
-    tallies tallies.counted
+pub returns-in_err-freeze-clause-err : goal.returns-in_err-freeze-clause-err
+returns-in_err-freeze-clause-err c =
+    let old = c.args.progress.now in
+    let counts = c.args.counts.now in
+    let kept : (round : Round) → Tallies round.source.model old counts → Came round.source.model (core_of old) c.freeze.new.self counts =
+    λ round tallies.
+    came round.source.model old c.freeze.new.self counts counts (core_of old) c.in_err-freeze.ensures.err refl refl
+    (λ g has. same_outputs old c.freeze.new.self c.in_err-freeze.ensures.statuses g (outputs_of round.source.model g) has)
+    tallies tallies.counted in
+    on_err c.from_residual.result kept
 
-pub returns : goal.returns
-returns c = λ round pieces tallies legal.
+pub returns-clause-ok : goal.returns-clause-ok
+returns-clause-ok c = λ round pieces tallies legal.
     let model = round.source.model in
     let core = core_of c.args.progress.now in
     let m = c.args.message in

@@ -4,6 +4,7 @@ use Rattle.std.specs.Prelude.{slice_set, slice_get}
 use Rattle.std.proofs.lemmas.List.{length-map}
 use Rattle.flame_rows.specs.Bags.{merge}
 use Rattle.flame_world.specs.Fields.{changed}
+use Rattle.flame_world.specs.Iterations.{Round}
 use Rattle.flame_events.specs.CoreStates.{Status, Open, Core, is_shut, status_of, work_of, works_of}
 use Rattle.flame_events.specs.EventSteps.{handed_in, joined_board, with_work}
 use Rattle.flame_events.specs.LegalEvents.{outputs_of}
@@ -11,19 +12,24 @@ use Rattle.flame_events.proofs.Sound.{opens_with}
 use Rattle.flame_pieces.specs.RunStatuses.{status_of as kept_status}
 use Rattle.flame_progress.specs.RunCores.{core_of}
 use Rattle.flame_progress.specs.RunWorkEvents.{without}
-use Rattle.flame_progress.proofs.Kinds.{may_hand_in_is}
+use Rattle.flame_progress.proofs.Known.{may_hand_in_is}
+use Rattle.flame_progress.specs.declared.counts.Counts.{Counts}
+use Rattle.flame_progress.specs.Tallying.{Came, Tallies}
+use Rattle.flame_progress.proofs.Written.{on_err}
 use Rattle.flame_progress.proofs.Tallied.{came, counted_kept, status_kept}
 use Rattle.flame_progress.proofs.events.hand_in.Goals as goal
 
-pub returns-in_err-hand_in : goal.returns-in_err-hand_in
-returns-in_err-hand_in c = λ round counts tallies.
-    let core = core_of c.args.progress.now in
-    came round.source.model c.args.progress.now c.hand_in.new.self counts counts core
-    c.in_err-hand_in.ensures.err refl refl
-    (λ g has. c.in_err-hand_in.ensures.outputs g (outputs_of round.source.model g) has) tallies tallies.counted
+pub returns-in_err-hand_in-clause-err : goal.returns-in_err-hand_in-clause-err
+returns-in_err-hand_in-clause-err c =
+    let old = c.args.progress.now in
+    let kept : (round : Round) (counts : Counts) → Tallies round.source.model old counts → Came round.source.model (core_of old) c.hand_in.new.self counts =
+    λ round counts tallies.
+    came round.source.model old c.hand_in.new.self counts counts (core_of old) c.in_err-hand_in.ensures.err refl refl
+    (λ g has. c.in_err-hand_in.ensures.outputs g (outputs_of round.source.model g) has) tallies tallies.counted in
+    on_err c.from_residual.result kept
 
-pub returns : goal.returns
-returns c = λ round pieces counts tallies legal.
+pub returns-clause-ok : goal.returns-clause-ok
+returns-clause-ok c = λ round pieces counts tallies legal.
     let model = round.source.model in
     let core = core_of c.args.progress.now in
     let f = c.args.function in

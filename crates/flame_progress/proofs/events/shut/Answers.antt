@@ -9,12 +9,12 @@ use Rattle.flame_pieces.specs.RunStatuses.{status_of as kept_status}
 use Rattle.flame_progress.specs.declared.counts.Counts.{Counts}
 use Rattle.flame_progress.specs.RunCores.{core_of}
 use Rattle.flame_progress.specs.RunCounts.{Counted}
-use Rattle.flame_progress.proofs.Kinds.{may_shut_is}
+use Rattle.flame_progress.proofs.Known.{may_shut_is}
 use Rattle.flame_progress.proofs.Tallied.{came, counted_kept, counted_shut, status_kept, status_shut}
 use Rattle.flame_progress.proofs.events.shut.Goals as goal
 
-pub returns-then-not-is_shut : goal.returns-then-not-is_shut
-returns-then-not-is_shut c = λ round pieces tallies legal.
+pub returns-else-is_shut : goal.returns-else-is_shut
+returns-else-is_shut c = λ round pieces tallies legal.
     let model = round.source.model in
     let core = core_of c.args.progress.now in
     let f = c.args.function in
@@ -23,14 +23,14 @@ returns-then-not-is_shut c = λ round pieces tallies legal.
     let next : Core = record core { statuses = slice_set core.statuses f v } in
     let now : is_shut v ≡ false =
     ap is_shut (sym (get_or-set_same core.statuses f v Waiting less))
-    ∙ ap (λ (k : Core). is_shut (status_of k f)) (sym c.shut.ensures.core) ∙ sym c.if-not-is_shut.ensures in
+    ∙ ap (λ (k : Core). is_shut (status_of k f)) (sym c.shut.ensures.core) ∙ sym c.if-is_shut.ensures in
     let was : is_shut (status_of core f) ≡ false = ap is_shut (may_shut_is (outputs_of model f) (status_of core f) legal) in
     came model c.args.progress.now c.shut.new.self c.args.counts.now c.args.counts.now next c.shut.ensures.core
     (length-set core.statuses f v) refl (λ g has. c.shut.ensures.outputs g (outputs_of model g) has) tallies
     (counted_kept model core next c.args.counts.now (status_kept is_shut core.statuses f v less (now ∙ sym was)) refl tallies.counted)
 
-pub returns : goal.returns
-returns c = λ round pieces tallies legal.
+pub returns-then-is_shut : goal.returns-then-is_shut
+returns-then-is_shut c = λ round pieces tallies legal.
     let model = round.source.model in
     let core = core_of c.args.progress.now in
     let f = c.args.function in
@@ -39,10 +39,10 @@ returns c = λ round pieces tallies legal.
     let next : Core = record core { statuses = slice_set core.statuses f v } in
     let now : is_shut v ≡ true =
     ap is_shut (sym (get_or-set_same core.statuses f v Waiting less))
-    ∙ ap (λ (k : Core). is_shut (status_of k f)) (sym c.shut.ensures.core) ∙ sym c.if-not-is_shut.ensures in
+    ∙ ap (λ (k : Core). is_shut (status_of k f)) (sym c.shut.ensures.core) ∙ sym c.if-is_shut.ensures in
     let P : Counts → Type 0 = λ counts. Counted model next counts in
-    came model c.args.progress.now c.shut.new.self c.args.counts.now c.shut-2.new.self next c.shut.ensures.core
+    came model c.args.progress.now c.shut.new.self c.args.counts.now c.shut-then-is_shut.new.self next c.shut.ensures.core
     (length-set core.statuses f v) refl (λ g has. c.shut.ensures.outputs g (outputs_of model g) has) tallies
-    (subst P (sym c.shut-2.ensures)
+    (subst P (sym c.shut-then-is_shut.ensures)
     (counted_shut model core next c.args.counts.now f (omega (arith, c.requires.known, tallies.functions))
     (status_shut core.statuses f v less now) refl tallies.counted))

@@ -2,7 +2,7 @@ use Rattle.std.proofs.Common.{◌≡◌, false, sym, ap, ◌∙◌, map}
 use Rattle.flame_rows.specs.Bags.{merge}
 use Rattle.flame_progress.specs.RunBoards.{board_bag, is_board_frozen}
 use Rattle.flame_progress.proofs.Changed.{map-at, map-written}
-use Rattle.flame_progress.proofs.Written.{map-kept}
+use Rattle.flame_progress.proofs.Written.{map-kept, on_err}
 use Rattle.flame_progress.proofs.handing.hand_over_at.Goals as goal
 
 pub hand_over_function-requires-clause-gathers : goal.hand_over_function-requires-clause-gathers
@@ -20,8 +20,10 @@ returns-in_err-hand_over_function-clause-frozen c =
 
 pub returns-in_err-hand_over_function-clause-same_boards : goal.returns-in_err-hand_over_function-clause-same_boards
 returns-in_err-hand_over_function-clause-same_boards c =
+    on_err _ (
     map-kept board_bag c.args.boards.now.items c.args.message c.index_mut.result.now c.hand_over_function.new.board
     c.requires.known c.index_mut.ensures.value c.in_err-hand_over_function.ensures.same_board
+    )
 
 pub returns-clause-boards : goal.returns-clause-boards
 returns-clause-boards c = λ outputs work rows has there part.

@@ -9,8 +9,8 @@ use Rattle.flame_pieces.specs.RunWorks.{work_of, outputs_in}
 use Rattle.flame_progress.specs.RunBoards.{board_bag}
 use Rattle.flame_progress.specs.RunWorkEvents.{without}
 use Rattle.flame_progress.proofs.Gathered.{merge-ascending}
-use Rattle.flame_progress.proofs.Kinds.{outputs_kept, part_is}
-use Rattle.flame_progress.proofs.Written.{got_is, map-kept}
+use Rattle.flame_progress.proofs.Known.{outputs_kept, part_is}
+use Rattle.flame_progress.proofs.Written.{got_is, map-kept, on_err}
 use Rattle.flame_progress.proofs.handing.hand_over_piece.Goals as goal
 
 pub hand_over-requires-clause-once : goal.hand_over-requires-clause-once
@@ -25,8 +25,10 @@ returns-in_err-hand_over-clause-outputs c = λ outputs all.
 
 pub returns-in_err-hand_over-clause-same_works : goal.returns-in_err-hand_over-clause-same_works
 returns-in_err-hand_over-clause-same_works c =
+    on_err _ (
     map-kept work_of c.args.works.now.items c.args.piece c.index_mut.result.now c.hand_over.new.work
     c.requires.there c.index_mut.ensures.value c.in_err-hand_over.ensures.same_work
+    )
 
 pub returns-clause-board : goal.returns-clause-board
 returns-clause-board c = λ outputs work rows all there part.

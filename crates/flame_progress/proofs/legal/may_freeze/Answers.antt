@@ -1,14 +1,14 @@
 use Rattle.std.proofs.Common.{◌≡◌, true, false, sym, ap, ◌∙◌, arith}
 use Rattle.std.specs.Prelude.{◌&&◌, not}
 use Rattle.flame_pieces.specs.Waiting.{is_free}
-use Rattle.flame_progress.proofs.Legal.{may_freeze_is, may_not_freeze}
+use Rattle.flame_progress.proofs.Allowing.{may_freeze_is, may_not_freeze}
 use Rattle.flame_progress.proofs.legal.may_freeze.Goals as goal
 
 pub is_free-requires : goal.is_free-requires
 is_free-requires c = omega (arith, c.requires.outputs)
 
-pub returns-then-message-ge : goal.returns-then-message-ge
-returns-then-message-ge c = λ model tallies.
+pub returns-then-message-len : goal.returns-then-message-len
+returns-then-message-len c = λ model tallies.
     sym (may_not_freeze model c.args.progress.now c.args.counts.now tallies c.args.message (omega arith))
 
 pub returns-then-is_frozen : goal.returns-then-is_frozen

@@ -3,7 +3,7 @@ use Rattle.std.specs.Prelude.{◌&&◌}
 use Rattle.flame_events.specs.CoreStates.{is_waiting, status_of}
 use Rattle.flame_pieces.specs.Waiting.{is_free}
 use Rattle.flame_progress.specs.RunCores.{core_of}
-use Rattle.flame_progress.proofs.Legal.{may_not_open, may_open_is}
+use Rattle.flame_progress.proofs.Allowing.{may_not_open, may_open_is}
 use Rattle.flame_progress.proofs.legal.may_open.Goals as goal
 
 pub is_free-requires : goal.is_free-requires
@@ -12,8 +12,8 @@ is_free-requires c = omega (arith, c.requires.functions)
 pub is_free-requires-2 : goal.is_free-requires-2
 is_free-requires-2 c = omega (arith, c.requires.inputs)
 
-pub returns-then-function-ge : goal.returns-then-function-ge
-returns-then-function-ge c = λ model tallies.
+pub returns-then-function-len : goal.returns-then-function-len
+returns-then-function-len c = λ model tallies.
     sym (may_not_open model c.args.progress.now c.args.counts.now tallies c.args.function (omega arith))
 
 pub returns-then-not-is_waiting : goal.returns-then-not-is_waiting
@@ -35,4 +35,4 @@ returns c = λ model tallies.
     let counts = c.args.counts.now in
     let f = c.args.function in
     sym (may_open_is model c.args.progress.now counts tallies f (omega arith)
-    ∙ (λ i. (sym c.if-not-is_waiting.ensures i && sym c.if-not-is_free.ensures i) && sym c.is_free.ensures i))
+    ∙ (λ i. (sym c.if-not-is_waiting.ensures i && sym c.if-not-is_free.ensures i) && sym c.is_free-2.ensures i))

@@ -4,8 +4,8 @@ use Rattle.std.proofs.lemmas.List.{map-set}
 use Rattle.flame_events.specs.CoreStates.{Work}
 use Rattle.flame_pieces.specs.RunWorks.{work_of, outputs_in}
 use Rattle.flame_progress.specs.RunWorkEvents.{added}
-use Rattle.flame_progress.proofs.Kinds.{are_left_is, outputs_kept}
-use Rattle.flame_progress.proofs.Written.{got_is, got_within, map-kept}
+use Rattle.flame_progress.proofs.Known.{are_left_is, outputs_kept}
+use Rattle.flame_progress.proofs.Written.{got_is, got_within, map-kept, on_err}
 use Rattle.flame_progress.proofs.settling.settle_piece.Goals as goal
 
 pub index_mut-requires : goal.index_mut-requires
@@ -35,8 +35,10 @@ pub returns-in_err-settle_at-clause-same_works : goal.returns-in_err-settle_at-c
 returns-in_err-settle_at-clause-same_works c =
     let works = c.args.works.now.items in
     let runs = are_left_is c.args.leaving.ran (map work_of works) c.args.piece c.requires.left in
+    on_err _ (
     map-kept work_of works c.args.piece c.index_mut.result.now c.settle_at.new.work
     (got_within work_of works c.args.piece runs.work runs.there) c.index_mut.ensures.value c.in_err-settle_at.ensures.same_work
+    )
 
 pub returns-clause-works : goal.returns-clause-works
 returns-clause-works c = λ outputs work all there.

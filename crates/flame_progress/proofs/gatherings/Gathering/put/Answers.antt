@@ -8,5 +8,5 @@ pub returns : goal.returns
 returns c =
     let own = c.args.self.now.rows.items in
     let more = c.args.rows.items in
-    let joined = c.append-_room.ensures.items ∙ ap (λ (b : Bool). cond b (own ++ more) own) (c.append-_room.ensures.succeeds c.requires) in
+    let joined = c.append-room.ensures.items ∙ ap (λ (b : Bool). cond b (own ++ more) own) (c.append-room.ensures.succeeds c.requires) in
     ap ascending joined ∙ ascending-append own more ∙ sym (merge-ascending (bag_of c.args.self.now) more)

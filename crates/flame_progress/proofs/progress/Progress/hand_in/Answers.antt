@@ -1,13 +1,14 @@
 use Rattle.std.proofs.Common.{◌≡◌, ◌<◌, length, ap, ◌∙◌, map, refl, sym, subst, arith}
 use Rattle.std.specs.Prelude.{slice_get, slice_set}
-use Rattle.flame_events.specs.CoreStates.{Status, Open, status_of, works_of}
+use Rattle.flame_events.specs.CoreStates.{Status, Open, Core, status_of, works_of}
 use Rattle.flame_pieces.specs.declared.statuses.Status as kept
 use Rattle.flame_pieces.specs.declared.statuses.Status.TheVariants as is
 use Rattle.flame_pieces.specs.RunStatuses.{status_of as kept_status}
+use Rattle.flame_progress.specs.RunBoards.{board_bag, is_board_frozen}
 use Rattle.flame_progress.specs.RunCores.{core_of}
 use Rattle.flame_progress.specs.RunWorkEvents.{without, OutputsOnce}
 use Rattle.flame_progress.proofs.Cores.{at_default, outputs_at, outputs_put, status_at, statuses_put}
-use Rattle.flame_progress.proofs.Written.{map-kept}
+use Rattle.flame_progress.proofs.Written.{map-kept, on_err}
 use Rattle.flame_progress.proofs.progress.Progress.hand_in.Goals as goal
 
 pub hand_over_at-requires-clause-there : goal.hand_over_at-requires-clause-there
@@ -34,11 +35,18 @@ returns-in_err-hand_over_at-clause-err c =
     c.requires.known c.index_mut.ensures.value c.in_err-hand_over_at.ensures.same_status in
     let bags = c.in_err-hand_over_at.ensures.same_boards in
     let marks = c.in_err-hand_over_at.ensures.frozen in
+    let same : (let next : Core = record {
+      statuses = map kept_status (slice_set self.statuses.items c.args.function c.hand_over_at.new.status);
+      field = record { pools = core.field.pools; born = core.field.born; boards = map board_bag c.hand_over_at.new.boards.items };
+      frozen = map is_board_frozen c.hand_over_at.new.boards.items;
+    } in next)
+    ≡ core =
     λ i. record {
       statuses = put i;
       field = record { pools = core.field.pools; born = core.field.born; boards = bags i };
       frozen = marks i;
-    }
+    } in
+    on_err c.from_residual.result same
 
 pub returns-clause-ok : goal.returns-clause-ok
 returns-clause-ok c = λ outputs work rows has there part.

@@ -3,12 +3,13 @@ use Rattle.std.specs.Prelude.{slice_get, slice_set}
 use Rattle.flame_rows.specs.Bags.{ascending, merge}
 use Rattle.flame_world.specs.AgentRuns.{births_of}
 use Rattle.flame_world.specs.Fields.{joined}
-use Rattle.flame_events.specs.CoreStates.{Status, Open, status_of, works_of}
+use Rattle.flame_events.specs.CoreStates.{Status, Open, Core, status_of, works_of}
 use Rattle.flame_pieces.specs.RunStatuses.{status_of as kept_status}
+use Rattle.flame_progress.specs.RunPools.{pools_of}
 use Rattle.flame_progress.specs.RunCores.{core_of}
 use Rattle.flame_progress.specs.RunWorkEvents.{added, are_left}
 use Rattle.flame_progress.proofs.Cores.{born_more, none_same, outputs_at, outputs_put, pools_long, status_at, statuses_put}
-use Rattle.flame_progress.proofs.Written.{map-kept}
+use Rattle.flame_progress.proofs.Written.{map-kept, on_err}
 use Rattle.flame_progress.proofs.progress.Progress.settle.Goals as goal
 
 pub settle_function-requires-clause-left : goal.settle_function-requires-clause-left
@@ -31,11 +32,22 @@ returns-in_err-settle_function-clause-err c =
     let pools = c.in_err-settle_function.ensures.same_pools in
     let none = none_same self.pools c.settle_function.new.pools (ap (λ l. length l) pools) in
     let born = c.in_err-settle_function.ensures.same_born in
+    let same : (let next : Core = record {
+      statuses = map kept_status (slice_set self.statuses.items c.args.function c.settle_function.new.status);
+      field = record {
+        pools = pools_of c.settle_function.new.pools;
+        born = joined (births_of c.settle_function.new.born.items) (map (λ own. []) c.settle_function.new.pools.items);
+        boards = core.field.boards;
+      };
+      frozen = core.frozen;
+    } in next)
+    ≡ core =
     λ i. record {
       statuses = put i;
       field = record { pools = pools i; born = joined (births_of (born i)) (none i); boards = core.field.boards };
       frozen = core.frozen;
-    }
+    } in
+    on_err c.from_residual.result same
 
 pub returns-clause-ok : goal.returns-clause-ok
 returns-clause-ok c = λ outputs work has there.

@@ -1,0 +1,14 @@
+use Rattle.std.proofs.Common.{subst}
+use Rattle.flame_pieces.specs.declared.statuses.Status.{Status}
+use Rattle.flame_pieces.specs.RunStatuses.{HasOutputs}
+use Rattle.flame_progress.proofs.handing.hand_over_function.Goals as goal
+
+pub returns-in_err-hand_over_piece-in-Open-clause-outputs : goal.returns-in_err-hand_over_piece-in-Open-clause-outputs
+returns-in_err-hand_over_piece-in-Open-clause-outputs c = λ outputs has.
+    let P : Status → Type 0 = λ s. HasOutputs outputs s in
+    c.in_err-hand_over_piece-in-Open.ensures.outputs outputs (subst P c.in-Open.is has)
+
+pub returns-clause-outputs : goal.returns-clause-outputs
+returns-clause-outputs c = λ outputs has.
+    let P : Status → Type 0 = λ s. HasOutputs outputs s in
+    c.in_ok-hand_over_piece-in-Open.ensures.outputs outputs (subst P c.in-Open.is has)
