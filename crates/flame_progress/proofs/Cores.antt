@@ -6,15 +6,13 @@ use Rattle.std.proofs.lemmas.List.{length-map, map-set}
 use Rattle.flame_spec.specs.declared.outcomes.Born.{Born}
 use Rattle.flame_world.specs.AgentRuns.{births_of}
 use Rattle.flame_world.specs.Fields.{changed, changed_pool, joined}
-use Rattle.flame_events.specs.CoreStates.{Work, Status, Waiting, Open, status_of, works_of}
+use Rattle.flame_events.specs.CoreStates.{Status, Waiting}
 use Rattle.flame_events.proofs.Pools.{length-changed}
 use Rattle.flame_pieces.specs.declared.statuses.Status as kept
 use Rattle.flame_pieces.specs.declared.statuses.Status.TheVariants as is
 use Rattle.flame_pieces.specs.RunStatuses.{status_of as kept_status, HasOutputs}
 use Rattle.flame_progress.specs.declared.gatherings.Gathering.{Gathering}
-use Rattle.flame_progress.specs.declared.progress.Progress.{Progress}
 use Rattle.flame_progress.specs.RunPools.{pools_of, bags_of}
-use Rattle.flame_progress.specs.RunCores.{HasOutputsAt}
 use Rattle.flame_progress.proofs.Borne.{joined-later}
 use Rattle.flame_progress.proofs.Changed.{map-at}
 

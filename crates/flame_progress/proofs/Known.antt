@@ -1,16 +1,15 @@
 -- What is known of a function from what it may do.
 use Rattle.std.proofs.Common.{◌≡◌, ℕ, zero, suc, ◌+◌, ◌<◌, ◌≤◌, Bool, true, false, cond, List, [], ◌∷◌, length, map, get_or, Option, Some, None, refl, sym, ap, ◌∙◌, subst, arith, ⊎_elim}
-use Rattle.std.specs.Prelude.{ℤ, ◌==◌, ◌&&◌, not, is_some, slice_get, slice_set, slice_index_or, if◌then◌else◌}
-use Rattle.std.specs.List.{All, list_all, position_or_len}
+use Rattle.std.specs.Prelude.{ℤ, ◌==◌, not, is_some, slice_get, slice_set, slice_index_or, if◌then◌else◌}
+use Rattle.std.specs.List.{All, position_or_len}
 use Rattle.std.proofs.lemmas.Bool.{and_parts, cases_lt, eqb-true, false≢true, leb-true}
-use Rattle.std.proofs.lemmas.List.{length-map}
 use Rattle.std.proofs.lemmas.List.Elements.{All-set}
 use Rattle.flame_rows.specs.Bags.{ascending}
 use Rattle.flame_spec.specs.Below.{HasNoTwice}
 use Rattle.flame_spec.specs.declared.outcomes.Sent.{Sent}
 use Rattle.flame_world.specs.declared.faults.SimFault.{SimFault}
 use Rattle.flame_world.specs.AgentRuns.{messages_of}
-use Rattle.flame_events.specs.CoreStates.{Work, Status, Waiting, Open, Shut, Faulted, is_waiting, is_shut, works_of, part_in, has_left}
+use Rattle.flame_events.specs.CoreStates.{Work, Status, Waiting, Open, Shut, Faulted, is_waiting, works_of, part_in, has_left}
 use Rattle.flame_events.specs.EventSteps.{done_with}
 use Rattle.flame_events.specs.LegalEvents.{may_hand_in, may_shut}
 use Rattle.flame_events.proofs.Sound.{past_waiting}
@@ -18,7 +17,7 @@ use Rattle.flame_pieces.specs.declared.works.Output.{Output}
 use Rattle.flame_pieces.specs.declared.works.Work as run
 use Rattle.flame_pieces.specs.declared.statuses.Status as kept
 use Rattle.flame_pieces.specs.declared.statuses.Status.TheVariants as is
-use Rattle.flame_pieces.specs.RunWorks.{work_of, part_of, outputs_in, messages_in}
+use Rattle.flame_pieces.specs.RunWorks.{part_of, outputs_in, messages_in}
 use Rattle.flame_pieces.specs.RunStatuses.{status_of, HasOutputs}
 use Rattle.flame_progress.specs.RunWorkEvents.{are_left, OutputsOnce}
 

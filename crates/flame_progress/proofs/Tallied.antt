@@ -1,13 +1,12 @@
 -- What is counted, as events come.
-use Rattle.std.proofs.Common.{◌≡◌, ℕ, ◌<◌, ◌≤◌, Bool, true, false, cond, List, [], ◌∷◌, length, map, Option, Some, None, refl, sym, ap, ◌∙◌, subst, arith, ⊎_elim, length-set, get_or-set_same, get_or-set_other}
-use Rattle.std.specs.Prelude.{◌==◌, ◌||◌, ◌&&◌, not, nat_lt, slice_get, slice_set, slice_index_or}
-use Rattle.std.specs.List.{All, list_all}
-use Rattle.std.proofs.lemmas.Bool.{cases_eq, eq-eqb, ne_eqb, false≢true}
+use Rattle.std.proofs.Common.{◌≡◌, ℕ, ◌<◌, Bool, true, false, List, length, sym, ap, ◌∙◌, subst, ⊎_elim, get_or-set_same, get_or-set_other}
+use Rattle.std.specs.Prelude.{◌==◌, ◌||◌, slice_set, slice_index_or}
+use Rattle.std.proofs.lemmas.Bool.{cases_eq, eq-eqb, ne_eqb}
 use Rattle.std.proofs.lemmas.List.{length-map}
 use Rattle.flame_spec.specs.declared.models.Model.{Model}
 use Rattle.flame_spec.specs.Before.{before, function_count}
 use Rattle.flame_spec.specs.Below.{is_in}
-use Rattle.flame_events.specs.CoreStates.{Status, Waiting, Open, Shut, Faulted, is_shut, is_waiting, Core, status_of, works_of, is_frozen}
+use Rattle.flame_events.specs.CoreStates.{Status, Waiting, is_shut, Core, status_of, is_frozen}
 use Rattle.flame_events.specs.LegalEvents.{inputs_of, outputs_of}
 use Rattle.flame_pieces.specs.FreeThings.{Tells}
 use Rattle.flame_pieces.specs.Waiting as kinds

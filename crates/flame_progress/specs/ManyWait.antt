@@ -1,8 +1,5 @@
 -- Many that wait, and many that are waited for.
-use Rattle.std.specs.Prelude.{◌≡◌, ℕ, ◌<◌, List, [], ◌∷◌, Bool, ◌&&◌, ◌||◌, ◌==◌}
-use Rattle.std.specs.List.{All}
-use Rattle.flame_spec.specs.Below.{is_in}
-use Rattle.flame_pieces.specs.FreeThings.{Tells}
+use Rattle.std.specs.Prelude.{ℕ, List, [], ◌∷◌}
 use Rattle.flame_pieces.specs.Waiting.{Waiting, with_waiter}
 
 -- one waits for each of these things [own]

@@ -1,5 +1,5 @@
 -- A board is complete, and what waited for it is told.
-use Rattle.std.proofs.Common.{◌≡◌, ◌<◌, List, true, length, refl, sym, ap, ◌∙◌, subst, arith, length-set}
+use Rattle.std.proofs.Common.{◌≡◌, ◌<◌, List, true, length, refl, sym, subst, arith, length-set}
 use Rattle.std.specs.Prelude.{ℕ, slice_set, slice_index_or}
 use Rattle.std.proofs.lemmas.List.{length-map}
 use Rattle.flame_world.specs.Iterations.{Round}

@@ -1,12 +1,12 @@
 -- Messages of a piece join their board.
 use Rattle.std.proofs.Common.{◌≡◌, ◌<◌, false, length, refl, sym, ap, ◌∙◌, arith, length-set}
-use Rattle.std.specs.Prelude.{slice_set, slice_get}
+use Rattle.std.specs.Prelude.{slice_set}
 use Rattle.std.proofs.lemmas.List.{length-map}
 use Rattle.flame_rows.specs.Bags.{merge}
 use Rattle.flame_world.specs.Fields.{changed}
 use Rattle.flame_world.specs.Iterations.{Round}
 use Rattle.flame_events.specs.CoreStates.{Status, Open, Core, is_shut, status_of, work_of, works_of}
-use Rattle.flame_events.specs.EventSteps.{handed_in, joined_board, with_work}
+use Rattle.flame_events.specs.EventSteps.{handed_in, joined_board}
 use Rattle.flame_events.specs.LegalEvents.{outputs_of}
 use Rattle.flame_events.proofs.Sound.{opens_with}
 use Rattle.flame_pieces.specs.RunStatuses.{status_of as kept_status}

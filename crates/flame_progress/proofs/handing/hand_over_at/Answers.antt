@@ -1,4 +1,4 @@
-use Rattle.std.proofs.Common.{◌≡◌, false, sym, ap, ◌∙◌, map}
+use Rattle.std.proofs.Common.{false, sym, ◌∙◌}
 use Rattle.flame_rows.specs.Bags.{merge}
 use Rattle.flame_progress.specs.RunBoards.{board_bag, is_board_frozen}
 use Rattle.flame_progress.proofs.Changed.{map-at, map-written}

@@ -1,10 +1,10 @@
-use Rattle.std.proofs.Common.{◌≡◌, ◌<◌, length, map, get_or, sym, ap, ◌∙◌, subst}
+use Rattle.std.proofs.Common.{◌≡◌, map, sym, ap, ◌∙◌, subst}
 use Rattle.std.specs.Prelude.{Some, slice_set}
 use Rattle.std.proofs.lemmas.List.{map-set}
-use Rattle.flame_rows.specs.Bags.{ascending, merge}
+use Rattle.flame_rows.specs.Bags.{merge}
 use Rattle.flame_spec.specs.Below.{HasNoTwice}
 use Rattle.flame_world.specs.AgentRuns.{messages_of}
-use Rattle.flame_events.specs.CoreStates.{Work, part_in}
+use Rattle.flame_events.specs.CoreStates.{part_in}
 use Rattle.flame_pieces.specs.RunWorks.{work_of, outputs_in}
 use Rattle.flame_progress.specs.RunBoards.{board_bag}
 use Rattle.flame_progress.specs.RunWorkEvents.{without}

@@ -1,4 +1,4 @@
-use Rattle.std.proofs.Common.{◌≡◌, true, false, sym, ap, ◌∙◌, arith}
+use Rattle.std.proofs.Common.{sym, ap, ◌∙◌, arith}
 use Rattle.std.specs.Prelude.{◌&&◌, not}
 use Rattle.flame_pieces.specs.Waiting.{is_free}
 use Rattle.flame_progress.proofs.Allowing.{may_freeze_is, may_not_freeze}

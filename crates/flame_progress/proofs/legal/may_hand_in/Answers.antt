@@ -1,4 +1,4 @@
-use Rattle.std.proofs.Common.{◌≡◌, Some, sym, ap, ◌∙◌}
+use Rattle.std.proofs.Common.{◌≡◌, Some, ap, ◌∙◌}
 use Rattle.flame_events.specs.LegalEvents.{may_hand_in, outputs_of}
 use Rattle.flame_pieces.specs.RunWorks.{work_of, outputs_in}
 use Rattle.flame_progress.proofs.legal.may_hand_in.Goals as goal

@@ -1,8 +1,6 @@
-use Rattle.std.proofs.Common.{◌≡◌, true, false, sym, ap, ◌∙◌, arith}
+use Rattle.std.proofs.Common.{sym, ap, ◌∙◌, arith}
 use Rattle.std.specs.Prelude.{◌&&◌}
-use Rattle.flame_events.specs.CoreStates.{is_waiting, status_of}
 use Rattle.flame_pieces.specs.Waiting.{is_free}
-use Rattle.flame_progress.specs.RunCores.{core_of}
 use Rattle.flame_progress.proofs.Allowing.{may_not_open, may_open_is}
 use Rattle.flame_progress.proofs.legal.may_open.Goals as goal
 

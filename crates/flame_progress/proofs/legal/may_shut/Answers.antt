@@ -1,4 +1,4 @@
-use Rattle.std.proofs.Common.{◌≡◌, Some, None, sym, ap, ◌∙◌, subst}
+use Rattle.std.proofs.Common.{Some, None, sym, ap, ◌∙◌, subst}
 use Rattle.flame_events.specs.CoreStates.{Waiting}
 use Rattle.flame_events.specs.LegalEvents.{may_shut, outputs_of}
 use Rattle.flame_pieces.specs.declared.statuses.Status as kept

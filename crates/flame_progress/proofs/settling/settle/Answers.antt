@@ -1,4 +1,4 @@
-use Rattle.std.proofs.Common.{◌≡◌, ◌+◌, ◌≤◌, length, sym, ap, ◌∙◌, subst}
+use Rattle.std.proofs.Common.{◌+◌, ◌≤◌, length, sym, ap, ◌∙◌, subst}
 use Rattle.flame_rows.specs.Bags.{ascending, merge}
 use Rattle.flame_events.specs.CoreStates.{Work}
 use Rattle.flame_progress.specs.RunWorkEvents.{added}

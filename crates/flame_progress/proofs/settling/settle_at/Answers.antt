@@ -1,4 +1,3 @@
-use Rattle.std.proofs.Common.{[]}
 use Rattle.flame_rows.specs.Bags.{ascending, merge}
 use Rattle.flame_world.specs.Fields.{changed}
 use Rattle.flame_progress.specs.RunPools.{bags_of}

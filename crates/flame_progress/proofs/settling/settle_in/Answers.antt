@@ -1,4 +1,3 @@
-use Rattle.std.proofs.Common.{[]}
 use Rattle.flame_rows.specs.Bags.{ascending, merge}
 use Rattle.flame_progress.specs.RunPools.{bag_of}
 use Rattle.flame_progress.proofs.Changed.{map-written}

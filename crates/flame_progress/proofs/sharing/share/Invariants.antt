@@ -1,4 +1,4 @@
-use Rattle.std.proofs.Common.{◌≡◌, [], false, length, map, take, slice_index_or}
+use Rattle.std.proofs.Common.{◌≡◌, [], length, map, take, slice_index_or}
 use Rattle.std.specs.Arc.{arc_value}
 use Rattle.flame_progress.specs.RunBoards.{board_bag, is_board_frozen}
 use Rattle.flame_progress.proofs.sharing.share.Given as goal

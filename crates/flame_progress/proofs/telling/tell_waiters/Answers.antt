@@ -1,5 +1,5 @@
-use Rattle.std.proofs.Common.{◌≡◌, ◌+◌, ◌<◌, false, ap, sym, ◌∙◌, drop, arith, get_or}
-use Rattle.flame_pieces.specs.Waiting.{Waiting, thing_at, with_waiter}
+use Rattle.std.proofs.Common.{◌≡◌, ◌+◌, false, ap, sym, ◌∙◌, drop, arith, get_or}
+use Rattle.flame_pieces.specs.Waiting.{Waiting, thing_at}
 use Rattle.flame_progress.specs.ManyWait.{waited_for_by}
 use Rattle.flame_progress.proofs.Waiters.{next_first, still_open}
 use Rattle.flame_progress.proofs.telling.tell_waiters.Goals as goal

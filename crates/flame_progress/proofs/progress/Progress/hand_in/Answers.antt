@@ -1,6 +1,6 @@
-use Rattle.std.proofs.Common.{◌≡◌, ◌<◌, length, ap, ◌∙◌, map, refl, sym, subst, arith}
+use Rattle.std.proofs.Common.{◌≡◌, length, ap, ◌∙◌, map, sym, subst, arith}
 use Rattle.std.specs.Prelude.{slice_get, slice_set}
-use Rattle.flame_events.specs.CoreStates.{Status, Open, Core, status_of, works_of}
+use Rattle.flame_events.specs.CoreStates.{Open, Core, status_of, works_of}
 use Rattle.flame_pieces.specs.declared.statuses.Status as kept
 use Rattle.flame_pieces.specs.declared.statuses.Status.TheVariants as is
 use Rattle.flame_pieces.specs.RunStatuses.{status_of as kept_status}

@@ -1,9 +1,9 @@
-use Rattle.std.proofs.Common.{◌≡◌, [], true, ap, ◌∙◌, length, map, refl, sym, subst}
+use Rattle.std.proofs.Common.{◌≡◌, [], ap, ◌∙◌, length, map}
 use Rattle.std.specs.Prelude.{slice_get, slice_set}
 use Rattle.flame_rows.specs.Bags.{ascending, merge}
 use Rattle.flame_world.specs.AgentRuns.{births_of}
 use Rattle.flame_world.specs.Fields.{joined}
-use Rattle.flame_events.specs.CoreStates.{Status, Open, Core, status_of, works_of}
+use Rattle.flame_events.specs.CoreStates.{Open, Core, status_of, works_of}
 use Rattle.flame_pieces.specs.RunStatuses.{status_of as kept_status}
 use Rattle.flame_progress.specs.RunPools.{pools_of}
 use Rattle.flame_progress.specs.RunCores.{core_of}

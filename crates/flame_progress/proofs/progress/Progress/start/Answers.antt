@@ -1,4 +1,4 @@
-use Rattle.std.proofs.Common.{◌≡◌, ap, ◌∙◌, map, refl}
+use Rattle.std.proofs.Common.{ap, ◌∙◌, map, refl}
 use Rattle.flame_world.specs.AgentRuns.{births_of}
 use Rattle.flame_world.specs.Fields.{changed_pool, joined}
 use Rattle.flame_events.specs.CoreStates.{Open}

@@ -1,4 +1,4 @@
-use Rattle.std.proofs.Common.{◌≡◌, Some, None, ℕ, List, sym, ap, ◌∙◌, subst}
+use Rattle.std.proofs.Common.{Some, None, sym, ap, ◌∙◌, subst}
 use Rattle.std.specs.Prelude.{slice_get}
 use Rattle.flame_events.specs.CoreStates.{Status, Waiting, works_of}
 use Rattle.flame_pieces.specs.declared.statuses.Status as kept
