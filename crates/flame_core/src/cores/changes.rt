@@ -12,7 +12,6 @@ use crate::happening::happen;
 use crate::rounds::Round;
 use crate::starting::{bags_copied, begun, counted};
 use flame_events::Event;
-use flame_events::laws::histories_grow;
 use flame_program::Program;
 use flame_rows::NoMemory;
 use flame_world::{Share, World};
@@ -63,7 +62,6 @@ impl<'a> Core<'a> {
         ensures ok { OnOk result (Happened event self.old self.new) }
         ensures err { IfErr result (Refused event self.old self.new) }
     {
-        histories_grow();
         if !self.allows(event) {
             return Err(StepFault::Illegal);
         }
@@ -93,7 +91,6 @@ impl<'a> Core<'a> {
         ensures ok { OnOk result (Absorbed share.entry self.old self.new) }
         ensures err { IfErr result (NotAbsorbed share.entry self.old self.new) }
     {
-        histories_grow();
         let round = Round {
             program: self.program,
             constants: &self.world.constants,

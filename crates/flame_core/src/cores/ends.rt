@@ -8,7 +8,7 @@ use crate::cores::Core;
 use crate::ending::ended;
 use flame_events::laws::every_order;
 use flame_rows::NoMemory;
-use flame_world::Turn;
+use flame_world::{Turn, World};
 use std::alloc::Global;
 
 impl<'a> Core<'a> {
@@ -19,7 +19,14 @@ impl<'a> Core<'a> {
             ≡ meant self.entry.source self.entry.world self.entry.iteration self.entry.fuel) }
     {
         every_order();
-        let _source = self.program.source();
-        ended(alloc, self.program, self.world.constants, self.progress)
+        let Core {
+            program,
+            world,
+            progress,
+            ..
+        } = self;
+        let World { constants, .. } = world;
+        let _source = program.source();
+        ended(alloc, program, constants, progress)
     }
 }
