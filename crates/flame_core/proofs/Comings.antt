@@ -1,10 +1,12 @@
 -- What events that run agents leave, put together from what the body makes.
-use Rattle.std.proofs.Common.{◌≡◌, ℕ, ◌+◌, ◌<◌, ◌≤◌, true, false, Vec, ⊎_elim, get_or-set_same, get_or-set_other, List, [], ◌∷◌, ◌++◌, length, map, Option, Some, None, refl, sym, ap, ◌∙◌, subst, append-nil}
+use Rattle.std.proofs.Common.{◌≡◌, ℕ, ◌+◌, ◌<◌, ◌≤◌, true, false, Vec, ⊎_elim, get_or-set_same, get_or-set_other, List, [], ◌∷◌, ◌++◌, length, map, Option, Some, None, refl, sym, ap, ◌∙◌, subst, append-nil, Result, IfOk}
 use Rattle.std.specs.Global.{Global}
 use Rattle.std.specs.Prelude.{ℤ, ◌&&◌, slice_get, slice_index_or, slice_set, IsTrue}
 use Rattle.std.specs.Option.{option_or}
 use Rattle.std.specs.List.{All, cons_option}
 use Rattle.std.proofs.lemmas.Bool.{and_from, cases_eq}
+use Rattle.std.proofs.lemmas.List.{length-map}
+use Rattle.std.proofs.lemmas.Result.{IfOk-weaker}
 use Rattle.flame_rows.specs.Bags.{ascending, merge}
 use Rattle.flame_spec.specs.declared.models.Model.{Model}
 use Rattle.flame_spec.specs.declared.outcomes.Outcome.{Outcome}
@@ -12,6 +14,7 @@ use Rattle.flame_spec.specs.declared.outcomes.Source.{Source}
 use Rattle.flame_spec.specs.Accepted.{IsAccepted}
 use Rattle.flame_spec.specs.Choice.{takers}
 use Rattle.flame_spec.specs.Functions.{Place, functions}
+use Rattle.flame_world.specs.declared.turns.Turn.{Turn}
 use Rattle.flame_world.specs.declared.worlds.World.{World}
 use Rattle.flame_world.specs.AgentRuns.{born_by, born_from, births_of, fault_by, kept, sent_by, survivors}
 use Rattle.flame_world.specs.Fields.{changed_pool, joined, pool_in, state_place}
@@ -39,6 +42,7 @@ use Rattle.flame_progress.specs.declared.counts.Counts.{Counts}
 use Rattle.flame_progress.specs.declared.leavings.Leaving.{Leaving}
 use Rattle.flame_progress.specs.declared.progress.Progress.{Progress}
 use Rattle.flame_progress.specs.RunCores.{core_of}
+use Rattle.flame_progress.specs.RunPools.{bags_of}
 use Rattle.flame_progress.specs.RunCounts.{Counted}
 use Rattle.flame_progress.specs.RunWorkEvents.{added}
 use Rattle.flame_progress.specs.Tallying.{Came, Tallies}
@@ -109,7 +113,9 @@ agent_is round pieces f k place core work memory leaving agent to at there next 
       parts = with_sent outputs (left.sent_are i) work.parts;
       fault = option_or work.fault (left.fault_is i);
     } in
-    let pools = λ i. changed_pool (agent_same i) (to_same i) (λ pool. merge pool (ascending (left.survivors_are i))) core.field.pools in
+    let pools : changed_pool agent to (λ pool. merge pool (ascending leaving.survivors.items)) core.field.pools
+        ≡ changed_pool place.agent (state_place place.type place.function.next) (λ pool. merge pool (ascending (cons_option (kept outcome) []))) core.field.pools =
+    λ i. changed_pool (agent_same i) (to_same i) (λ pool. merge pool (ascending (left.survivors_are i))) core.field.pools in
     let born : joined (births_of leaving.born.items) core.field.born ≡ joined (births_of (born_by outcome ++ [])) core.field.born =
     ap (λ l. joined (births_of l) core.field.born) (left.born_are ∙ sym (append-nil (born_by outcome))) in
     let made_is : (let made : Core = record core {
@@ -172,6 +178,15 @@ stands_still seen earlier progress counted counts stands came = record {
   tallies = came.tallies;
 }
 
+-- ---- how a core is seen
+
+pub seen_so : (seen : Seen) (core : Core) → core ≡ seen.core → record seen { core = core } ≡ seen
+seen_so seen core same = λ i. record seen { core = same i }
+
+pub seen_when : (seen : Seen) (events : List Event) (core : Core) → core ≡ replay (round_in seen) seen.pieces seen.core events
+    → record seen { core = core } ≡ when_came events seen
+seen_when seen events core same = λ i. record seen { core = same i }
+
 -- ---- what a core comes to
 
 pub ends_so : EveryOrderIsTheIteration → (seen : Seen) → IsAccepted seen.source → IsReached seen
@@ -185,6 +200,23 @@ ends_so every seen accepted reached complete =
     ap (ending round) left
     ∙ (every seen.source seen.world seen.iteration seen.fuel seen.pieces reached.events accepted many reached.some reached.leads.legal).0
     (ap (is_complete seen.source.model) (sym left) ∙ complete)
+
+pub finished : {E : Type 0} → EveryOrderIsTheIteration → (seen entry : Seen) → seen ≡ entry → IsAccepted seen.source → IsReached seen
+    → is_complete entry.source.model entry.core ≡ true → (r : Result Turn E)
+    → IfOk r (λ turn. turn ≡ ending (round_in seen) seen.core)
+    → IfOk r (λ turn. turn ≡ iteration entry.source entry.world entry.iteration entry.fuel)
+finished every seen entry same accepted reached complete r ends =
+    IfOk-weaker r (λ turn. turn ≡ ending (round_in seen) seen.core)
+    (λ turn. turn ≡ iteration entry.source entry.world entry.iteration entry.fuel)
+    (λ turn is.
+    is
+    ∙ ends_so every seen accepted reached (ap (λ (s : Seen). is_complete s.source.model s.core) same ∙ complete)
+    ∙ ap (λ (s : Seen). iteration s.source s.world s.iteration s.fuel) same)
+    ends
+
+pub as_many : (model : Model) (progress : Progress) → FitsCore model (core_of progress) → length model.agents ≡ length progress.pools.items
+as_many model progress fits =
+    zip-length _ model.agents (core_of progress).field.pools fits.field.pools ∙ length-map progress.pools.items bags_of
 
 -- ---- what is kept when a function is opened
 

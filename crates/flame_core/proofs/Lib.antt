@@ -19,3 +19,5 @@ mod Leaving
 mod Running
 mod Allowed
 mod SharedPieces
+mod Done
+mod SameSeen

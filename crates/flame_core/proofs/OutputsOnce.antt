@@ -39,14 +39,12 @@ none_there : (model : Model) (n : ℕ) (names : List (List ℕ)) → ((k : ℕ) 
     → times n (filter_map (number_of model) names) ≡ 0
 none_there model n [] never = refl
 none_there model n (name ∷ names) never =
-    go (number_of model name) refl
+    go (none_there model n names (λ k other at is. never (suc k) other at is)) (number_of model name) refl
   where
-    rest : times n (filter_map (number_of model) names) ≡ 0
-    rest = none_there model n names (λ k other at is. never (suc k) other at is)
-
-    go : (o : Option ℕ) → number_of model name ≡ o → times n (cons_option o (filter_map (number_of model) names)) ≡ 0
-    go None is = rest
-    go (Some m) is =
+    go : times n (filter_map (number_of model) names) ≡ 0
+        → (o : Option ℕ) → number_of model name ≡ o → times n (cons_option o (filter_map (number_of model) names)) ≡ 0
+    go rest None is = rest
+    go rest (Some m) is =
         sum_by-cons (λ x. cond (x == n) 1 0) m (filter_map (number_of model) names)
         ∙ (elim (m == n) as (λ t. (m == n) ≡ t → cond t 1 0 + times n (filter_map (number_of model) names) ≡ 0) [
           | true ↦ λ same. absurd (never 0 name refl (is ∙ ap Some (eqb-true m n same)))
@@ -56,22 +54,18 @@ none_there model n (name ∷ names) never =
 
 once : (model : Model) (names : List (List ℕ)) → AreDistinct names → HasNoTwice (filter_map (number_of model) names)
 once model [] distinct n = omega arith
-once model (name ∷ names) distinct n = go (number_of model name) refl
+once model (name ∷ names) distinct n =
+    go (once model names (λ i k less within. distinct (suc i) (suc k) (omega (arith, less)) (omega (arith, within))) n) (number_of model name) refl
   where
-    later : AreDistinct names
-    later i k less within = distinct (suc i) (suc k) (omega (arith, less)) (omega (arith, within))
-
-    rest : times n (filter_map (number_of model) names) ≤ 1
-    rest = once model names later n
-
     never : number_of model name ≡ Some n → (k : ℕ) (other : List ℕ) → slice_get names k ≡ Some other → number_of model other ≡ Some n → ⊥
     never is k other at too =
         distinct 0 (suc k) (omega arith) (omega (arith, slice_get_within names k other at))
         (one_name model n name other is too ∙ sym (get_or_from_slice_get names k other [] at))
 
-    go : (o : Option ℕ) → number_of model name ≡ o → times n (cons_option o (filter_map (number_of model) names)) ≤ 1
-    go None is = rest
-    go (Some m) is =
+    go : times n (filter_map (number_of model) names) ≤ 1
+        → (o : Option ℕ) → number_of model name ≡ o → times n (cons_option o (filter_map (number_of model) names)) ≤ 1
+    go rest None is = rest
+    go rest (Some m) is =
         let all = sum_by-cons (λ x. cond (x == n) 1 0) m (filter_map (number_of model) names) in
         let bound : cond (m == n) 1 0 + times n (filter_map (number_of model) names) ≤ 1 =
         (elim (m == n) as (λ t. (m == n) ≡ t → cond t 1 0 + times n (filter_map (number_of model) names) ≤ 1) [

@@ -12,11 +12,12 @@ use Rattle.flame_events.proofs.Ends.{unfaulted-cons}
 -- model order has no more functions than there are
 order_after-few : (more n : ℕ) (before : ℕ → ℕ → Bool) (taken : List ℕ) → length (order_after more n before taken) ≤ more + length taken
 order_after-few zero n before taken = omega arith
-order_after-few (suc more) n before taken = go (next n before taken)
+order_after-few (suc more) n before taken = go (λ all. order_after-few more n before all) (next n before taken)
   where
-    go : (o : Option ℕ) → length (with_next o taken (order_after more n before)) ≤ suc more + length taken
-    go None = omega arith
-    go (Some g) = omega (arith, order_after-few more n before (taken ++ g ∷ []), length-append taken (g ∷ []))
+    go : ((all : List ℕ) → length (order_after more n before all) ≤ more + length all)
+        → (o : Option ℕ) → length (with_next o taken (order_after more n before)) ≤ suc more + length taken
+    go rest None = omega arith
+    go rest (Some g) = omega (arith, rest (taken ++ g ∷ []), length-append taken (g ∷ []))
 
 pub order_few : (n : ℕ) (before : ℕ → ℕ → Bool) → length (order n before) ≤ n
 order_few n before = omega (arith, order_after-few n n before [])

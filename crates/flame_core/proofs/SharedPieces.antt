@@ -58,6 +58,17 @@ none_in piece sent (output ∷ outputs) m out =
     ])
     refl out
 
+-- what does not stand in a list is not in it
+none_of : (m : ℕ) (numbers : List ℕ) → times m numbers ≤ 0 → is_in m numbers ≡ false
+none_of m [] none = refl
+none_of m (n ∷ numbers) none =
+    let here = sum_by-cons (λ x. cond (x == m) 1 0) n numbers in
+    (elim (n == m) as (λ t. (n == m) ≡ t → (t || is_in m numbers) ≡ false) [
+      | true ↦ λ same. absurd (omega (arith, none, here, ap {B = ℕ} (λ t. cond t 1 0) same))
+      | false ↦ λ _. none_of m numbers (omega (arith, none, here))
+    ])
+    refl
+
 -- an output stands in one part alone
 pub parts_have : (piece : Piece) (sent : List Sent) (outputs : List ℕ) (m : ℕ) → HasNoTwice outputs → is_in m outputs ≡ true
     → messages_of (in_parts piece sent outputs) m ≡ ascending (messages_of sent m)
@@ -78,24 +89,11 @@ parts_have piece sent (output ∷ outputs) m once among =
     ])
     refl among
   where
-    all : (n : ℕ) → times n (output ∷ outputs) ≡ cond (output == n) 1 0 + times n outputs
-    all n = sum_by-cons (λ x. cond (x == n) 1 0) output outputs
-
     once_later : (n : ℕ) → times n outputs ≤ 1
-    once_later n = omega (arith, once n, all n)
+    once_later n = omega (arith, once n, sum_by-cons (λ x. cond (x == n) 1 0) output outputs)
 
     not_again : (output == m) ≡ true → is_in m outputs ≡ false
-    not_again same = none_of outputs (omega (arith, once m, all m, ap (λ t. cond t 1 0) same))
-
-    none_of : (numbers : List ℕ) → times m numbers ≤ 0 → is_in m numbers ≡ false
-    none_of [] none = refl
-    none_of (n ∷ numbers) none =
-        let here = sum_by-cons (λ x. cond (x == m) 1 0) n numbers in
-        (elim (n == m) as (λ t. (n == m) ≡ t → (t || is_in m numbers) ≡ false) [
-          | true ↦ λ same. absurd (omega (arith, none, here, ap (λ t. cond t 1 0) same))
-          | false ↦ λ _. none_of numbers (omega (arith, none, here))
-        ])
-        refl
+    not_again same = none_of m outputs (omega (arith, once m, sum_by-cons (λ x. cond (x == m) 1 0) output outputs, ap {B = ℕ} (λ t. cond t 1 0) same))
 
 -- ---- parts that messages join
 

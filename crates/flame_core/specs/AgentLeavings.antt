@@ -37,4 +37,4 @@ pub record FitsAgent
   pub there : slice_get (functions model) function ≡ Some place
   pub wide : length memory ≡ width place.type.memory
   pub known : length constants ≡ length model.constants
-  pub boards : AreBoardsFor model place.function.inputs boards
+  pub read : AreBoardsFor model place.function.inputs boards

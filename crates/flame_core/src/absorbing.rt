@@ -4,7 +4,6 @@ ghost use Rattle.std.specs.Prelude.{◌≡◌, ◌↔◌, ◌<◌, ◌++◌, [],
 ghost use Rattle.std.specs.Prelude.{slice_index_or};
 ghost use Rattle.std.specs.Arc.{arc_value};
 ghost use Rattle.std.specs.List.{All, flat_map};
-ghost use Rattle.flame_world.specs.AgentRuns.{messages_of};
 ghost use Rattle.flame_world.specs.Shares.{piece_of, setting_of};
 ghost use Rattle.flame_events.specs.CoreStates.{Work as Meant, work_of};
 ghost use Rattle.flame_events.specs.AbsorbedPieces.{agent_events};
@@ -110,8 +109,7 @@ pub(crate) fn can_absorb(round: &Round<'_>, progress: &Progress, share: &Share<'
 
 /// Adds the messages of this type.
 fn add_messages(sent: &mut Vec<Sent>, message: u32, rows: Vec<Row>) -> Result<(), NoMemory>
-    ensures { OnOk result ((other : ℕ) → messages_of sent.new.items other
-        ≡ messages_of sent.old.items other ++ messages_of (as_sent message rows.items) other) }
+    ensures { OnOk result (sent.new.items ≡ sent.old.items ++ as_sent message rows.items) }
 {
     for row in rows {
         sent.push(Sent { message, row })?;
@@ -137,7 +135,7 @@ pub(crate) fn absorb(
     progress: &mut Progress,
     share: Share<'_>,
 ) -> Result<(), NoMemory>
-    requires can { CanTakeIn round.now (core_of progress.old) share.entry }
+    requires can { CanTakeIn round.now (core_of progress.old) share }
     ensures ok { OnOk result ((pieces : ℕ) (counts : Kept) (work : Meant)
         → Ready round.now pieces progress.old counts
         → work_of (core_of progress.old) (piece_of share.entry).function (piece_of share.entry).number ≡ Some work

@@ -71,17 +71,18 @@ impl<'a> Core<'a> {
             iteration: self.iteration,
             fuel: self.fuel,
         };
-        match happen(
+        let done = happen(
             alloc,
             &round,
             self.pieces,
             &mut self.progress,
             &mut self.counts,
             event,
-        ) {
-            Ok(()) => Ok(()),
-            Err(NoMemory) => Err(StepFault::NoMemory),
+        );
+        if done.is_err() {
+            return Err(StepFault::NoMemory);
         }
+        Ok(())
     }
 
     /// The piece of the share ran: what its Agent events leave. `Illegal` exactly where the share's piece is no piece of an
@@ -100,9 +101,9 @@ impl<'a> Core<'a> {
         if !can_absorb(&round, &self.progress, &share) {
             return Err(StepFault::Illegal);
         }
-        match absorb(alloc, &round, &mut self.progress, share) {
-            Ok(()) => {}
-            Err(_) => return Err(StepFault::NoMemory),
+        let done = absorb(alloc, &round, &mut self.progress, share);
+        if done.is_err() {
+            return Err(StepFault::NoMemory);
         }
         Ok(())
     }

@@ -1,6 +1,6 @@
 //! What a core tells.
 
-ghost use Rattle.std.specs.Prelude.{◌≡◌, ◌<◌, ◌↔◌, Some, None, IfOk, IsTrue, length, option_map, slice_index_or, if◌then◌else◌};
+ghost use Rattle.std.specs.Prelude.{◌≡◌, ◌<◌, ◌↔◌, [], Some, None, IfOk, IsTrue, length, option_map, slice_index_or, if◌then◌else◌};
 ghost use Rattle.flame_events.specs.CoreEnds.{is_complete, least_fault_rank};
 ghost use Rattle.flame_events.specs.CoreStates.{is_frozen, status_of, works_of};
 ghost use Rattle.flame_core.specs.CoreCalls.{allows, BeganWith, IsPieceOf};
@@ -86,13 +86,14 @@ impl<'a> Core<'a> {
             fuel: self.fuel,
             pieces: self.pieces,
         };
-        own.same(&Start {
+        let other = Start {
             program,
             world,
             iteration,
             fuel,
             pieces,
-        })
+        };
+        own.same(&other)
     }
 
     /// Whether all functions are shut that are wanted: those of a rank below the least of a function that is faulted, and all

@@ -5,8 +5,8 @@ use Rattle.flame_progress.proofs.Changed.{map-written}
 use Rattle.flame_core.proofs.Past.{changed-past}
 use Rattle.flame_core.proofs.ending.bear_one.Goals as goal
 
-pub returns-then-birth-agent-ge : goal.returns-then-birth-agent-ge
-returns-then-birth-agent-ge c = sym (changed-past bag_of c.args.birth.agent (λ bag. merge bag (c.args.birth.row ∷ [])) c.args.born.now.items (omega arith))
+pub returns-then-birth-len : goal.returns-then-birth-len
+returns-then-birth-len c = sym (changed-past bag_of c.args.birth.agent (λ bag. merge bag (c.args.birth.row ∷ [])) c.args.born.now.items (omega arith))
 
 pub returns : goal.returns
 returns c =

@@ -1,4 +1,5 @@
 use Rattle.std.proofs.Common.{◌≡◌, ◌∙◌, ap, length, sym, None, Some, Err, Ok}
+use Rattle.flame_spec.specs.declared.outcomes.Source.{Source}
 use Rattle.flame_world.specs.Fields.{Field, gathered}
 use Rattle.flame_world.specs.Iterations.{turn_of, unless_faulted}
 use Rattle.flame_events.specs.CoreEnds.{first_fault}
@@ -7,7 +8,7 @@ use Rattle.flame_core.proofs.Finished.{done_is}
 use Rattle.flame_core.proofs.ending.ended.Goals as goal
 
 pub closed-requires : goal.closed-requires
-closed-requires c = ap length c.items-agents.ensures ∙ c.requires ∙ sym c.taken_first.ensures.pools
+closed-requires c = ap length c.items-agents.ensures ∙ ap (λ (s : Source). length s.model.agents) c.source.ensures.same ∙ c.requires ∙ sym c.taken_first.ensures.pools
 
 pub returns-in-Some : goal.returns-in-Some
 returns-in-Some c =
@@ -16,11 +17,11 @@ returns-in-Some c =
     sym (ap (λ o. turn_of c.args.constants (unless_faulted o core.field))
     (sym (ap (first_fault core) order) ∙ sym c.taken_first.ensures.fault ∙ c.in-Some.is))
 
-pub returns-in_ok-closed-in-None : goal.returns-in_ok-closed-in-None
-returns-in_ok-closed-in-None c =
+pub returns-in_ok-world-in-None : goal.returns-in_ok-world-in-None
+returns-in_ok-world-in-None c =
     let core = core_of c.args.progress in
     let order = c.items.ensures ∙ c.plan.ensures.order in
-    let closed = c.in_ok-closed-in-None.ensures in
+    let closed = c.in_ok-world-in-None.ensures in
     done_is c.args.constants core.field _ _ closed.constants (closed.world ∙ ap gathered c.taken_first.ensures.field)
     (closed.boards ∙ ap (λ (f : Field). f.boards) c.taken_first.ensures.field)
     ∙ sym (ap (λ o. turn_of c.args.constants (unless_faulted o core.field))

@@ -6,6 +6,7 @@ use Rattle.flame_events.specs.EventSteps.{after}
 use Rattle.flame_progress.specs.RunCores.{core_of}
 use Rattle.flame_progress.specs.Tallying.{Came}
 use Rattle.flame_core.specs.RunSteps.{round_of}
+use Rattle.flame_progress.proofs.Written.{on_err}
 use Rattle.flame_core.proofs.Allowed.{can_freeze, can_hand_in, can_shut}
 use Rattle.flame_core.proofs.happening.happen.Goals as goal
 
@@ -69,3 +70,48 @@ pub freeze-requires-clause-inputs : goal.freeze-requires-clause-inputs
 freeze-requires-clause-inputs c =
     (can_freeze c.args.round.now.program.now.model c.args.progress.now c.args.counts.now c.requires.ready.tallies c.in-Freeze.message
     (ap (is_legal c.args.round.now.program.now.model (core_of c.args.progress.now)) (sym c.in-Freeze.is) ∙ c.requires.legal)).inputs
+
+pub returns-in_err-hand_in-in-HandIn-clause-err : goal.returns-in_err-hand_in-in-HandIn-clause-err
+returns-in_err-hand_in-in-HandIn-clause-err c =
+    let model = c.args.round.now.program.now.model in
+    let kept : Came model (core_of c.args.progress.now) c.hand_in.new.progress c.args.counts.now =
+    c.in_err-hand_in-in-HandIn.ensures.err (round_of c.args.round.now) c.args.counts.now c.requires.ready.tallies in
+    on_err c.from_residual-in_err-hand_in-in-HandIn.result kept
+
+pub returns-in_err-freeze-in-Freeze-clause-err : goal.returns-in_err-freeze-in-Freeze-clause-err
+returns-in_err-freeze-in-Freeze-clause-err c =
+    let model = c.args.round.now.program.now.model in
+    let kept : Came model (core_of c.args.progress.now) c.freeze.new.progress c.freeze.new.counts =
+    c.in_err-freeze-in-Freeze.ensures.err (round_of c.args.round.now) c.requires.ready.tallies in
+    on_err c.from_residual-in_err-freeze-in-Freeze.result kept
+
+pub returns-in_ok-hand_in-in-HandIn-clause-ok : goal.returns-in_ok-hand_in-in-HandIn-clause-ok
+returns-in_ok-hand_in-in-HandIn-clause-ok c =
+    let model = c.args.round.now.program.now.model in
+    let core = core_of c.args.progress.now in
+    let round = round_of c.args.round.now in
+    let P : Event → Type 0 = λ e. Came model (after round c.args.pieces core e) c.hand_in.new.progress c.args.counts.now in
+    let is = c.in-HandIn.is in
+    subst P (sym is)
+    (c.in_ok-hand_in-in-HandIn.ensures.ok round c.args.pieces c.args.counts.now c.requires.ready.tallies
+    (ap (is_legal model core) (sym is) ∙ c.requires.legal))
+
+pub returns-in-Shut-clause-ok : goal.returns-in-Shut-clause-ok
+returns-in-Shut-clause-ok c =
+    let model = c.args.round.now.program.now.model in
+    let core = core_of c.args.progress.now in
+    let round = round_of c.args.round.now in
+    let P : Event → Type 0 = λ e. Came model (after round c.args.pieces core e) c.shut.new.progress c.shut.new.counts in
+    let is = c.in-Shut.is in
+    subst P (sym is)
+    (c.shut.ensures round c.args.pieces c.requires.ready.tallies (ap (is_legal model core) (sym is) ∙ c.requires.legal))
+
+pub returns-in_ok-freeze-in-Freeze-clause-ok : goal.returns-in_ok-freeze-in-Freeze-clause-ok
+returns-in_ok-freeze-in-Freeze-clause-ok c =
+    let model = c.args.round.now.program.now.model in
+    let core = core_of c.args.progress.now in
+    let round = round_of c.args.round.now in
+    let P : Event → Type 0 = λ e. Came model (after round c.args.pieces core e) c.freeze.new.progress c.freeze.new.counts in
+    let is = c.in-Freeze.is in
+    subst P (sym is)
+    (c.in_ok-freeze-in-Freeze.ensures.ok round c.args.pieces c.requires.ready.tallies (ap (is_legal model core) (sym is) ∙ c.requires.legal))

@@ -12,7 +12,7 @@ left_under-requires-clause-fits c = record {
   there = c.requires.there;
   wide = c.requires.wide;
   count = c.requires.known;
-  boards = c.requires.boards;
+  boards = c.requires.read;
 }
 
 pub returns : goal.returns

@@ -23,8 +23,8 @@ use Rattle.flame_core.proofs.Comings.{open_is, opened_counted, opened_has}
 use Rattle.flame_core.proofs.Stepped.{has-route}
 use Rattle.flame_core.proofs.happening.open_function.Goals as goal
 
-pub route_of-requires : goal.route_of-requires
-route_of-requires c = (can_open c.args.round.now.program.now.model (core_of c.args.progress.now) c.args.function c.requires.legal).below
+pub route_of-route-requires : goal.route_of-route-requires
+route_of-route-requires c = (can_open c.args.round.now.program.now.model (core_of c.args.progress.now) c.args.function c.requires.legal).below
 
 pub pool-requires : goal.pool-requires
 pool-requires c =
@@ -42,8 +42,8 @@ start-requires-clause-there c =
     let model = c.args.round.now.program.now.model in
     (has-route model c.args.function c.route_of-route.result.now (core_of c.args.progress.now).field c.route_of-route.ensures c.requires.ready.fits.field).from
 
-pub returns : goal.returns
-returns c =
+pub returns-clause-ok : goal.returns-clause-ok
+returns-clause-ok c =
     let round = round_of c.args.round.now in
     let model = c.args.round.now.program.now.model in
     let f = c.args.function in

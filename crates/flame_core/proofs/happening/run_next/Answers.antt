@@ -18,6 +18,8 @@ use Rattle.flame_progress.specs.declared.progress.Progress.{Progress}
 use Rattle.flame_progress.specs.RunBoards.{board_bag, is_board_frozen}
 use Rattle.flame_progress.specs.RunCores.{core_of}
 use Rattle.flame_progress.specs.RunWorkEvents.{added, are_left}
+use Rattle.flame_progress.specs.Tallying.{Came}
+use Rattle.flame_progress.proofs.Written.{on_err}
 use Rattle.flame_progress.proofs.Known.{open_within}
 use Rattle.flame_progress.proofs.Tallied.{came, counted_kept, status_kept}
 use Rattle.flame_core.specs.AgentLeavings.{HasNext, IsNext}
@@ -28,8 +30,8 @@ use Rattle.flame_core.proofs.Running.{inputs_frozen, inputs_known, next_wide, ru
 use Rattle.flame_core.proofs.Stepped.{frozen-named, frozen-wide, has-route}
 use Rattle.flame_core.proofs.happening.run_next.Goals as goal
 
-pub route_of-requires : goal.route_of-requires
-route_of-requires c =
+pub route_of-route-requires : goal.route_of-route-requires
+route_of-route-requires c =
     running_below c.args.round.now.program.now.model c.args.progress.now c.args.counts.now c.args.function c.args.piece
     c.requires.ready.tallies c.requires.legal
 
@@ -67,7 +69,7 @@ next_leaving-requires-clause-fits c = λ memory next.
       there = goes.there;
       wide = next_wide model core c.args.function c.args.piece goes.place memory c.requires.ready.fits goes.there (subst P same next);
       known = c.requires.ready.known;
-      boards =
+      read =
           frozen-wide model goes.place c.route_of-route.result.now.inputs core.field.boards _ c.requires.ready.fits.field.boards
           goes.routed.inputs read;
     }
@@ -104,8 +106,8 @@ settle-requires-clause-there c =
     (has-route c.args.round.now.program.now.model c.args.function c.route_of-route.result.now (core_of c.args.progress.now).field
     c.route_of-route.ensures c.requires.ready.fits.field).to
 
-pub returns : goal.returns
-returns c =
+pub returns-clause-ok : goal.returns-clause-ok
+returns-clause-ok c =
     let round = round_of c.args.round.now in
     let source = c.args.round.now.program.now in
     let model = source.model in
@@ -150,3 +152,15 @@ returns c =
           next.is.next goes.routed.agent goes.routed.to left;
       tallies = all.tallies;
     }
+
+pub returns-in_err-settle-clause-err : goal.returns-in_err-settle-clause-err
+returns-in_err-settle-clause-err c =
+    let model = c.args.round.now.program.now.model in
+    let progress = c.args.progress.now in
+    let counts = c.args.counts.now in
+    let tallies = c.requires.ready.tallies in
+    let same = same_core progress c.share.new.boards c.in_ok-share.ensures.bags c.in_ok-share.ensures.frozen in
+    let kept : Came model (core_of progress) c.settle.new.self counts =
+    came model progress c.settle.new.self counts counts (core_of progress) (c.in_err-settle.ensures.err ∙ same) refl refl
+    (λ g has. c.in_err-settle.ensures.outputs g (outputs_of model g) has) tallies tallies.counted in
+    on_err c.from_residual-in_err-settle.result kept

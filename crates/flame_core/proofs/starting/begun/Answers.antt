@@ -23,7 +23,7 @@ returns-clause-core c =
     let model = c.args.program.now.model in
     let n = c.functions.result in
     let pools = c.in_ok-pools.pools in
-    let statuses = ap (map status_of) c.in_ok-statuses.ensures ∙ all_wait n (functions model) c.functions.ensures in
+    let statuses = ap (map status_of) c.in_ok-statuses.ensures.statuses ∙ all_wait n (functions model) c.functions.ensures in
     let pools_are = c.in_ok-pools.ensures in
     let long : length pools.items ≡ length model.agents =
     sym (length-map pools.items bags_of) ∙ ap length pools_are
@@ -46,4 +46,4 @@ returns-clause-core c =
 pub returns-clause-outputs : goal.returns-clause-outputs
 returns-clause-outputs c = λ f outputs.
     let P : List Status → Type 0 = λ l. HasOutputs outputs (slice_index_or l f is.Waiting) in
-    subst P (sym c.in_ok-statuses.ensures) (none_has c.functions.result f outputs)
+    subst P (sym c.in_ok-statuses.ensures.statuses) (none_has c.functions.result f outputs)

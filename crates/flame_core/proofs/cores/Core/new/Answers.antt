@@ -1,6 +1,7 @@
 -- A core begins.
-use Rattle.std.proofs.Common.{◌≡◌, ◌∙◌, ◌<◌, ◌≤◌, [], true, false, ap, length, refl, sym, subst}
+use Rattle.std.proofs.Common.{◌≡◌, ◌∙◌, ◌<◌, ◌≤◌, [], true, false, ap, length, refl, sym, subst, w32, rules, SFits}
 use Rattle.std.specs.Prelude.{ℕ}
+use Rattle.std.proofs.lemmas.Int.{to_z-of_z}
 use Rattle.std.proofs.lemmas.List.{length-map}
 use Rattle.flame_spec.specs.declared.outcomes.Source.{Source}
 use Rattle.flame_spec.specs.Before.{before, function_count}
@@ -21,7 +22,7 @@ use Rattle.flame_core.proofs.cores.Core.new.Goals as goal
 
 pub counted-requires : goal.counted-requires
 counted-requires c =
-    sym c.if-not-is_counted.ensures ∙ ap (λ (s : Source). is_counted s.model) c.source.ensures.same
+    sym (ap (λ (s : Source). is_counted s.model) c.source.ensures.same) ∙ sym c.if-not-is_counted.ensures
 
 pub begun-requires : goal.begun-requires
 begun-requires c =
@@ -35,7 +36,7 @@ invariant_of-result c =
     let is : core_of progress ≡ opening_core model c.args.world.agents =
     c.in_ok-progress.ensures.core ∙ ap (opening_core model) (c.in_ok-agents.ensures ∙ c.items.ensures) in
     let counted : is_counted model ≡ true =
-    sym c.if-not-is_counted.ensures ∙ ap (λ (s : Source). is_counted s.model) c.source.ensures.same in
+    sym (ap (λ (s : Source). is_counted s.model) c.source.ensures.same) ∙ sym c.if-not-is_counted.ensures in
     let shut : (f : ℕ) → false ≡ is_shut (status_of (core_of progress) f) =
     λ f. sym (ap (λ (k : Core). is_shut (status_of k f)) is ∙ nothing_shut model c.args.world.agents f) in
     let frozen : (m : ℕ) → false ≡ is_frozen (core_of progress) m =
@@ -75,10 +76,11 @@ pub returns : goal.returns
 returns c =
     let model = c.args.program.now.model in
     let is = c.in_ok-progress.ensures.core ∙ ap (opening_core model) (c.in_ok-agents.ensures ∙ c.items.ensures) in
+    let fits : SFits w32 c.args.iteration = search rules in
     λ i. record {
       source = c.args.program.now;
       world = c.args.world;
-      iteration = c.args.iteration;
+      iteration = to_z-of_z w32 c.args.iteration fits i;
       fuel = c.args.fuel;
       pieces = c.args.pieces;
       core = is i;

@@ -6,8 +6,8 @@ use Rattle.flame_core.specs.SeenCores.{Seen}
 use Rattle.flame_core.proofs.Gets.{has-at}
 use Rattle.flame_core.proofs.cores.Core.piece.Goals as goal
 
-pub returns-in_ok-copy-in-Some : goal.returns-in_ok-copy-in-Some
-returns-in_ok-copy-in-Some c = record {
+pub returns : goal.returns
+returns c = record {
   work = kept_work c.in-Some.work.now;
   there = ap (λ (s : Seen). work_of s.core c.args.function c.args.piece) (sym c.self.view_is) ∙ sym c.in-Some.ensures.work;
   function_is = refl;
@@ -15,8 +15,8 @@ returns-in_ok-copy-in-Some c = record {
   agents = c.in_ok-copy-in-Some.ensures;
 }
 
-pub unreachable-requires-in-None : goal.unreachable-requires-in-None
-unreachable-requires-in-None c =
+pub unreachable-requires : goal.unreachable-requires
+unreachable-requires c =
     let works = λ (s : Seen). works_of (status_of s.core c.args.function) in
     let P : Seen → Type 0 = λ s. c.args.piece < length (works s) in
     let there = has-at _ c.args.piece (subst P (sym c.self.view_is) c.requires) in

@@ -5,12 +5,14 @@ use Rattle.flame_events.specs.EventSteps.{after}
 use Rattle.flame_progress.specs.RunCores.{core_of}
 use Rattle.flame_core.specs.CoreCalls.{allows}
 use Rattle.flame_core.specs.SeenCores.{Seen, round_in, when_came}
-use Rattle.flame_core.proofs.Comings.{one_leads, reached_fits, stands_on, stands_still}
+use Rattle.flame_progress.specs.Tallying.{Came}
+use Rattle.flame_core.proofs.Comings.{one_leads, reached_fits, seen_so, seen_when, stands_on, stands_still}
+use Rattle.flame_core.proofs.Done.{was_err, was_ok}
 use Rattle.flame_core.proofs.InOrders.{reached_in_order}
 use Rattle.flame_core.proofs.cores.Core.step.Goals as goal
 
 pub returns-then-not-allows : goal.returns-then-not-allows
-returns-then-not-allows c = (sym c.if-not-allows.ensures, refl)
+returns-then-not-allows c = record { ok = tt; err = (sym c.if-not-allows.ensures, refl) }
 
 pub happen-requires-clause-ready : goal.happen-requires-clause-ready
 happen-requires-clause-ready c =
@@ -35,8 +37,8 @@ happen-requires-clause-ready c =
 pub happen-requires-clause-legal : goal.happen-requires-clause-legal
 happen-requires-clause-legal c = ap (λ (s : Seen). allows s c.args.event) c.self.view_is ∙ sym c.if-not-allows.ensures
 
-pub invariant_of-self-in-Err : goal.invariant_of-self-in-Err
-invariant_of-self-in-Err c =
+pub invariant_of-self-then-is_err : goal.invariant_of-self-then-is_err
+invariant_of-self-then-is_err c =
     let inside = c.self.inside in
     let seen : Seen = record {
       source = inside.program.now;
@@ -46,7 +48,9 @@ invariant_of-self-in-Err c =
       pieces = inside.pieces;
       core = core_of inside.progress;
     } in
-    stands_still seen inside.progress c.happen.new.progress inside.counts c.happen.new.counts c.self.invariant c.in-Err.ensures.err
+    let kept : Came inside.program.now.model (core_of inside.progress) c.happen.new.progress c.happen.new.counts =
+    was_err c.happen.result c.happen.ensures.err (sym c.if-is_err.ensures.value) in
+    stands_still seen inside.progress c.happen.new.progress inside.counts c.happen.new.counts c.self.invariant kept
 
 pub invariant_of-self : goal.invariant_of-self
 invariant_of-self c =
@@ -60,6 +64,42 @@ invariant_of-self c =
       core = core_of inside.progress;
     } in
     let legal = ap (λ (s : Seen). allows s c.args.event) c.self.view_is ∙ sym c.if-not-allows.ensures in
-    stands_on seen inside.progress c.happen.new.progress inside.counts c.happen.new.counts (c.args.event ∷ [])
-    (after (round_in seen) inside.pieces (core_of inside.progress) c.args.event) c.self.invariant
-    (one_leads (round_in seen) inside.pieces (core_of inside.progress) c.args.event legal) c.in-Ok.ensures.ok
+    let next = after (round_in seen) inside.pieces (core_of inside.progress) c.args.event in
+    let made : Came inside.program.now.model next c.happen.new.progress c.happen.new.counts =
+    was_ok c.happen.result c.happen.ensures.ok (sym c.if-is_err.ensures.value) in
+    stands_on seen inside.progress c.happen.new.progress inside.counts c.happen.new.counts (c.args.event ∷ []) next c.self.invariant
+    (one_leads (round_in seen) inside.pieces (core_of inside.progress) c.args.event legal) made
+
+pub returns-then-is_err-clause-err : goal.returns-then-is_err-clause-err
+returns-then-is_err-clause-err c =
+    let inside = c.self.inside in
+    let seen : Seen = record {
+      source = inside.program.now;
+      world = inside.world;
+      iteration = inside.iteration;
+      fuel = inside.fuel;
+      pieces = inside.pieces;
+      core = core_of inside.progress;
+    } in
+    let kept : Came inside.program.now.model (core_of inside.progress) c.happen.new.progress c.happen.new.counts =
+    was_err c.happen.result c.happen.ensures.err (sym c.if-is_err.ensures.value) in
+    (sym c.if-not-allows.ensures, seen_so seen (core_of c.happen.new.progress) kept.core ∙ c.self.view_is)
+
+pub returns-clause-ok : goal.returns-clause-ok
+returns-clause-ok c =
+    let inside = c.self.inside in
+    let seen : Seen = record {
+      source = inside.program.now;
+      world = inside.world;
+      iteration = inside.iteration;
+      fuel = inside.fuel;
+      pieces = inside.pieces;
+      core = core_of inside.progress;
+    } in
+    let next = after (round_in seen) inside.pieces (core_of inside.progress) c.args.event in
+    let made : Came inside.program.now.model next c.happen.new.progress c.happen.new.counts =
+    was_ok c.happen.result c.happen.ensures.ok (sym c.if-is_err.ensures.value) in
+    record {
+      legal = sym c.if-not-allows.ensures;
+      left = seen_when seen (c.args.event ∷ []) (core_of c.happen.new.progress) made.core ∙ ap (when_came (c.args.event ∷ [])) c.self.view_is;
+    }
