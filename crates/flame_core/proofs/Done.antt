@@ -5,10 +5,10 @@ use Rattle.std.proofs.lemmas.Bool.{false≢true}
 
 -- what holds where there is no error holds of this one
 pub was_ok : {A E P : Type 0} (r : Result A E) → OnOk r P → is_err r ≡ false → P
-was_ok (Ok a) holds no = holds
-was_ok (Err e) holds no = absurd (false≢true (sym no))
+was_ok (Ok a) holds not_err = holds
+was_ok (Err e) holds not_err = absurd (false≢true (sym not_err))
 
 -- what holds where there is an error holds of this one
 pub was_err : {A E P : Type 0} (r : Result A E) → OnErr r P → is_err r ≡ true → P
-was_err (Ok a) holds yes = absurd (false≢true yes)
-was_err (Err e) holds yes = holds
+was_err (Ok a) holds err = absurd (false≢true err)
+was_err (Err e) holds err = holds

@@ -21,3 +21,4 @@ mod Allowed
 mod SharedPieces
 mod Done
 mod SameSeen
+mod Routed

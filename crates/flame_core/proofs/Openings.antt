@@ -14,13 +14,14 @@ use Rattle.flame_depend.specs.declared.pairs.Edge.{Edge}
 use Rattle.flame_depend.specs.Edges.{edge, edges_below, edges_of, edges_to}
 use Rattle.flame_world.specs.Meaning.{outputs_at}
 use Rattle.flame_events.specs.CoreStates.{Status, Waiting}
-use Rattle.flame_events.specs.LegalEvents.{inputs_of, outputs_of}
+use Rattle.flame_events.specs.LegalEvents.{inputs_at, inputs_of, outputs_of}
 use Rattle.flame_events.proofs.Spots.{get_below, get_there, output_named}
 use Rattle.flame_pieces.specs.FreeThings.{Tells}
 use Rattle.flame_pieces.specs.Waiting as waits
 use Rattle.flame_pieces.specs.declared.statuses.Status as kept
 use Rattle.flame_pieces.specs.declared.statuses.Status.TheVariants as is
 use Rattle.flame_pieces.specs.RunStatuses.{status_of, HasOutputs}
+use Rattle.flame_pieces.proofs.Freeing.{waiters_are_told}
 use Rattle.flame_progress.specs.ManyWait.{waited_for_by, waiting_for}
 use Rattle.flame_progress.proofs.Allowing.{all_in, inputs_below}
 use Rattle.flame_progress.proofs.Waiters.{waiters_told, waiting_is_told}
@@ -157,6 +158,12 @@ edges_between model k e less at =
     let two = and_parts (nat_lt e.after n) (before model e.before e.after) one.1 in
     record { from = ltb-true e.before n one.0; to = ltb-true e.after n two.0 }
 
+-- what is there is there, whatever stands for what is not
+pub other_default : {X : Type 0} (xs : List X) (k : ℕ) (d e : X) → k < length xs → get_or xs k d ≡ get_or xs k e
+other_default [] k d e less = absurd (omega (arith, less))
+other_default (x ∷ xs) zero d e less = refl
+other_default (x ∷ xs) (suc k) d e less = other_default xs k d e (omega (arith, less))
+
 -- one edge more
 pub edge_more : (edges : List Edge) (k : ℕ) (e : Edge) (f g : ℕ) → k < length edges → e ≡ get_or edges k e
     → (is_edge (take k edges) f g || ((f == e.before) && (g == e.after))) ≡ is_edge (take (k + 1) edges) f g
@@ -180,6 +187,19 @@ tells_as all many told other is_done waiting same tells = record {
   who = λ thing number less. tells.who thing number less ∙ same thing number less;
   which = tells.which;
 }
+
+-- one edge more is told
+pub edge_told : (n : ℕ) (items : List Edge) (k : ℕ) (e : Edge) (waiting next : waits.Waiting)
+    → k < length items → e ≡ get_or items k e → e.before < n → next ≡ waits.with_waiter e.before e.after waiting
+    → Tells n n (λ f g. is_edge (take k items) f g) (λ f. false) waiting
+    → Tells n n (λ f g. is_edge (take (k + 1) items) f g) (λ f. false) next
+edge_told n items k e waiting next less at from is tells =
+    let P : waits.Waiting → Type 0 = λ w. Tells n n (λ f g. is_edge (take (k + 1) items) f g) (λ f. false) w in
+    subst P (sym is)
+    (tells_as n n (λ f g. is_edge (take k items) f g || ((f == e.before) && (g == e.after)))
+    (λ f g. is_edge (take (k + 1) items) f g) (λ f. false) (waits.with_waiter e.before e.after waiting)
+    (λ f g within. edge_more items k e f g less at)
+    (waiters_are_told n n (λ f g. is_edge (take k items) f g) (λ f. false) waiting e.before e.after from tells))
 
 -- the functions before this one are told, and this one now too
 pub told_more : (k f : ℕ) (test : ℕ → Bool) (own : Bool) → test k ≡ own → ((nat_lt f k && test f) || (own && (f == k))) ≡ (nat_lt f (k + 1) && test f)
@@ -234,6 +254,15 @@ outputs_told model k own waiting less is tells =
     turned true false = refl
     turned false true = refl
     turned false false = refl
+
+-- no function past the last reads anything
+pub all_read : (model : Model) (m f : ℕ) → (nat_lt f (function_count model) && is_in m (inputs_of model f)) ≡ is_in m (inputs_of model f)
+all_read model m f = ⊎_elim
+    (λ (less : f < function_count model). ap (λ b. b && is_in m (inputs_of model f)) (lt-ltb f (function_count model) less))
+    (λ (over : function_count model ≤ f).
+    ap (λ b. b && is_in m (inputs_of model f)) (le-ltb f (function_count model) over)
+    ∙ sym (ap (λ o. is_in m (inputs_at o model)) (past_get (functions model) f over)))
+    (cases_lt f (function_count model))
 
 -- all functions are told of
 pub all_told : (n f : ℕ) (b : Bool) → f < n → (nat_lt f n && b) ≡ b

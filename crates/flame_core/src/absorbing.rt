@@ -79,11 +79,19 @@ fn is_setting(
     requires frozen { All (λ message. slice_index_or (map is_board_frozen boards.now) message false ≡ true) route.now.inputs }
     ensures { IsTrue result ↔ IsSettingOf round.now (map board_bag boards.now) function setting.now }
 {
-    round.program.source().same(setting.source)
-        && round.constants.same(setting.constants)
-        && round.iteration == setting.iteration
-        && round.fuel == setting.fuel
-        && same_boards(boards, route.inputs.items(), setting.boards.items())
+    if !round.program.source().same(setting.source) {
+        return false;
+    }
+    if !round.constants.same(setting.constants) {
+        return false;
+    }
+    if round.iteration != setting.iteration {
+        return false;
+    }
+    if round.fuel != setting.fuel {
+        return false;
+    }
+    same_boards(boards, route.inputs.items(), setting.boards.items())
 }
 
 /// Whether the share can be absorbed.

@@ -1,5 +1,7 @@
 -- An event comes, or nothing changes.
-use Rattle.std.proofs.Common.{◌≡◌, [], ◌∷◌, true, false, refl, sym, ap, ◌∙◌, subst}
+use Rattle.std.proofs.Common.{◌≡◌, [], ◌∷◌, true, false, refl, sym, ap, ◌∙◌, subst, w32, rules, SFits}
+use Rattle.std.specs.Prelude.{ℤ}
+use Rattle.std.proofs.lemmas.Int.{to_z-of_z}
 use Rattle.flame_events.specs.CoreStates.{Core}
 use Rattle.flame_events.specs.EventSteps.{after}
 use Rattle.flame_progress.specs.RunCores.{core_of}
@@ -14,8 +16,8 @@ use Rattle.flame_core.proofs.cores.Core.step.Goals as goal
 pub returns-then-not-allows : goal.returns-then-not-allows
 returns-then-not-allows c = record { ok = tt; err = (sym c.if-not-allows.ensures, refl) }
 
-pub happen-requires-clause-ready : goal.happen-requires-clause-ready
-happen-requires-clause-ready c =
+pub happen-done-requires-clause-ready : goal.happen-done-requires-clause-ready
+happen-done-requires-clause-ready c =
     let inside = c.self.inside in
     let seen : Seen = record {
       source = inside.program.now;
@@ -34,23 +36,8 @@ happen-requires-clause-ready c =
       tallies = c.self.invariant.tallies;
     }
 
-pub happen-requires-clause-legal : goal.happen-requires-clause-legal
-happen-requires-clause-legal c = ap (λ (s : Seen). allows s c.args.event) c.self.view_is ∙ sym c.if-not-allows.ensures
-
-pub invariant_of-self-then-is_err : goal.invariant_of-self-then-is_err
-invariant_of-self-then-is_err c =
-    let inside = c.self.inside in
-    let seen : Seen = record {
-      source = inside.program.now;
-      world = inside.world;
-      iteration = inside.iteration;
-      fuel = inside.fuel;
-      pieces = inside.pieces;
-      core = core_of inside.progress;
-    } in
-    let kept : Came inside.program.now.model (core_of inside.progress) c.happen.new.progress c.happen.new.counts =
-    was_err c.happen.result c.happen.ensures.err (sym c.if-is_err.ensures.value) in
-    stands_still seen inside.progress c.happen.new.progress inside.counts c.happen.new.counts c.self.invariant kept
+pub happen-done-requires-clause-legal : goal.happen-done-requires-clause-legal
+happen-done-requires-clause-legal c = ap (λ (s : Seen). allows s c.args.event) c.self.view_is ∙ sym c.if-not-allows.ensures
 
 pub invariant_of-self : goal.invariant_of-self
 invariant_of-self c =
@@ -63,11 +50,30 @@ invariant_of-self c =
       pieces = inside.pieces;
       core = core_of inside.progress;
     } in
+    let kept : Came inside.program.now.model (core_of inside.progress) c.happen-done.new.progress c.happen-done.new.counts =
+    was_err c.happen-done.result c.happen-done.ensures.err (sym c.if-is_err.ensures.value) in
+    stands_still seen inside.progress c.happen-done.new.progress inside.counts c.happen-done.new.counts c.self.invariant kept
+
+pub invariant_of-self-2 : goal.invariant_of-self-2
+invariant_of-self-2 c =
+    let inside = c.self.inside in
+    let seen : Seen = record {
+      source = inside.program.now;
+      world = inside.world;
+      iteration = inside.iteration;
+      fuel = inside.fuel;
+      pieces = inside.pieces;
+      core = core_of inside.progress;
+    } in
     let legal = ap (λ (s : Seen). allows s c.args.event) c.self.view_is ∙ sym c.if-not-allows.ensures in
     let next = after (round_in seen) inside.pieces (core_of inside.progress) c.args.event in
-    let made : Came inside.program.now.model next c.happen.new.progress c.happen.new.counts =
-    was_ok c.happen.result c.happen.ensures.ok (sym c.if-is_err.ensures.value) in
-    stands_on seen inside.progress c.happen.new.progress inside.counts c.happen.new.counts (c.args.event ∷ []) next c.self.invariant
+    let fits : SFits w32 inside.iteration = search rules in
+    let P : ℤ → Type 0 = λ j. Came inside.program.now.model
+    (after (record (round_in seen) { iteration = j }) inside.pieces (core_of inside.progress) c.args.event)
+    c.happen-done.new.progress c.happen-done.new.counts in
+    let made : Came inside.program.now.model next c.happen-done.new.progress c.happen-done.new.counts =
+    subst P (to_z-of_z w32 inside.iteration fits) (was_ok c.happen-done.result c.happen-done.ensures.ok (sym c.if-is_err.ensures.value)) in
+    stands_on seen inside.progress c.happen-done.new.progress inside.counts c.happen-done.new.counts (c.args.event ∷ []) next c.self.invariant
     (one_leads (round_in seen) inside.pieces (core_of inside.progress) c.args.event legal) made
 
 pub returns-then-is_err-clause-err : goal.returns-then-is_err-clause-err
@@ -81,9 +87,9 @@ returns-then-is_err-clause-err c =
       pieces = inside.pieces;
       core = core_of inside.progress;
     } in
-    let kept : Came inside.program.now.model (core_of inside.progress) c.happen.new.progress c.happen.new.counts =
-    was_err c.happen.result c.happen.ensures.err (sym c.if-is_err.ensures.value) in
-    (sym c.if-not-allows.ensures, seen_so seen (core_of c.happen.new.progress) kept.core ∙ c.self.view_is)
+    let kept : Came inside.program.now.model (core_of inside.progress) c.happen-done.new.progress c.happen-done.new.counts =
+    was_err c.happen-done.result c.happen-done.ensures.err (sym c.if-is_err.ensures.value) in
+    (sym c.if-not-allows.ensures, seen_so seen (core_of c.happen-done.new.progress) kept.core ∙ c.self.view_is)
 
 pub returns-clause-ok : goal.returns-clause-ok
 returns-clause-ok c =
@@ -97,9 +103,13 @@ returns-clause-ok c =
       core = core_of inside.progress;
     } in
     let next = after (round_in seen) inside.pieces (core_of inside.progress) c.args.event in
-    let made : Came inside.program.now.model next c.happen.new.progress c.happen.new.counts =
-    was_ok c.happen.result c.happen.ensures.ok (sym c.if-is_err.ensures.value) in
+    let fits : SFits w32 inside.iteration = search rules in
+    let P : ℤ → Type 0 = λ j. Came inside.program.now.model
+    (after (record (round_in seen) { iteration = j }) inside.pieces (core_of inside.progress) c.args.event)
+    c.happen-done.new.progress c.happen-done.new.counts in
+    let made : Came inside.program.now.model next c.happen-done.new.progress c.happen-done.new.counts =
+    subst P (to_z-of_z w32 inside.iteration fits) (was_ok c.happen-done.result c.happen-done.ensures.ok (sym c.if-is_err.ensures.value)) in
     record {
       legal = sym c.if-not-allows.ensures;
-      left = seen_when seen (c.args.event ∷ []) (core_of c.happen.new.progress) made.core ∙ ap (when_came (c.args.event ∷ [])) c.self.view_is;
+      left = seen_when seen (c.args.event ∷ []) (core_of c.happen-done.new.progress) made.core ∙ ap (when_came (c.args.event ∷ [])) c.self.view_is;
     }

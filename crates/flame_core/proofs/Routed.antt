@@ -1,0 +1,31 @@
+-- Routes of a program, function by function.
+use Rattle.std.proofs.Common.{◌≡◌, ℕ, ◌<◌, length, get_or, sym, ap, ◌∙◌, arith}
+use Rattle.flame_spec.specs.declared.models.Model.{Model}
+use Rattle.flame_spec.specs.Before.{function_count}
+use Rattle.flame_spec.specs.Functions.{functions}
+use Rattle.flame_world.specs.Meaning.{outputs_at}
+use Rattle.flame_events.specs.LegalEvents.{outputs_of}
+use Rattle.flame_route.specs.declared.routes.Route.{Route}
+use Rattle.flame_route.specs.declared.routes.Routes.{Routes}
+use Rattle.flame_route.specs.ModelRoutes.{AreRoutesOf, IsRouteOf}
+use Rattle.flame_route.proofs.Places.{zip-length}
+use Rattle.flame_core.specs.RunSteps.{GoesBy}
+use Rattle.flame_core.proofs.Gets.{get-there, has-at, zip-get}
+
+pub routes_many : (model : Model) (routes : Routes) → AreRoutesOf model routes → function_count model ≡ length routes.routes
+routes_many model routes are = zip-length (IsRouteOf model) (functions model) routes.routes are.each
+
+pub goes_at : (model : Model) (routes : Routes) → AreRoutesOf model routes → (f : ℕ) (route : Route) → f < function_count model
+    → route ≡ get_or routes.routes f route → GoesBy model f route
+goes_at model routes are f route less at =
+    let found = has-at (functions model) f less in
+    let there = get-there routes.routes f route (omega (arith, less, routes_many model routes are)) at in
+    record {
+      place = found.item;
+      there = found.there;
+      routed = zip-get (IsRouteOf model) (functions model) routes.routes f found.item route are.each found.there there;
+      turn = are.turns f found.item route found.there there;
+    }
+
+pub outputs_are : (model : Model) (f : ℕ) (route : Route) (goes : GoesBy model f route) → route.outputs ≡ outputs_of model f
+outputs_are model f route goes = goes.routed.outputs ∙ ap (λ o. outputs_at o model) (sym goes.there)

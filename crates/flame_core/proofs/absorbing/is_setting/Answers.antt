@@ -1,0 +1,4 @@
+use Rattle.flame_core.proofs.absorbing.is_setting.Goals as goal
+
+pub returns : goal.returns
+returns c = ?
