@@ -22,3 +22,5 @@ mod SharedPieces
 mod Done
 mod SameSeen
 mod Routed
+mod TakenIn
+mod Shown

@@ -5,6 +5,7 @@ ghost use Rattle.std.specs.Prelude.{slice_index_or};
 ghost use Rattle.std.specs.Arc.{arc_value};
 ghost use Rattle.std.specs.List.{All, flat_map};
 ghost use Rattle.flame_world.specs.Shares.{piece_of, setting_of};
+ghost use Rattle.flame_events.specs.CoreFits.{FitsCore};
 ghost use Rattle.flame_events.specs.CoreStates.{Work as Meant, work_of};
 ghost use Rattle.flame_events.specs.AbsorbedPieces.{agent_events};
 ghost use Rattle.flame_events.specs.EventSteps.{replay};
@@ -144,6 +145,7 @@ pub(crate) fn absorb(
     share: Share<'_>,
 ) -> Result<(), NoMemory>
     requires can { CanTakeIn round.now (core_of progress.old) share }
+    requires fits { FitsCore round.now.program.now.model (core_of progress.old) }
     ensures ok { OnOk result ((pieces : ℕ) (counts : Kept) (work : Meant)
         → Ready round.now pieces progress.old counts
         → work_of (core_of progress.old) (piece_of share.entry).function (piece_of share.entry).number ≡ Some work

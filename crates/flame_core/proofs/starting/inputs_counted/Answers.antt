@@ -1,5 +1,6 @@
-use Rattle.std.proofs.Common.{◌≡◌, ◌∙◌, ◌<◌, ◌+◌, ◌^◌, All, false, ap, arith, get_or, length, subst, sym}
+use Rattle.std.proofs.Common.{◌≡◌, ◌∙◌, ◌<◌, ◌+◌, ◌^◌, List, false, ap, arith, get_or, length, subst, sym}
 use Rattle.std.specs.Prelude.{ℕ, ◌&&◌, nat_lt}
+use Rattle.std.specs.List.{All}
 use Rattle.std.proofs.lemmas.Bool.{ltb-true}
 use Rattle.flame_spec.specs.Before.{function_count}
 use Rattle.flame_spec.specs.Below.{is_in}

@@ -1,0 +1,215 @@
+-- A share that is taken in, as what its piece's Agent events leave.
+use Rattle.std.proofs.Common.{◌≡◌, ℕ, ◌<◌, ◌≤◌, true, false, List, [], length, map, Some, refl, sym, ap, ◌∙◌, subst, arith, length-set, ⊎_elim}
+use Rattle.std.specs.Prelude.{ℤ, ◌↔◌, slice_get, slice_index_or, slice_set}
+use Rattle.std.specs.Arc.{arc_value}
+use Rattle.std.specs.List.{All, flat_map}
+use Rattle.std.proofs.lemmas.Bool.{cases_lt, false≢true}
+use Rattle.flame_rows.specs.Bags.{ascending, merge}
+use Rattle.flame_spec.specs.declared.models.Model.{Model}
+use Rattle.flame_spec.specs.declared.outcomes.Outcome.{Outcome}
+use Rattle.flame_spec.specs.declared.outcomes.Source.{Source}
+use Rattle.flame_spec.specs.Before.{function_count}
+use Rattle.flame_spec.specs.Below.{is_in}
+use Rattle.flame_spec.specs.Functions.{functions}
+use Rattle.flame_sense.specs.Outcomes.{outcome, place_of}
+use Rattle.flame_world.specs.declared.pieces.Part.{Part}
+use Rattle.flame_world.specs.declared.pieces.Piece.{Piece}
+use Rattle.flame_world.specs.declared.pieces.Rest.{Rest}
+use Rattle.flame_world.specs.declared.settings.Setting.{Setting}
+use Rattle.flame_world.specs.declared.shares.Share.{Share}
+use Rattle.flame_world.specs.AgentRuns.{born_from, births_of, least_fault, messages_of, sent_from, survivors}
+use Rattle.flame_world.specs.Fields.{Field, changed_pool, joined}
+use Rattle.flame_world.specs.InputBoards.{boards_named}
+use Rattle.flame_world.specs.Iterations.{Round, outcome_in}
+use Rattle.flame_world.specs.Meaning.{IsMeaning, outcome_under, outputs_at, part_for}
+use Rattle.flame_world.specs.Settings.{boards_of}
+use Rattle.flame_world.specs.Shares.{piece_of, setting_of}
+use Rattle.flame_world.proofs.NamedBoards.{named_boards_are_enough}
+use Rattle.flame_events.specs.declared.events.Event.{Event}
+use Rattle.flame_events.specs.AbsorbedPieces.{agent_events}
+use Rattle.flame_events.specs.CoreFits.{FitsCore, FitsWork}
+use Rattle.flame_events.specs.CoreStates.{Work, Status, Open, Waiting, Core, is_shut, is_waiting, status_of, work_of, works_of}
+use Rattle.flame_events.specs.EventSteps.{replay, with_work}
+use Rattle.flame_events.specs.Histories.{Leads}
+use Rattle.flame_events.specs.LegalEvents.{outputs_of}
+use Rattle.flame_events.proofs.Absorbing.{agents_run_at_once}
+use Rattle.flame_events.proofs.Sound.{opens_with, past_waiting}
+use Rattle.flame_events.proofs.Spots.{get_there}
+use Rattle.flame_events.proofs.Works.{each_at}
+use Rattle.flame_route.specs.declared.routes.Route.{Route}
+use Rattle.flame_progress.specs.declared.counts.Counts.{Counts}
+use Rattle.flame_progress.specs.declared.leavings.Leaving.{Leaving}
+use Rattle.flame_progress.specs.declared.progress.Progress.{Progress}
+use Rattle.flame_progress.specs.RunCores.{core_of, HasOutputsAt}
+use Rattle.flame_progress.specs.RunWorkEvents.{added}
+use Rattle.flame_progress.specs.Tallying.{Came}
+use Rattle.flame_progress.proofs.Known.{open_within}
+use Rattle.flame_progress.proofs.Tallied.{came, counted_kept, status_kept}
+use Rattle.flame_core.specs.declared.rounds.Round as run
+use Rattle.flame_core.specs.CoreCalls.{Absorbed, CanAbsorb}
+use Rattle.flame_core.specs.RunReady.{InOrder, Ready}
+use Rattle.flame_core.specs.RunShares.{as_sent, CanTakeIn, IsFed, IsSettingOf}
+use Rattle.flame_core.specs.RunSteps.{GoesBy, round_of}
+use Rattle.flame_core.specs.SeenCores.{Seen, round_in, when_came}
+use Rattle.flame_core.proofs.SharedPieces.{absorbed_is, in_parts, parts_have}
+
+-- ---- what is before the agents
+
+-- the same setting over the same boards
+pub setting_seen : (round : run.Round) (one other : List (List (List ℤ))) (f g : ℕ) (a b : Setting) → one ≡ other → f ≡ g → a ≡ b
+    → IsSettingOf round one f a → IsSettingOf round other g b
+setting_seen round one other f g a b boards functions settings is =
+    subst (λ s. IsSettingOf round other g s) settings
+    (subst (λ h. IsSettingOf round other h a) functions
+    (subst (λ l. IsSettingOf round l f a) boards is))
+
+-- what an agent comes to under its setting is what it comes to in the core
+pub comes_to : (round : run.Round) (f : ℕ) (field : Field) (setting : Setting) → IsSettingOf round field.boards f setting
+    → (memory : List ℤ) → outcome_under setting f memory ≡ outcome_in (round_of round) f field memory
+comes_to round f field setting same memory =
+    let source = same.source in
+    let named : boards_of setting ≡ boards_named (place_of setting.source.now f) setting.source.now.model field.boards =
+    same.boards_are ∙ sym (ap (λ (s : Source). boards_named (place_of s f) s.model field.boards) source) in
+    named_boards_are_enough setting f memory field.boards named
+    ∙ (λ i. outcome (source i) f memory field.boards (same.constants i) (same.iteration i) (same.fuel i))
+
+-- ---- functions that began
+
+begun_within : (statuses : List Status) (f : ℕ) → is_waiting (slice_index_or statuses f Waiting) ≡ false → f < length statuses
+begun_within statuses f began = ⊎_elim
+    (λ (less : f < length statuses). less)
+    (λ (over : length statuses ≤ f). absurd (false≢true (sym began ∙ ap is_waiting (past_waiting statuses f over))))
+    (cases_lt f (length statuses))
+
+pub fed_of : (model : Model) (pieces : ℕ) (progress : Progress) → FitsCore model (core_of progress) → InOrder model pieces (core_of progress)
+    → (f : ℕ) → IsFed model progress f
+fed_of model pieces progress fits in_order f = record {
+  there = λ began.
+      let less = begun_within (core_of progress).statuses f began in
+      (let below : f < function_count model = omega (arith, less, fits.statuses) in below);
+  fed = in_order.fed f;
+}
+
+-- a function with a piece is none that waits
+pub began : (core : Core) (f k : ℕ) (work : Work) → work_of core f k ≡ Some work → is_waiting (status_of core f) ≡ false
+began core f k work there = ap is_waiting (opens_with (status_of core f) k work there)
+
+pub piece_below : (model : Model) (core : Core) (f k : ℕ) (work : Work) → FitsCore model core → work_of core f k ≡ Some work → f < function_count model
+piece_below model core f k work fits there =
+    let less = begun_within core.statuses f (began core f k work there) in
+    omega (arith, less, fits.statuses)
+
+-- ---- the share in the core
+
+some_work : (x y : Work) → Some x ≡ Some y → x ≡ y
+some_work x y e = cc
+
+pub can_here : (seen : Seen) (round : run.Round) (share : Share) → CanTakeIn round seen.core share
+    → round.program.now ≡ seen.source → round.constants.now ≡ seen.world.constants → round.iteration ≡ seen.iteration → round.fuel ≡ seen.fuel
+    → CanAbsorb seen share
+can_here seen round share can source constants iteration fuel = record {
+  work = can.work;
+  there = can.there;
+  agents = can.agents;
+  new = can.new;
+  setting = record {
+    source = can.setting.source ∙ source;
+    constants = can.setting.constants ∙ constants;
+    boards = can.setting.boards_are
+        ∙ ap (λ (s : Source). boards_named (place_of s (piece_of share).function) s.model seen.core.field.boards) source;
+    iteration = can.setting.iteration ∙ iteration;
+    fuel = can.setting.fuel ∙ fuel;
+  };
+}
+
+-- the events of the share's piece lead on
+pub leads_on : (seen : Seen) (share : Share) → FitsCore seen.source.model seen.core → (can : CanAbsorb seen share)
+    → Leads (round_in seen) seen.pieces seen.core (agent_events (piece_of share).function (piece_of share).number can.work)
+    (replay (round_in seen) seen.pieces seen.core (agent_events (piece_of share).function (piece_of share).number can.work))
+leads_on seen share fits can =
+    let model = seen.source.model in
+    let f = (piece_of share).function in
+    let k = (piece_of share).number in
+    let place = get_there (functions model) f (piece_below model seen.core f k can.work fits can.there) in
+    let is = each_at (FitsWork model f place.0.type) (works_of (status_of seen.core f)) k can.work (fits.works f place.0 place.1) can.there in
+    record {
+      legal = (agents_run_at_once (round_in seen) seen.pieces f k place.0 can.work seen.core place.1 can.there can.new is.some).0;
+      left = refl;
+    }
+
+-- what the share leaves is seen wherever the core is
+pub absorbed_so : (seen old new : Seen) (share : Share) → seen ≡ old → (can : CanAbsorb seen share)
+    → new ≡ when_came (agent_events (piece_of share).function (piece_of share).number can.work) seen
+    → Absorbed share old new
+absorbed_so seen old new share same can left =
+    subst (λ (s : Seen). Absorbed share s new) same (record { can = can; left = left })
+
+pub taken_in : (round : run.Round) (pieces : ℕ) (progress new : Progress) (counts : Counts) (share : Share) (route : Route) (leaving : Leaving)
+    (work : Work) (rest : Rest) (parts : List Part)
+    → GoesBy round.program.now.model (piece_of share).function route
+    → Ready round pieces progress counts
+    → CanTakeIn round (core_of progress) share
+    → work_of (core_of progress) (piece_of share).function (piece_of share).number ≡ Some work
+    → IsMeaning (setting_of share) (piece_of share) rest parts
+    → leaving.ran ≡ length (piece_of share).agents
+    → ascending leaving.survivors.items ≡ rest.survivors
+    → leaving.sent.items ≡ flat_map (λ (part : Part). as_sent part.message part.rows) parts
+    → leaving.born.items ≡ rest.born
+    → leaving.fault ≡ rest.fault
+    → (let made : Core = record (core_of progress) {
+      statuses = with_work (core_of progress) (piece_of share).function (piece_of share).number
+          (added (outputs_of round.program.now.model (piece_of share).function) leaving work);
+      field = record (core_of progress).field {
+        pools = changed_pool route.agent route.to (λ pool. merge pool (ascending leaving.survivors.items)) (core_of progress).field.pools;
+        born = joined (births_of leaving.born.items) (core_of progress).field.born;
+      };
+    } in core_of new ≡ made)
+    → ((g : ℕ) (outputs : List ℕ) → HasOutputsAt progress g outputs → HasOutputsAt new g outputs)
+    → Came round.program.now.model
+    (replay (round_of round) pieces (core_of progress) (agent_events (piece_of share).function (piece_of share).number work)) new counts
+taken_in round pieces progress new counts share route leaving work rest parts goes ready can there meant ran lives sends bears faults is keeps =
+    let model = round.program.now.model in
+    let core = core_of progress in
+    let p = piece_of share in
+    let f = p.function in
+    let k = p.number in
+    let setting = setting_of share in
+    let place = goes.place in
+    let outputs = outputs_of model f in
+    let run : List ℤ → Outcome = outcome_in (round_of round) f core.field in
+    let runs : outcome_under setting f ≡ run = λ i memory. comes_to round f core.field setting can.setting memory i in
+    let same : can.work ≡ work = some_work can.work work (sym can.there ∙ there) in
+    let agents : p.agents ≡ work.agents = can.agents ∙ ap (λ (w : Work). w.agents) same in
+    let fresh : work.ran ≡ 0 = ap (λ (w : Work). w.ran) (sym same) ∙ can.new in
+    let fits = each_at (FitsWork model f place.type) (works_of (status_of core f)) k work (ready.fits.works f place goes.there) there in
+    let law = agents_run_at_once (round_of round) pieces f k place work core goes.there there fresh fits.some in
+    let survive : ascending leaving.survivors.items ≡ survivors run work.agents =
+    lives ∙ meant.survivors_are ∙ (λ i. survivors (runs i) (agents i)) in
+    let bear : leaving.born.items ≡ born_from run work.agents = bears ∙ meant.births_are ∙ (λ i. born_from (runs i) (agents i)) in
+    let fault : leaving.fault ≡ least_fault round.iteration f run work.agents =
+    faults ∙ meant.fault_is ∙ (λ i. least_fault (can.setting.iteration i) f (runs i) (agents i)) in
+    let out : outputs_at (place_of setting.source.now f) setting.source.now.model ≡ outputs =
+    ap (λ (s : Source). outputs_at (place_of s f) s.model) can.setting.source in
+    let parts_are : parts ≡ map (part_for p (sent_from run work.agents)) outputs =
+    meant.parts_are ∙ (λ i. map (part_for p (sent_from (runs i) (agents i))) (out i)) in
+    let sent : leaving.sent.items ≡ in_parts p (sent_from run work.agents) outputs =
+    sends ∙ ap (flat_map (λ (part : Part). as_sent part.message part.rows)) parts_are in
+    let tallies = ready.tallies in
+    let absorbed = absorbed_is (round_of round) f k place work core leaving route.agent route.to fresh (ran ∙ ap length agents)
+    goes.routed.agent goes.routed.to survive bear fault
+    (λ m among. ap (λ l. messages_of l m) sent ∙ parts_have p (sent_from run work.agents) outputs m (tallies.once f) among) in
+    let v : Status = Open (slice_set (works_of (status_of core f)) k (added outputs leaving work)) in
+    let made : Core = record core {
+      statuses = with_work core f k (added outputs leaving work);
+      field = record core.field {
+        pools = changed_pool route.agent route.to (λ pool. merge pool (ascending leaving.survivors.items)) core.field.pools;
+        born = joined (births_of leaving.born.items) core.field.born;
+      };
+    } in
+    let open_is = opens_with (status_of core f) k work there in
+    let less = open_within core.statuses f (works_of (status_of core f)) open_is in
+    let all = came model progress new counts counts made is
+    (length-set core.statuses f v) refl (λ g has. keeps g (outputs_of model g) has) tallies
+    (counted_kept model core made counts
+    (status_kept is_shut core.statuses f v less (sym (ap is_shut open_is))) refl tallies.counted) in
+    record { core = all.core ∙ absorbed ∙ sym law.1; tallies = all.tallies }
