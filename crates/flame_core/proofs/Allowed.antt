@@ -1,12 +1,12 @@
 -- What events ask for that are legal.
-use Rattle.std.proofs.Common.{◌≡◌, ℕ, ◌<◌, ◌≤◌, Bool, true, false, List, length, map, Some, refl, sym, ap, ◌∙◌, subst, arith, ⊎_elim}
-use Rattle.std.specs.Prelude.{◌&&◌, not, slice_get, slice_index_or}
-use Rattle.std.proofs.lemmas.Bool.{and_parts, cases_Bool, false≢true, ltb-true, true≢false}
+use Rattle.std.proofs.Common.{◌≡◌, ℕ, ◌<◌, Bool, true, false, length, refl, sym, ap, ◌∙◌, arith, ⊎_elim}
+use Rattle.std.specs.Prelude.{not}
+use Rattle.std.proofs.lemmas.Bool.{and_parts, cases_Bool, ltb-true, true≢false}
 use Rattle.std.proofs.lemmas.List.{length-map}
 use Rattle.flame_spec.specs.declared.models.Model.{Model}
 use Rattle.flame_spec.specs.Before.{function_count}
 use Rattle.flame_spec.specs.Below.{is_in}
-use Rattle.flame_events.specs.CoreStates.{Core, is_shut, is_frozen, part_in, status_of, work_of, works_of}
+use Rattle.flame_events.specs.CoreStates.{Core, is_shut, is_frozen, status_of, work_of, works_of}
 use Rattle.flame_events.specs.LegalEvents.{may_freeze, may_hand_in, may_shut, outputs_of}
 use Rattle.flame_events.proofs.Sound.{opens_with}
 use Rattle.flame_events.proofs.Works.{kept_is_output}
@@ -18,7 +18,6 @@ use Rattle.flame_pieces.specs.Waiting.{thing_at}
 use Rattle.flame_pieces.specs.RunStatuses.{status_of as kept_status}
 use Rattle.flame_progress.specs.declared.counts.Counts.{Counts}
 use Rattle.flame_progress.specs.declared.progress.Progress.{Progress}
-use Rattle.flame_progress.specs.RunBoards.{is_board_frozen}
 use Rattle.flame_progress.specs.RunCores.{core_of, kept_at}
 use Rattle.flame_progress.specs.RunWorkEvents.{OutputsOnce}
 use Rattle.flame_progress.specs.Tallying.{Tallies}

@@ -1,7 +1,7 @@
 -- What events that run agents leave, put together from what the body makes.
-use Rattle.std.proofs.Common.{◌≡◌, ℕ, ◌+◌, ◌<◌, ◌≤◌, true, false, Vec, ⊎_elim, get_or-set_same, get_or-set_other, List, [], ◌∷◌, ◌++◌, length, map, Option, Some, None, refl, sym, ap, ◌∙◌, subst, append-nil, Result, IfOk}
+use Rattle.std.proofs.Common.{◌≡◌, ℕ, ◌+◌, ◌<◌, true, false, Vec, ⊎_elim, get_or-set_same, get_or-set_other, List, [], ◌∷◌, ◌++◌, length, map, Some, refl, sym, ap, ◌∙◌, subst, append-nil, Result, IfOk}
 use Rattle.std.specs.Global.{Global}
-use Rattle.std.specs.Prelude.{ℤ, ◌&&◌, slice_get, slice_index_or, slice_set, IsTrue}
+use Rattle.std.specs.Prelude.{ℤ, slice_get, slice_index_or, slice_set}
 use Rattle.std.specs.Option.{option_or}
 use Rattle.std.specs.List.{All, cons_option}
 use Rattle.std.proofs.lemmas.Bool.{and_from, cases_eq}
@@ -9,14 +9,11 @@ use Rattle.std.proofs.lemmas.List.{length-map}
 use Rattle.std.proofs.lemmas.Result.{IfOk-weaker}
 use Rattle.flame_rows.specs.Bags.{ascending, merge}
 use Rattle.flame_spec.specs.declared.models.Model.{Model}
-use Rattle.flame_spec.specs.declared.outcomes.Outcome.{Outcome}
-use Rattle.flame_spec.specs.declared.outcomes.Source.{Source}
 use Rattle.flame_spec.specs.Accepted.{IsAccepted}
 use Rattle.flame_spec.specs.Choice.{takers}
 use Rattle.flame_spec.specs.Functions.{Place, functions}
 use Rattle.flame_world.specs.declared.turns.Turn.{Turn}
-use Rattle.flame_world.specs.declared.worlds.World.{World}
-use Rattle.flame_world.specs.AgentRuns.{born_by, born_from, births_of, fault_by, kept, sent_by, survivors}
+use Rattle.flame_world.specs.AgentRuns.{born_by, births_of, kept}
 use Rattle.flame_world.specs.Fields.{changed_pool, joined, pool_in, state_place}
 use Rattle.flame_world.specs.Iterations.{Round, iteration, outcome_in, staying}
 use Rattle.flame_world.specs.Meaning.{outputs_at}
@@ -26,7 +23,7 @@ use Rattle.flame_events.specs.Cuts.{cut}
 use Rattle.flame_events.specs.CoreEnds.{ending, is_complete}
 use Rattle.flame_events.specs.CoreFits.{FitsCore}
 use Rattle.flame_events.specs.CoreStates.{Work, Status, Waiting, Open, Shut, Faulted, is_shut, is_waiting, Core, status_of, work_of}
-use Rattle.flame_events.specs.EventSteps.{after, arrived, fresh_work, opened, ran_agent, ran_next, replay, with_agent, with_sent, with_work}
+use Rattle.flame_events.specs.EventSteps.{after, fresh_work, opened, ran_agent, ran_next, replay, with_agent, with_sent, with_work}
 use Rattle.flame_events.specs.EveryOrder.{EveryOrderIsTheIteration}
 use Rattle.flame_events.specs.Histories.{Leads}
 use Rattle.flame_events.specs.LegalEvents.{is_legal, outputs_of}
@@ -45,7 +42,7 @@ use Rattle.flame_progress.specs.RunCores.{core_of}
 use Rattle.flame_progress.specs.RunPools.{bags_of}
 use Rattle.flame_progress.specs.RunCounts.{Counted}
 use Rattle.flame_progress.specs.RunWorkEvents.{added}
-use Rattle.flame_progress.specs.Tallying.{Came, Tallies}
+use Rattle.flame_progress.specs.Tallying.{Came}
 use Rattle.flame_progress.proofs.Changed.{changed_pool-to}
 use Rattle.flame_progress.proofs.Tallied.{counted_kept, status_kept}
 use Rattle.flame_core.specs.AgentLeavings.{IsLeft}

@@ -1,7 +1,6 @@
 -- The turn of an iteration without a fault.
 use Rattle.std.proofs.Common.{◌≡◌, List, None}
 use Rattle.std.specs.Prelude.{ℤ}
-use Rattle.flame_world.specs.declared.turns.Turn.{Turn}
 use Rattle.flame_world.specs.declared.turns.Turn.TheVariants.{Done}
 use Rattle.flame_world.specs.declared.worlds.Boards.{Boards}
 use Rattle.flame_world.specs.declared.worlds.World.{World}

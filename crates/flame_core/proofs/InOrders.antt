@@ -1,6 +1,6 @@
 -- Functions that began have their boards frozen, and frozen boards their writers shut, whatever events come.
-use Rattle.std.proofs.Common.{◌≡◌, ℕ, zero, suc, ◌+◌, ◌-◌, ◌/◌, ◌<◌, ◌≤◌, ◌⊎◌, inl, inr, ⊎_elim, Bool, true, false, cond, List, [], ◌∷◌, length, map, drop, take, Option, Some, None, refl, sym, ap, ◌∙◌, arith, subst, length-set, get_or-set_same, get_or-set_other}
-use Rattle.std.specs.Prelude.{ℤ, ◌==◌, ◌||◌, ◌&&◌, slice_get, slice_set, slice_index_or}
+use Rattle.std.proofs.Common.{◌≡◌, ℕ, zero, suc, ◌<◌, ◌≤◌, ◌⊎◌, inl, inr, ⊎_elim, Bool, true, false, List, [], ◌∷◌, length, map, drop, Option, Some, None, refl, sym, ap, ◌∙◌, arith, subst, length-set, get_or-set_same, get_or-set_other}
+use Rattle.std.specs.Prelude.{ℤ, ◌==◌, ◌||◌, slice_get, slice_set, slice_index_or}
 use Rattle.std.specs.List.{list_all, position_or_len}
 use Rattle.std.proofs.lemmas.Bool.{and_parts, and_from, cases_eq, eqb-true, ltb-true, false≢true, true≢false}
 use Rattle.std.proofs.lemmas.List.{length-map}
@@ -13,16 +13,14 @@ use Rattle.flame_world.specs.Iterations.{Round, outcome_in, taking}
 use Rattle.flame_events.specs.declared.events.Event.{Event}
 use Rattle.flame_events.specs.declared.events.Event.TheVariants as event
 use Rattle.flame_events.specs.Cuts.{cut, piece_size, runs}
-use Rattle.flame_events.specs.CoreStates.{Work, Status, Waiting, Open, Shut, Faulted, is_waiting, is_shut, works_of, fault_in, Core, status_of, work_of, is_frozen, part_in, opening_core}
-use Rattle.flame_events.specs.LegalEvents.{inputs_of, outputs_of, writers, may_freeze, may_shut, is_legal}
+use Rattle.flame_events.specs.CoreStates.{Work, Status, Waiting, Open, Shut, Faulted, is_waiting, is_shut, works_of, fault_in, Core, status_of, work_of, is_frozen, opening_core}
+use Rattle.flame_events.specs.LegalEvents.{inputs_of, outputs_of, writers, may_freeze, is_legal}
 use Rattle.flame_events.specs.EventSteps.{fresh_work, opened, done_with, after, handed_in, joined_board, ran_agent, ran_next, with_agent, replay, are_legal}
 use Rattle.flame_events.specs.CoreFits.{FitsCore}
-use Rattle.flame_events.specs.Histories.{Leads}
 use Rattle.flame_events.proofs.CoreWidths.{fitting_cores_open, fitting_cores_stay}
-use Rattle.flame_world.specs.declared.worlds.World.{World}
 use Rattle.flame_core.specs.SeenCores.{Seen, IsReached, round_in, start_in}
 use Rattle.flame_events.proofs.Legality.{in_writers}
-use Rattle.flame_events.proofs.Sound.{can_open, opens_with, past_waiting}
+use Rattle.flame_events.proofs.Sound.{can_open, opens_with}
 use Rattle.flame_events.proofs.Works.{all_of_list}
 use Rattle.flame_progress.proofs.Known.{may_hand_in_is, may_shut_is, open_within}
 use Rattle.flame_progress.proofs.Tallied.{mark_set}

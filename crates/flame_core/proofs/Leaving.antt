@@ -1,22 +1,20 @@
 -- What the next agent of a piece leaves.
-use Rattle.std.proofs.Common.{◌≡◌, ℕ, zero, suc, ◌<◌, Bool, true, false, List, [], ◌∷◌, length, map, Option, Some, None, refl, sym, ap, ◌∙◌, subst, arith}
+use Rattle.std.proofs.Common.{◌≡◌, ℕ, zero, suc, ◌<◌, Bool, true, List, [], ◌∷◌, length, Option, Some, None, refl, sym, ap, ◌∙◌, subst, arith}
 use Rattle.std.specs.Prelude.{ℤ, slice_get, slice_index_or}
 use Rattle.std.specs.List.{All, list_all}
 use Rattle.std.proofs.lemmas.Bool.{and_parts, false≢true, ltb-true}
 use Rattle.flame_spec.specs.declared.outcomes.Outcome.{Outcome}
 use Rattle.flame_spec.specs.declared.outcomes.Source.{Source}
 use Rattle.flame_sense.specs.Outcomes.{outcome, place_of}
-use Rattle.flame_sense.specs.RangeLaws.{Each}
 use Rattle.flame_world.specs.declared.settings.Setting.{Setting}
 use Rattle.flame_world.specs.InputBoards.{boards_named}
 use Rattle.flame_world.specs.Meaning.{outcome_under}
 use Rattle.flame_world.specs.Settings.{boards_of}
 use Rattle.flame_world.proofs.NamedBoards.{named_boards_are_enough}
-use Rattle.flame_events.specs.CoreStates.{Work, Core, has_left, work_of}
+use Rattle.flame_events.specs.CoreStates.{Work, Core, work_of}
 use Rattle.flame_events.specs.LegalEvents.{may_run}
 use Rattle.flame_events.proofs.Spots.{get_there}
 use Rattle.flame_progress.specs.declared.leavings.Leaving.{Leaving}
-use Rattle.flame_progress.specs.RunWorkEvents.{are_left}
 use Rattle.flame_core.specs.AgentLeavings.{HasNext, IsLeft, IsNext}
 
 -- what is left under a setting is left over the boards of all messages

@@ -1,9 +1,9 @@
 -- How a core begins.
-use Rattle.std.proofs.Common.{◌≡◌, ℕ, zero, suc, ◌+◌, ◌<◌, ◌≤◌, Bool, true, false, cond, List, [], ◌∷◌, ◌++◌, length, map, take, get_or, replicate, Option, Some, None, refl, sym, ap, ◌∙◌, subst, arith, ⊎_elim}
-use Rattle.std.specs.Prelude.{ℤ, ◌==◌, ◌&&◌, ◌||◌, nat_lt, option_map, slice_get, slice_index_or}
+use Rattle.std.proofs.Common.{◌≡◌, ℕ, zero, suc, ◌+◌, ◌<◌, ◌≤◌, Bool, true, false, List, [], ◌∷◌, ◌++◌, length, map, take, get_or, replicate, Option, Some, None, refl, sym, ap, ◌∙◌, subst, arith, ⊎_elim}
+use Rattle.std.specs.Prelude.{◌==◌, ◌&&◌, ◌||◌, nat_lt, slice_get, slice_index_or}
 use Rattle.std.specs.List.{All, AllZip, cons_option, filter_map, list_any, zip}
-use Rattle.std.proofs.lemmas.Bool.{cases_eq, cases_lt, eq-eqb, ne_eqb, lt-ltb, le-ltb, ltb-true, and_parts, false≢true}
-use Rattle.std.proofs.lemmas.List.{length-map, take_more}
+use Rattle.std.proofs.lemmas.Bool.{cases_eq, cases_lt, eq-eqb, ne_eqb, lt-ltb, le-ltb, ltb-true, and_parts}
+use Rattle.std.proofs.lemmas.List.{take_more}
 use Rattle.std.proofs.lemmas.List.Folds.{list_any-append}
 use Rattle.flame_spec.specs.declared.models.Model.{Model}
 use Rattle.flame_spec.specs.Before.{before, both_stand, function_count}
@@ -13,12 +13,11 @@ use Rattle.flame_spec.proofs.FirstBelow.{is_in-all_below}
 use Rattle.flame_depend.specs.declared.pairs.Edge.{Edge}
 use Rattle.flame_depend.specs.Edges.{edge, edges_below, edges_of, edges_to}
 use Rattle.flame_world.specs.Meaning.{outputs_at}
-use Rattle.flame_events.specs.CoreStates.{Status, Waiting}
+use Rattle.flame_events.specs.CoreStates.{Waiting}
 use Rattle.flame_events.specs.LegalEvents.{inputs_at, inputs_of, outputs_of}
 use Rattle.flame_events.proofs.Spots.{get_below, get_there, output_named}
 use Rattle.flame_pieces.specs.FreeThings.{Tells}
 use Rattle.flame_pieces.specs.Waiting as waits
-use Rattle.flame_pieces.specs.declared.statuses.Status as kept
 use Rattle.flame_pieces.specs.declared.statuses.Status.TheVariants as is
 use Rattle.flame_pieces.specs.RunStatuses.{status_of, HasOutputs}
 use Rattle.flame_pieces.proofs.Freeing.{waiters_are_told}

@@ -1,8 +1,8 @@
 -- No function of an accepted source outputs a message twice.
-use Rattle.std.proofs.Common.{◌≡◌, ℕ, zero, suc, ◌+◌, ◌<◌, ◌≤◌, Bool, true, false, cond, List, [], ◌∷◌, length, Option, Some, None, refl, sym, ap, ◌∙◌, subst, arith, ⊎_elim}
-use Rattle.std.specs.Prelude.{◌==◌, option_map, slice_get, slice_index_or}
+use Rattle.std.proofs.Common.{◌≡◌, ℕ, suc, ◌+◌, ◌≤◌, true, false, cond, List, [], ◌∷◌, Option, Some, None, refl, sym, ap, ◌∙◌, arith}
+use Rattle.std.specs.Prelude.{◌==◌, option_map, slice_get}
 use Rattle.std.specs.List.{filter_map, cons_option}
-use Rattle.std.proofs.lemmas.Bool.{cases_lt, eqb-true}
+use Rattle.std.proofs.lemmas.Bool.{eqb-true}
 use Rattle.std.proofs.lemmas.List.Sums.{sum_by-cons}
 use Rattle.std.proofs.lemmas.Option.{get_or_from_slice_get, slice_get_within}
 use Rattle.flame_spec.specs.declared.models.MessageType.{MessageType}
@@ -18,7 +18,7 @@ use Rattle.flame_world.specs.Meaning.{outputs_at}
 use Rattle.flame_world.proofs.NextStates.{function_at}
 use Rattle.flame_world.proofs.RowsKept.{place_type}
 use Rattle.flame_events.specs.LegalEvents.{outputs_of}
-use Rattle.flame_events.proofs.Spots.{IsNamed, named}
+use Rattle.flame_events.proofs.Spots.{named}
 
 abbrev number_of : Model → List ℕ → Option ℕ
 number_of model name = option_map (λ found. found.0) (message_named model.messages name)

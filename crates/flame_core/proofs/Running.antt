@@ -1,15 +1,15 @@
 -- A piece whose next agent runs.
-use Rattle.std.proofs.Common.{◌≡◌, ℕ, ◌<◌, true, false, List, length, map, Some, Vec, refl, sym, ap, ◌∙◌, subst, arith}
+use Rattle.std.proofs.Common.{◌≡◌, ℕ, ◌<◌, true, List, length, map, Some, Vec, sym, ap, ◌∙◌, subst, arith}
 use Rattle.std.specs.Global.{Global}
-use Rattle.std.specs.Prelude.{ℤ, slice_get, slice_index_or}
-use Rattle.std.specs.List.{All, list_all}
+use Rattle.std.specs.Prelude.{ℤ, slice_get}
+use Rattle.std.specs.List.{All}
 use Rattle.std.proofs.lemmas.List.{length-map}
 use Rattle.flame_spec.specs.declared.models.Model.{Model}
 use Rattle.flame_spec.specs.Before.{function_count}
 use Rattle.flame_spec.specs.Columns.{width}
 use Rattle.flame_spec.specs.Functions.{Place, functions}
 use Rattle.flame_events.specs.CoreFits.{FitsCore, FitsWork}
-use Rattle.flame_events.specs.CoreStates.{Work, Core, is_waiting, status_of, work_of, works_of, is_frozen}
+use Rattle.flame_events.specs.CoreStates.{Core, is_waiting, status_of, work_of, works_of, is_frozen}
 use Rattle.flame_events.specs.LegalEvents.{inputs_at, inputs_of, may_run}
 use Rattle.flame_events.proofs.Sound.{opens_with}
 use Rattle.flame_events.proofs.Works.{each_at}

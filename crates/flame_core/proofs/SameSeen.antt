@@ -1,5 +1,5 @@
 -- Two lists compared place by place, by what is seen of the elements of each.
-use Rattle.std.proofs.Common.{◌≡◌, ℕ, zero, suc, ◌+◌, ◌<◌, List, [], ◌∷◌, length, map, take, get_or, refl, sym, ap, ◌∙◌, arith, add-one}
+use Rattle.std.proofs.Common.{◌≡◌, ℕ, zero, suc, ◌+◌, ◌<◌, List, [], ◌∷◌, length, map, take, get_or, sym, ap, ◌∙◌, arith, add-one}
 
 module _ {X Y Z : Type 0} (f : X → Z) (g : Y → Z) where
   pub same_at : (xs : List X) (ys : List Y) (i : ℕ) (x : X) (y : Y)

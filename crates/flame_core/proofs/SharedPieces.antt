@@ -1,15 +1,14 @@
 -- A share of a piece, as what its agents leave.
-use Rattle.std.proofs.Common.{◌≡◌, ℕ, zero, suc, ◌+◌, ◌<◌, ◌≤◌, Bool, true, false, cond, List, [], ◌∷◌, ◌++◌, length, map, Option, Some, None, refl, sym, ap, ◌∙◌, subst, arith, append-nil, one-add, zero-add, ⊎_elim}
-use Rattle.std.specs.Prelude.{ℤ, ◌==◌, ◌||◌, option_map, slice_get}
-use Rattle.std.specs.List.{filter, flat_map, zip}
+use Rattle.std.proofs.Common.{◌≡◌, ℕ, ◌+◌, ◌≤◌, Bool, true, false, cond, List, [], ◌∷◌, ◌++◌, length, map, Option, Some, None, refl, sym, ap, ◌∙◌, arith, append-nil}
+use Rattle.std.specs.Prelude.{ℤ, ◌==◌, ◌||◌, option_map}
+use Rattle.std.specs.List.{filter, flat_map}
 use Rattle.std.specs.Option.{option_or}
-use Rattle.std.proofs.lemmas.Bool.{cases_eq, eq-eqb, ne_eqb, eqb-true, false≢true}
+use Rattle.std.proofs.lemmas.Bool.{eq-eqb, ne_eqb, eqb-true, false≢true}
 use Rattle.std.proofs.lemmas.List.Sums.{sum_by-cons}
 use Rattle.flame_rows.specs.Bags.{ascending, merge}
-use Rattle.flame_spec.specs.declared.outcomes.Outcome.{Outcome}
 use Rattle.flame_spec.specs.declared.outcomes.Sent.{Sent}
 use Rattle.flame_spec.specs.Below.{is_in, times, HasNoTwice}
-use Rattle.flame_spec.specs.Functions.{Place, functions}
+use Rattle.flame_spec.specs.Functions.{Place}
 use Rattle.flame_world.specs.declared.pieces.Part.{Part}
 use Rattle.flame_world.specs.declared.pieces.Piece.{Piece}
 use Rattle.flame_world.specs.AgentRuns.{born_from, births_of, least_fault, messages_of, sent_from, survivors}

@@ -1,31 +1,27 @@
 -- A share that is taken in, as what its piece's Agent events leave.
-use Rattle.std.proofs.Common.{◌≡◌, ℕ, ◌<◌, ◌≤◌, true, false, List, [], length, map, Some, refl, sym, ap, ◌∙◌, subst, arith, length-set, ⊎_elim}
-use Rattle.std.specs.Prelude.{ℤ, ◌↔◌, slice_get, slice_index_or, slice_set}
-use Rattle.std.specs.Arc.{arc_value}
-use Rattle.std.specs.List.{All, flat_map}
+use Rattle.std.proofs.Common.{◌≡◌, ℕ, ◌<◌, ◌≤◌, false, List, length, map, Some, refl, sym, ap, ◌∙◌, subst, arith, length-set, ⊎_elim}
+use Rattle.std.specs.Prelude.{ℤ, slice_index_or, slice_set}
+use Rattle.std.specs.List.{flat_map}
 use Rattle.std.proofs.lemmas.Bool.{cases_lt, false≢true}
 use Rattle.flame_rows.specs.Bags.{ascending, merge}
 use Rattle.flame_spec.specs.declared.models.Model.{Model}
 use Rattle.flame_spec.specs.declared.outcomes.Outcome.{Outcome}
 use Rattle.flame_spec.specs.declared.outcomes.Source.{Source}
 use Rattle.flame_spec.specs.Before.{function_count}
-use Rattle.flame_spec.specs.Below.{is_in}
 use Rattle.flame_spec.specs.Functions.{functions}
 use Rattle.flame_sense.specs.Outcomes.{outcome, place_of}
 use Rattle.flame_world.specs.declared.pieces.Part.{Part}
-use Rattle.flame_world.specs.declared.pieces.Piece.{Piece}
 use Rattle.flame_world.specs.declared.pieces.Rest.{Rest}
 use Rattle.flame_world.specs.declared.settings.Setting.{Setting}
 use Rattle.flame_world.specs.declared.shares.Share.{Share}
 use Rattle.flame_world.specs.AgentRuns.{born_from, births_of, least_fault, messages_of, sent_from, survivors}
 use Rattle.flame_world.specs.Fields.{Field, changed_pool, joined}
 use Rattle.flame_world.specs.InputBoards.{boards_named}
-use Rattle.flame_world.specs.Iterations.{Round, outcome_in}
+use Rattle.flame_world.specs.Iterations.{outcome_in}
 use Rattle.flame_world.specs.Meaning.{IsMeaning, outcome_under, outputs_at, part_for}
 use Rattle.flame_world.specs.Settings.{boards_of}
 use Rattle.flame_world.specs.Shares.{piece_of, setting_of}
 use Rattle.flame_world.proofs.NamedBoards.{named_boards_are_enough}
-use Rattle.flame_events.specs.declared.events.Event.{Event}
 use Rattle.flame_events.specs.AbsorbedPieces.{agent_events}
 use Rattle.flame_events.specs.CoreFits.{FitsCore, FitsWork}
 use Rattle.flame_events.specs.CoreStates.{Work, Status, Open, Waiting, Core, is_shut, is_waiting, status_of, work_of, works_of}

@@ -1,5 +1,5 @@
 -- How a core is seen, and how it came to be.
-use Rattle.std.specs.Prelude.{◌≡◌, ℕ, ◌<◌, ℤ, List}
+use Rattle.std.specs.Prelude.{ℕ, ◌<◌, ℤ, List}
 use Rattle.flame_spec.specs.declared.outcomes.Source.{Source}
 use Rattle.flame_world.specs.declared.worlds.World.{World}
 use Rattle.flame_world.specs.Iterations.{Round, round_of}

@@ -1,5 +1,5 @@
 -- A share is taken in.
-use Rattle.std.proofs.Common.{◌≡◌, ◌∙◌, List, Some, ap, length, refl, subst, sym}
+use Rattle.std.proofs.Common.{◌≡◌, ◌∙◌, Some, ap, length, refl, subst, sym}
 use Rattle.std.specs.Prelude.{ℕ}
 use Rattle.std.specs.List.{flat_map}
 use Rattle.flame_rows.specs.Bags.{ascending, merge}

@@ -1,5 +1,5 @@
-use Rattle.std.proofs.Common.{◌≡◌, ◌∙◌, ◌<◌, List, Some, true, false, arith, ap, length, map, refl, subst, sym}
-use Rattle.std.specs.Prelude.{ℕ, slice_index_or}
+use Rattle.std.proofs.Common.{◌≡◌, ◌∙◌, List, true, false, arith, ap, length, map, refl, subst, sym}
+use Rattle.std.specs.Prelude.{slice_index_or}
 use Rattle.std.specs.List.{All}
 use Rattle.std.proofs.lemmas.List.{length-map}
 use Rattle.flame_world.specs.declared.pieces.Piece.{Piece}

@@ -1,4 +1,4 @@
-use Rattle.std.proofs.Common.{◌≡◌, ◌∙◌, [], List, ap, map, refl, rules, sym, to_z, w32, SFits}
+use Rattle.std.proofs.Common.{◌∙◌, [], List, ap, map, refl, rules, sym, to_z, w32, SFits}
 use Rattle.std.specs.Prelude.{ℤ, slice_index_or}
 use Rattle.std.proofs.lemmas.Int.{to_z-of_z}
 use Rattle.std.specs.Arc.{arc_value}

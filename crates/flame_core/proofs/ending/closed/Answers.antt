@@ -1,4 +1,4 @@
-use Rattle.std.proofs.Common.{◌≡◌, ◌∙◌, [], List, ap, length, map, sym}
+use Rattle.std.proofs.Common.{◌∙◌, [], List, ap, map}
 use Rattle.std.specs.Prelude.{ℤ}
 use Rattle.std.specs.List.{flat_map, zip}
 use Rattle.flame_rows.specs.Bags.{merge}

@@ -1,4 +1,4 @@
-use Rattle.std.proofs.Common.{◌≡◌, ◌∙◌, ap, length, sym, None, Some, Err, Ok}
+use Rattle.std.proofs.Common.{◌∙◌, ap, length, sym}
 use Rattle.flame_spec.specs.declared.outcomes.Source.{Source}
 use Rattle.flame_world.specs.Fields.{Field, gathered}
 use Rattle.flame_world.specs.Iterations.{turn_of, unless_faulted}

@@ -1,5 +1,5 @@
 -- The first function in model order that is faulted.
-use Rattle.std.proofs.Common.{◌≡◌, ◌∙◌, ◌+◌, ◌<◌, Some, None, false, ap, get_or, length, sym, subst, arith}
+use Rattle.std.proofs.Common.{◌≡◌, ◌∙◌, Some, false, ap, get_or, length, sym, arith}
 use Rattle.std.specs.Prelude.{ℕ, position}
 use Rattle.flame_events.specs.CoreEnds.{is_faulted}
 use Rattle.flame_progress.specs.RunCores.{core_of}

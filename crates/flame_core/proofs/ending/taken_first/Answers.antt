@@ -1,9 +1,7 @@
 -- The first that is faulted gives its fault.
-use Rattle.std.proofs.Common.{◌≡◌, ◌∙◌, ◌+◌, ◌<◌, [], true, false, List, Option, Some, None, ap, drop, get_or, length, sym, subst, arith, refl}
-use Rattle.std.specs.Prelude.{ℕ, is_some, slice_index_or}
-use Rattle.std.specs.Option.{option_or}
-use Rattle.std.proofs.lemmas.List.{drop_all, length-map, length-set}
-use Rattle.flame_world.specs.declared.faults.SimFault.{SimFault}
+use Rattle.std.proofs.Common.{◌≡◌, ◌∙◌, ◌+◌, ◌<◌, true, false, ap, drop, length, sym, arith}
+use Rattle.std.specs.Prelude.{slice_index_or}
+use Rattle.std.proofs.lemmas.List.{drop_all, length-map}
 use Rattle.flame_events.specs.CoreEnds.{first_fault, is_faulted}
 use Rattle.flame_events.specs.CoreStates.{Core, fault_of, status_of}
 use Rattle.flame_events.proofs.Ends.{first_fault-cons}

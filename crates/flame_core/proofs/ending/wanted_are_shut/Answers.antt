@@ -1,9 +1,8 @@
 -- One wanted function more.
-use Rattle.std.proofs.Common.{◌≡◌, ◌∙◌, ◌+◌, [], Bool, true, false, List, ap, drop, length, sym, arith}
+use Rattle.std.proofs.Common.{◌∙◌, ◌+◌, Bool, List, ap, drop, sym, arith}
 use Rattle.std.specs.Prelude.{ℕ, ◌&&◌, slice_index_or}
 use Rattle.std.proofs.lemmas.List.{drop_all}
 use Rattle.flame_events.specs.CoreEnds.{unfaulted}
-use Rattle.flame_events.specs.CoreStates.{is_shut, status_of}
 use Rattle.flame_events.specs.LegalEvents.{are_shut}
 use Rattle.flame_progress.specs.RunCores.{core_of}
 use Rattle.flame_core.proofs.Gets.{drop-next}

@@ -1,5 +1,5 @@
 -- Every event.
-use Rattle.std.proofs.Common.{◌≡◌, true, sym, ap, ◌∙◌, subst}
+use Rattle.std.proofs.Common.{sym, ap, ◌∙◌, subst}
 use Rattle.flame_events.specs.declared.events.Event.{Event}
 use Rattle.flame_events.specs.LegalEvents.{is_legal}
 use Rattle.flame_events.specs.EventSteps.{after}

@@ -1,5 +1,5 @@
-use Rattle.std.proofs.Common.{◌≡◌, ◌∙◌, List, None, Some, ap, map, sym, subst}
-use Rattle.std.specs.Prelude.{ℤ, slice_get}
+use Rattle.std.proofs.Common.{List, sym, subst}
+use Rattle.std.specs.Prelude.{ℤ}
 use Rattle.std.proofs.lemmas.Result.{IfOk-weaker}
 use Rattle.flame_sense.specs.Outcomes.{outcome}
 use Rattle.flame_pieces.specs.RunWorks.{work_of as kept_work}

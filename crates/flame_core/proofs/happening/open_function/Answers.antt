@@ -1,14 +1,12 @@
 -- A function is opened.
 use Rattle.std.proofs.Common.{◌≡◌, ◌<◌, List, length, map, refl, sym, ap, ◌∙◌, subst, arith, length-set}
-use Rattle.std.specs.Prelude.{ℤ, ℕ, slice_index_or, slice_set}
+use Rattle.std.specs.Prelude.{ℕ, slice_index_or, slice_set}
 use Rattle.std.specs.List.{All}
 use Rattle.std.proofs.lemmas.List.{length-map}
-use Rattle.flame_spec.specs.Choice.{takers}
-use Rattle.flame_spec.specs.Before.{function_count}
 use Rattle.flame_world.specs.Fields.{changed_pool, pool_in, state_place}
 use Rattle.flame_world.specs.Meaning.{outputs_at}
 use Rattle.flame_events.specs.Cuts.{cut}
-use Rattle.flame_events.specs.CoreStates.{Open, Core}
+use Rattle.flame_events.specs.CoreStates.{Open}
 use Rattle.flame_events.specs.EventSteps.{fresh_work}
 use Rattle.flame_events.specs.LegalEvents.{outputs_of}
 use Rattle.flame_events.proofs.Sound.{can_open}

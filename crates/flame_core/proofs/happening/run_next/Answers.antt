@@ -1,21 +1,17 @@
 -- The next agent of a piece runs.
-use Rattle.std.proofs.Common.{◌≡◌, ◌∙◌, ◌+◌, ◌<◌, ◌≤◌, true, false, Some, List, [], length, map, refl, sym, ap, subst, arith, length-set}
-use Rattle.std.specs.Prelude.{ℤ, ℕ, slice_get, slice_index_or, slice_set}
+use Rattle.std.proofs.Common.{◌≡◌, ◌∙◌, ◌+◌, ◌<◌, true, Some, [], length, map, refl, sym, ap, subst, arith, length-set}
+use Rattle.std.specs.Prelude.{slice_index_or, slice_set}
 use Rattle.std.specs.Arc.{arc_value}
 use Rattle.std.specs.List.{All}
-use Rattle.std.proofs.lemmas.Bool.{le-leb, ltb-true}
-use Rattle.std.proofs.lemmas.List.{length-map}
+use Rattle.std.proofs.lemmas.Bool.{le-leb}
 use Rattle.flame_rows.specs.Bags.{ascending, merge}
 use Rattle.flame_world.specs.AgentRuns.{births_of}
 use Rattle.flame_world.specs.Fields.{changed_pool, joined}
-use Rattle.flame_world.specs.Iterations.{outcome_in}
 use Rattle.flame_events.specs.CoreStates.{Status, Open, Core, is_shut, status_of, work_of, works_of, is_frozen}
 use Rattle.flame_events.specs.EventSteps.{with_work}
 use Rattle.flame_events.specs.LegalEvents.{outputs_of}
 use Rattle.flame_events.proofs.Sound.{opens_with}
-use Rattle.flame_pieces.specs.RunStatuses.{status_of as kept_status}
-use Rattle.flame_progress.specs.declared.progress.Progress.{Progress}
-use Rattle.flame_progress.specs.RunBoards.{board_bag, is_board_frozen}
+use Rattle.flame_progress.specs.RunBoards.{board_bag}
 use Rattle.flame_progress.specs.RunCores.{core_of}
 use Rattle.flame_progress.specs.RunWorkEvents.{added, are_left}
 use Rattle.flame_progress.specs.Tallying.{Came}

@@ -1,7 +1,6 @@
 -- A core begins.
-use Rattle.std.proofs.Common.{◌≡◌, ◌∙◌, [], false, List, ap, length, map, refl, replicate, sym, subst}
+use Rattle.std.proofs.Common.{◌≡◌, ◌∙◌, [], false, List, ap, length, map, refl, sym, subst}
 use Rattle.std.specs.Prelude.{ℤ, slice_index_or}
-use Rattle.std.specs.List.{zip}
 use Rattle.std.proofs.lemmas.List.{length-map}
 use Rattle.flame_spec.specs.declared.models.AgentType.{AgentType}
 use Rattle.flame_spec.specs.declared.models.MessageType.{MessageType}
@@ -12,7 +11,7 @@ use Rattle.flame_world.specs.Fields.{begun, joined}
 use Rattle.flame_pieces.specs.declared.statuses.Status.{Status}
 use Rattle.flame_pieces.specs.declared.statuses.Status.TheVariants as is
 use Rattle.flame_pieces.specs.RunStatuses.{status_of, HasOutputs}
-use Rattle.flame_progress.specs.RunPools.{bags_of, pools_of}
+use Rattle.flame_progress.specs.RunPools.{bags_of}
 use Rattle.flame_progress.proofs.Joining.{joined-nothing}
 use Rattle.flame_core.proofs.Openings.{all_wait, none_has, zip_long}
 use Rattle.flame_progress.proofs.Cores.{same_for_all}

@@ -1,4 +1,4 @@
-use Rattle.std.proofs.Common.{◌≡◌, ◌∙◌, ◌<◌, false, ap, arith, get_or, length, sym, take}
+use Rattle.std.proofs.Common.{◌≡◌, ◌∙◌, ◌<◌, false, ap, arith, get_or, length, take}
 use Rattle.std.proofs.lemmas.List.{take_all}
 use Rattle.flame_spec.specs.declared.outcomes.Source.{Source}
 use Rattle.flame_spec.specs.Before.{before, function_count}

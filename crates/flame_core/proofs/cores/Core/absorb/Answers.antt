@@ -1,16 +1,14 @@
 -- A share comes, or nothing changes.
-use Rattle.std.proofs.Common.{◌≡◌, ◌∙◌, ap, refl, rules, subst, sym, w32, SFits}
+use Rattle.std.proofs.Common.{◌∙◌, refl, rules, subst, sym, w32, SFits}
 use Rattle.std.specs.Prelude.{ℤ}
 use Rattle.std.proofs.lemmas.Int.{to_z-of_z}
 use Rattle.flame_world.specs.Shares.{piece_of}
 use Rattle.flame_events.specs.AbsorbedPieces.{agent_events}
-use Rattle.flame_events.specs.CoreStates.{Core}
 use Rattle.flame_events.specs.EventSteps.{replay}
 use Rattle.flame_progress.specs.RunCores.{core_of}
 use Rattle.flame_progress.specs.Tallying.{Came}
 use Rattle.flame_core.specs.CoreCalls.{CanAbsorb}
-use Rattle.flame_core.specs.RunReady.{Ready}
-use Rattle.flame_core.specs.SeenCores.{Seen, round_in, when_came}
+use Rattle.flame_core.specs.SeenCores.{Seen, round_in}
 use Rattle.flame_core.proofs.Comings.{reached_fits, seen_so, seen_when, stands_on, stands_still}
 use Rattle.flame_core.proofs.Done.{was_err, was_ok}
 use Rattle.flame_core.proofs.InOrders.{reached_in_order}

@@ -1,4 +1,4 @@
-use Rattle.std.proofs.Common.{◌≡◌, ◌^◌, ap, ◌∙◌, arith}
+use Rattle.std.proofs.Common.{◌^◌, ap, ◌∙◌, arith}
 use Rattle.std.proofs.lemmas.Bool.{ltb-true}
 use Rattle.flame_spec.specs.Before.{before, function_count}
 use Rattle.flame_events.specs.CoreEnds.{least_fault_rank}

@@ -1,5 +1,5 @@
 -- A core begins.
-use Rattle.std.proofs.Common.{◌≡◌, ◌∙◌, ◌<◌, ◌≤◌, [], true, false, ap, length, refl, sym, subst, w32, rules, SFits}
+use Rattle.std.proofs.Common.{◌≡◌, ◌∙◌, [], true, false, ap, length, refl, sym, subst, w32, rules, SFits}
 use Rattle.std.specs.Prelude.{ℕ}
 use Rattle.std.proofs.lemmas.Int.{to_z-of_z}
 use Rattle.std.proofs.lemmas.List.{length-map}

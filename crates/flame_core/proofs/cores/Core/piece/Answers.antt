@@ -1,5 +1,4 @@
 use Rattle.std.proofs.Common.{◌≡◌, ◌<◌, length, None, Some, refl, sym, ap, ◌∙◌, subst}
-use Rattle.std.specs.Prelude.{slice_get}
 use Rattle.flame_events.specs.CoreStates.{status_of, work_of, works_of}
 use Rattle.flame_pieces.specs.RunWorks.{work_of as kept_work}
 use Rattle.flame_core.specs.SeenCores.{Seen}

@@ -1,4 +1,4 @@
-use Rattle.std.proofs.Common.{◌≡◌, length, sym, ap, ◌∙◌, arith}
+use Rattle.std.proofs.Common.{length, ap, ◌∙◌, arith}
 use Rattle.flame_events.specs.CoreStates.{status_of, works_of}
 use Rattle.flame_progress.specs.RunCores.{core_of}
 use Rattle.flame_core.specs.SeenCores.{Seen}

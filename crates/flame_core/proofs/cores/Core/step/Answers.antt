@@ -1,8 +1,7 @@
 -- An event comes, or nothing changes.
-use Rattle.std.proofs.Common.{◌≡◌, [], ◌∷◌, true, false, refl, sym, ap, ◌∙◌, subst, w32, rules, SFits}
+use Rattle.std.proofs.Common.{[], ◌∷◌, refl, sym, ap, ◌∙◌, subst, w32, rules, SFits}
 use Rattle.std.specs.Prelude.{ℤ}
 use Rattle.std.proofs.lemmas.Int.{to_z-of_z}
-use Rattle.flame_events.specs.CoreStates.{Core}
 use Rattle.flame_events.specs.EventSteps.{after}
 use Rattle.flame_progress.specs.RunCores.{core_of}
 use Rattle.flame_core.specs.CoreCalls.{allows}
