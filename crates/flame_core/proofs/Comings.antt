@@ -111,7 +111,7 @@ agent_is round pieces f k place core work memory leaving agent to at there next 
       fault = option_or work.fault (left.fault_is i);
     } in
     let pools : changed_pool agent to (λ pool. merge pool (ascending leaving.survivors.items)) core.field.pools
-        ≡ changed_pool place.agent (state_place place.type place.function.next) (λ pool. merge pool (ascending (cons_option (kept outcome) []))) core.field.pools =
+    ≡ changed_pool place.agent (state_place place.type place.function.next) (λ pool. merge pool (ascending (cons_option (kept outcome) []))) core.field.pools =
     λ i. changed_pool (agent_same i) (to_same i) (λ pool. merge pool (ascending (left.survivors_are i))) core.field.pools in
     let born : joined (births_of leaving.born.items) core.field.born ≡ joined (births_of (born_by outcome ++ [])) core.field.born =
     ap (λ l. joined (births_of l) core.field.born) (left.born_are ∙ sym (append-nil (born_by outcome))) in

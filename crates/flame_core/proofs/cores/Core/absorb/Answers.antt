@@ -88,9 +88,10 @@ returns-then-is_err-clause-err c =
       fits = reached_fits seen reached;
       in_order = reached_in_order seen reached;
       tallies = c.self.invariant.tallies;
-    }) in
-    (subst (λ (s : Seen). CanAbsorb s c.args.share) c.self.view_is can,
-    seen_so seen (core_of c.absorb-done.new.progress) kept.core ∙ c.self.view_is)
+    }) in (
+      subst (λ (s : Seen). CanAbsorb s c.args.share) c.self.view_is can,
+      seen_so seen (core_of c.absorb-done.new.progress) kept.core ∙ c.self.view_is,
+    )
 
 pub invariant_of-self-2 : goal.invariant_of-self-2
 invariant_of-self-2 c =
