@@ -47,7 +47,7 @@ fn types_fit(types: &[AgentType], bags: &[Bag]) -> Result<bool, NoMemory>
 }
 
 /// Whether the world has a value for each constant of the model, and for each agent type agents as wide as it declares.
-pub(crate) fn fits(model: &Model, world: &World) -> Result<bool, NoMemory>
+pub fn fits(model: &Model, world: &World) -> Result<bool, NoMemory>
     ensures { IfOk result (λ fits. IsTrue fits → FitsModel model.now world.now) }
 {
     if world.constants.values().len() != model.constants.len() {

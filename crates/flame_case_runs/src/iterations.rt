@@ -7,6 +7,7 @@ ghost use Rattle.flame_spec.specs.WellFormed.{is_well_formed};
 ghost use Rattle.flame_world.specs.WorldFits.{FitsModel};
 
 use crate::fitting::fits;
+use crate::terms::terms_in;
 use crate::worlds::{print_turn, world_in};
 use flame_case::Case;
 use flame_case_programs::{Sourced, program_of, source_in};
@@ -29,9 +30,8 @@ fn iterated(
 ) -> Result<String, NoMemory>
     requires { FitsModel program.now.model world }
 {
-    let iteration = case.given("iteration ").parse::<i32>().unwrap_or(1);
-    let fuel = case.given("fuel ").parse::<u32>().unwrap_or(1000000);
-    let turn = PlainRunner.iterate(rt, alloc, program, world, iteration, fuel)?;
+    let terms = terms_in(case);
+    let turn = PlainRunner.iterate(rt, alloc, program, world, terms.iteration, terms.fuel)?;
     let mut out = String::new(alloc);
     print_turn(&mut out, &turn)?;
     Ok(out)

@@ -49,8 +49,8 @@ fn bags_of(alloc: Global, rows: Vec<Vec<Row>>) -> Result<Vec<Bag>, NoMemory> {
     Ok(bags)
 }
 
-/// The world that the case gives.
-pub(crate) fn world_in(alloc: Global, case: &Case, model: &Model) -> Result<World, NoMemory> {
+/// The world that the case gives: the constants of the line `constants [1000]`, and an agent for each line `agent 0 [1, 2]`.
+pub fn world_in(alloc: Global, case: &Case, model: &Model) -> Result<World, NoMemory> {
     let rows = rows_in(alloc, case, model.agents.len())?;
     let agents = bags_of(alloc, rows)?;
     let constants = Row::of(numbers_in(alloc, case.given("constants "))?);

@@ -10,7 +10,7 @@ use flame_case_models::{
 };
 use flame_case_populations::answer_population;
 use flame_case_programs::{answer_code, answer_graph, answer_outcome};
-use flame_case_runs::answer_iteration;
+use flame_case_runs::{answer_core, answer_iteration, answer_orders};
 use flame_case_texts::{answer_expression, answer_order, answer_tokens, answer_trees};
 use flame_case_views::{answer_choices, answer_conditions, answer_views};
 use std::alloc::{AllocError, Global};
@@ -44,6 +44,10 @@ pub(crate) enum Kind {
     Graph,
     /// `flame_core::PlainRunner`
     Iteration,
+    /// The calls of `flame_core::Core`
+    Core,
+    /// The same, in many orders, beside `flame_core::iterate`
+    Orders,
     /// `flame_popfile::population`, and `flame_popfile::text` and `flame_popfile::line` of what it gives
     Population,
     /// `flame_machine::run`
@@ -81,6 +85,8 @@ pub(crate) fn kind_of(file: &str) -> Option<Kind> {
         "code" => Some(Kind::Code),
         "graph" => Some(Kind::Graph),
         "iteration" => Some(Kind::Iteration),
+        "core" => Some(Kind::Core),
+        "orders" => Some(Kind::Orders),
         "population" => Some(Kind::Population),
         "machine" => Some(Kind::Machine),
         "load" => Some(Kind::Load),
@@ -115,6 +121,8 @@ pub(crate) fn answer(
         Kind::Code => answer_code(alloc, case),
         Kind::Graph => answer_graph(alloc, case),
         Kind::Iteration => answer_iteration(rt, alloc, case),
+        Kind::Core => answer_core(alloc, case),
+        Kind::Orders => answer_orders(alloc, case),
         Kind::Population => answer_population(alloc, case),
         Kind::Machine => answer_machine(alloc, case),
         Kind::Load => answer_load(alloc, case),

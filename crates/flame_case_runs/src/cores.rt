@@ -1,0 +1,196 @@
+//! Cases of cores: as those of iterations, with a line `pieces 2` in `given`, into how many pieces the agents of a function
+//! are cut at most, and the section `events`, an event or a question a line. Each line is answered behind its words: an
+//! event, after which the core goes on, by `legal` or `illegal`; `complete` by `true` or `false`; `pieces 0` by how many
+//! pieces the function has and by the agents of each; `frozen 0` by how many messages the board has and by them, or by
+//! `none`; and `least fault` by the rank, or by `none`. Then comes what the iteration comes to, where the core is complete.
+
+ghost use Rattle.std.specs.Prelude.{◌≤◌, IsTrue};
+ghost use Rattle.flame_spec.specs.WellFormed.{is_well_formed};
+ghost use Rattle.flame_world.specs.WorldFits.{FitsModel};
+
+use crate::events::event_in;
+use crate::fitting::fits;
+use crate::terms::{Terms, terms_in};
+use crate::worlds::{print_turn, world_in};
+use flame_case::Case;
+use flame_case_programs::{Sourced, program_of, source_in};
+use flame_core::{Core, StepFault};
+use flame_events::Event;
+use flame_program::Program;
+use flame_rows::{NoMemory, Row};
+use flame_spec::Source;
+use flame_world::World;
+use std::alloc::{AllocError, Global};
+
+/// Whether the event came, where it was found to be allowed or not.
+fn came(happened: bool, allowed: bool) -> &'static str {
+    match (happened, allowed) {
+        (true, true) => "legal",
+        (true, false) => "legal, but not allowed",
+        (false, true) => "illegal, but allowed",
+        (false, false) => "illegal",
+    }
+}
+
+/// The event comes, where it is legal. Tells whether it is.
+fn stepped(alloc: Global, core: &mut Core<'_>, event: Event) -> Result<&'static str, NoMemory> {
+    let allowed = core.allows(event);
+    match core.step(alloc, event) {
+        Ok(()) => Ok(came(true, allowed)),
+        Err(StepFault::Illegal) => Ok(came(false, allowed)),
+        Err(StepFault::NoMemory) => Err(NoMemory),
+    }
+}
+
+/// Adds the rows, each behind a space.
+fn print_rows(out: &mut String, rows: &[Row]) -> Result<(), AllocError> {
+    for row in rows {
+        write!(out, " {:?}", row.values())?;
+    }
+    Ok(())
+}
+
+/// Adds how many pieces the function has, and the agents of each.
+fn print_pieces(out: &mut String, core: &Core<'_>, function: u32) -> Result<(), NoMemory> {
+    let pieces = core.pieces(function);
+    write!(out, "{pieces}")?;
+    for number in 0..pieces {
+        let piece = core.piece(function, number)?;
+        write!(out, ",")?;
+        print_rows(out, piece.agents.rows())?;
+    }
+    Ok(())
+}
+
+/// Adds how many messages the board has that is frozen, and these.
+fn print_board(out: &mut String, core: &Core<'_>, message: u32) -> Result<(), NoMemory> {
+    let Some(frozen) = core.frozen(message) else {
+        return Ok(out.push_str("none")?);
+    };
+    let rows = frozen.bag().rows();
+    write!(out, "{}", rows.len())?;
+    if !rows.is_empty() {
+        write!(out, ",")?;
+    }
+    Ok(print_rows(out, rows)?)
+}
+
+/// Adds the least rank of a function that is faulted.
+fn print_least_fault(out: &mut String, core: &Core<'_>) -> Result<(), AllocError> {
+    match core.least_fault() {
+        Some(rank) => write!(out, "{rank}"),
+        None => out.push_str("none"),
+    }
+}
+
+/// The number behind this word.
+fn number_behind(line: &str, word: &str) -> Option<u32> {
+    line.strip_prefix(word)?.parse::<u32>().ok()
+}
+
+/// Adds the answer to a question.
+fn print_told(out: &mut String, core: &Core<'_>, question: &str) -> Result<(), NoMemory> {
+    if question == "complete" {
+        return Ok(write!(out, "{}", core.complete())?);
+    }
+    if question == "least fault" {
+        return Ok(print_least_fault(out, core)?);
+    }
+    if let Some(function) = number_behind(question, "pieces ") {
+        return print_pieces(out, core, function);
+    }
+    if let Some(message) = number_behind(question, "frozen ") {
+        return print_board(out, core, message);
+    }
+    Ok(out.push_str("no event and no question")?)
+}
+
+/// Adds the line and its answer.
+fn print_answer(
+    alloc: Global,
+    out: &mut String,
+    core: &mut Core<'_>,
+    line: &str,
+) -> Result<(), NoMemory> {
+    write!(out, "{line}: ")?;
+    match event_in(line) {
+        Some(event) => out.push_str(stepped(alloc, core, event)?)?,
+        None => print_told(out, core, line)?,
+    }
+    Ok(writeln!(out, "")?)
+}
+
+/// Adds what the iteration comes to, where the core is complete.
+pub(crate) fn print_finish(
+    alloc: Global,
+    out: &mut String,
+    core: Core<'_>,
+) -> Result<(), NoMemory> {
+    if !core.complete() {
+        return Ok(out.push_str("not complete\n")?);
+    }
+    let turn = core.finish(alloc)?;
+    Ok(print_turn(out, &turn)?)
+}
+
+/// The answers to the lines of events.
+fn told(
+    alloc: Global,
+    case: &Case,
+    program: &Program,
+    world: World,
+    terms: Terms,
+) -> Result<String, NoMemory>
+    requires fits { FitsModel program.now.model world }
+    requires some { 1 ≤ terms.pieces }
+{
+    let mut core = Core::new(
+        alloc,
+        program,
+        world,
+        terms.iteration,
+        terms.fuel,
+        terms.pieces,
+    )?;
+    let mut out = String::new(alloc);
+    for line in &case.lines(alloc, "events")? {
+        print_answer(alloc, &mut out, &mut core, line.as_str())?;
+    }
+    print_finish(alloc, &mut out, core)?;
+    Ok(out)
+}
+
+/// The same of the world that the case gives, where it fits.
+fn fitted(alloc: Global, case: &Case, program: &Program) -> Result<String, NoMemory> {
+    let model = &program.source().model;
+    let world = world_in(alloc, case, model)?;
+    let terms = terms_in(case);
+    if terms.pieces == 0 {
+        return Ok(String::from_str(alloc, "no pieces\n")?);
+    }
+    if fits(model, &world)? {
+        return told(alloc, case, program, world, terms);
+    }
+    Ok(String::from_str(alloc, "the world does not fit\n")?)
+}
+
+/// The same of a source, where it is accepted.
+fn answered(alloc: Global, case: &Case, source: Source) -> Result<String, NoMemory>
+    requires formed { IsTrue (is_well_formed source.model) }
+{
+    match program_of(alloc, source)? {
+        Some(program) => fitted(alloc, case, &program),
+        None => Ok(String::from_str(alloc, "not accepted\n")?),
+    }
+}
+
+/// The answer to a case of the kind `core`.
+pub fn answer_core(alloc: Global, case: &Case) -> Result<String, AllocError> {
+    match source_in(alloc, case)? {
+        Sourced::Told(told) => Ok(told),
+        Sourced::Source(source) => match answered(alloc, case, source) {
+            Ok(out) => Ok(out),
+            Err(NoMemory) => Err(AllocError),
+        },
+    }
+}

@@ -1,0 +1,47 @@
+//! With what the iteration of a case begins.
+
+ghost use Rattle.std.specs.Prelude.{◌≡◌, IfOk};
+
+use flame_case::Case;
+use flame_rows::{Bag, NoMemory, Seq};
+use flame_world::World;
+use std::alloc::Global;
+
+/// The number of an iteration, the fuel of each call of a function, and into how many pieces the agents of a function are
+/// cut at most.
+#[derive(Clone, Copy)]
+pub(crate) struct Terms {
+    pub iteration: i32,
+    pub fuel: u32,
+    pub pieces: u32,
+}
+
+/// What the lines `iteration 7`, `fuel 5` and `pieces 2` of the section `given` say: 1, 1000000 and 1 without them.
+pub(crate) fn terms_in(case: &Case) -> Terms {
+    Terms {
+        iteration: case.given("iteration ").parse::<i32>().unwrap_or(1),
+        fuel: case.given("fuel ").parse::<u32>().unwrap_or(1000000),
+        pieces: case.given("pieces ").parse::<u32>().unwrap_or(1),
+    }
+}
+
+/// The same bags again.
+fn bags_copied(alloc: Global, bags: &[Bag]) -> Result<Seq<Bag>, NoMemory>
+    ensures { IfOk result (λ copies. copies ≡ bags.now) }
+{
+    let mut copies = Vec::new(alloc);
+    for bag in bags {
+        copies.push(bag.copy()?)?;
+    }
+    Ok(Seq::of(copies))
+}
+
+/// The same world again.
+pub(crate) fn world_copied(alloc: Global, world: &World) -> Result<World, NoMemory>
+    ensures { IfOk result (λ copy. copy ≡ world.now) }
+{
+    Ok(World {
+        constants: world.constants.copy()?,
+        agents: bags_copied(alloc, world.agents.items())?,
+    })
+}
