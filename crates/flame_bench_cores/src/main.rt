@@ -1,0 +1,105 @@
+//! Brings cores of many functions and pieces to their end, event by event, so that events can be timed.
+//!
+//! The words are how many functions there are, and how many agents of each, which are a piece each. It prints for two models
+//! how many events came, what agents and messages there are at the end, the processor time, and how many events came a
+//! second. Without words there are 20 functions of 3 agents, and no time is printed. The status is 2 where the words are no
+//! numbers, an event is not legal, memory is not found or the clock cannot be read.
+#![tactic(auto)]
+
+mod grids;
+mod steps;
+mod texts;
+
+use flame_case::Case;
+use flame_case_programs::{Sourced, program_of, source_in};
+use flame_program::Program;
+use grids::Grid;
+use std::process::ExitCode;
+use std::rt::Env;
+use std::time::CpuClock;
+use std::{env, io};
+use steps::measure_world;
+use texts::case_of;
+
+/// How many functions there are, and how many agents of each.
+#[derive(Clone, Copy)]
+struct Order {
+    functions: u32,
+    agents: u32,
+    with_time: bool,
+}
+
+/// What is made without words.
+const SMALL: Order = Order {
+    functions: 20,
+    agents: 3,
+    with_time: false,
+};
+
+/// Brings the core of this program to its end, which the case is of. Tells whether it could.
+fn measure_program(
+    rt: &(impl Print + CpuClock + AllocGlobal),
+    case: &Case,
+    program: &Program,
+    grid: Grid,
+    with_time: bool,
+) -> io::Result<bool> {
+    match measure_world(rt, case, program, grid) {
+        Ok(Some(measured)) => {
+            measured.print(rt, grid, with_time)?;
+            Ok(true)
+        }
+        _ => Ok(false),
+    }
+}
+
+/// The same of the grid.
+fn measure(
+    rt: &(impl Print + CpuClock + AllocGlobal),
+    name: &str,
+    grid: Grid,
+    with_time: bool,
+) -> io::Result<bool> {
+    print!(rt; "{name}: ")?;
+    let case = case_of(rt.alloc(), grid)?;
+    let Sourced::Source(source) = source_in(rt.alloc(), &case)? else {
+        return Ok(false);
+    };
+    match program_of(rt.alloc(), source) {
+        Ok(Some(program)) => measure_program(rt, &case, &program, grid, with_time),
+        _ => Ok(false),
+    }
+}
+
+/// The order that the words give; none where they give no order.
+fn order_in(rt: &(impl Env + AllocGlobal)) -> io::Result<Option<Order>> {
+    let mut words = env::args(rt)?.skip(1);
+    let Some(functions) = words.next() else {
+        return Ok(Some(SMALL));
+    };
+    let agents = words.next().unwrap_or(String::new(rt.alloc()));
+    match (functions.parse::<u32>(), agents.parse::<u32>()) {
+        (Ok(functions), Ok(agents)) => Ok(Some(Order {
+            functions,
+            agents,
+            with_time: true,
+        })),
+        _ => Ok(None),
+    }
+}
+
+fn run(rt: &(impl Print + CpuClock + Env + AllocGlobal)) -> io::Result<bool> {
+    let Some(order) = order_in(rt)? else {
+        return Ok(false);
+    };
+    let wide = Grid::wide(order.functions, order.agents);
+    let deep = Grid::deep(order.functions, order.agents);
+    Ok(measure(rt, "wide", wide, order.with_time)? && measure(rt, "deep", deep, order.with_time)?)
+}
+
+fn main(rt: HostRuntime) -> ExitCode {
+    match run(&rt) {
+        Ok(true) => ExitCode::SUCCESS,
+        _ => ExitCode::from(2),
+    }
+}
