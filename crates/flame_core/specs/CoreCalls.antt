@@ -10,6 +10,7 @@ use Rattle.flame_world.specs.InputBoards.{boards_named}
 use Rattle.flame_world.specs.Settings.{boards_of}
 use Rattle.flame_world.specs.Shares.{piece_of, setting_of}
 use Rattle.flame_events.specs.declared.events.Event.{Event}
+use Rattle.flame_events.specs.declared.events.Event.TheVariants as event
 use Rattle.flame_events.specs.AbsorbedPieces.{agent_events}
 use Rattle.flame_events.specs.CoreStates.{Work, work_of}
 use Rattle.flame_events.specs.LegalEvents.{is_legal}
@@ -28,10 +29,18 @@ pub record Happened (event : Event) (old new : Seen) : Type 0 where
   pub legal : IsTrue (allows old event)
   pub left : new ≡ when_came (event ∷ []) old
 
--- nothing changed: the event is not legal, or it is and memory was not found [own]
+-- it takes memory: it copies agents or makes lists longer [own]
+abbrev pub takes_memory : Event → Bool
+takes_memory (event.Open function) = true
+takes_memory (event.Agent function piece) = true
+takes_memory (event.HandIn function piece message) = true
+takes_memory (event.Shut function) = false
+takes_memory (event.Freeze message) = false
+
+-- nothing changed: the event is not legal, or it is, and takes memory, which was not found [own]
 abbrev pub Refused : Event → Seen → Seen → StepFault → Type 0
 Refused event old new Illegal = (allows old event ≡ false) × (new ≡ old)
-Refused event old new NoMemory = (allows old event ≡ true) × (new ≡ old)
+Refused event old new NoMemory = (allows old event ≡ true) × (takes_memory event ≡ true) × (new ≡ old)
 
 -- ---- a share
 

@@ -1,6 +1,6 @@
 //! What events make of an iteration.
 
-ghost use Rattle.std.specs.Prelude.{◌≡◌, ℕ, ℤ, List, IfOk, OnOk, OnErr, IsTrue, map};
+ghost use Rattle.std.specs.Prelude.{◌≡◌, ℕ, ℤ, List, true, IfOk, OnOk, OnErr, IsTrue, map};
 ghost use Rattle.std.specs.Arc.{arc_value};
 ghost use Rattle.flame_spec.specs.declared.outcomes.Outcome.TheVariants.{Ended, Faulted};
 ghost use Rattle.flame_sense.specs.Outcomes.{outcome, place_of};
@@ -15,6 +15,7 @@ ghost use Rattle.flame_progress.specs.Tallying.{Came};
 ghost use Rattle.flame_core.specs.RunReady.{Ready};
 ghost use Rattle.flame_core.specs.RunSteps.{round_of};
 ghost use Rattle.flame_core.specs.AgentLeavings.{FitsAgent, HasNext, IsLeft, IsNext};
+ghost use Rattle.flame_core.specs.CoreCalls.{takes_memory};
 
 use crate::parting::part;
 use crate::rounds::Round;
@@ -194,7 +195,7 @@ fn run_next(
     Ok(())
 }
 
-/// The event, which is legal, comes.
+/// The event, which is legal, comes. Only one that takes memory may find none.
 pub(crate) fn happen(
     alloc: Global,
     round: &Round<'_>,
@@ -208,6 +209,7 @@ pub(crate) fn happen(
     ensures ok { OnOk result (Came round.now.program.now.model
         (after (round_of round.now) pieces (core_of progress.old) event) progress.new counts.new) }
     ensures err { OnErr result (Came round.now.program.now.model (core_of progress.old) progress.new counts.new) }
+    ensures takes { OnErr result (takes_memory event ≡ true) }
 {
     match event {
         Event::Open(function) => {
@@ -227,7 +229,7 @@ pub(crate) fn happen(
             Ok(())
         }
         Event::Freeze(message) => {
-            freeze(alloc, progress, counts, message)?;
+            freeze(progress, counts, message);
             Ok(())
         }
     }

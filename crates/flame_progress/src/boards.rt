@@ -34,17 +34,6 @@ fn moved(alloc: Global, board: &mut Frozen) -> Result<Arc<Frozen>, NoMemory>
     Ok(shared)
 }
 
-/// The same rows again.
-fn copied(alloc: Global, rows: &[Row]) -> Result<Vec<Row>, NoMemory>
-    ensures { IfOk result (λ copies. copies.items ≡ rows.now) }
-{
-    let mut copies = Vec::new(alloc);
-    for row in rows {
-        copies.push(row.copy()?)?;
-    }
-    Ok(copies)
-}
-
 /// The messages of a board that may be shared, given back. They are copied only where somebody still reads them.
 fn unshared(board: Arc<Frozen>) -> Result<Bag, NoMemory>
     ensures { IfOk result (λ bag. bag ≡ arc_value board) }
@@ -87,17 +76,16 @@ impl Board {
         }
     }
 
-    /// No message comes any more: the board is put in order.
-    pub fn freeze(&mut self, alloc: Global) -> Result<(), NoMemory>
+    /// No message comes any more: the board is put in order, which takes no memory.
+    pub fn freeze(&mut self)
         ensures bag { board_bag self.new ≡ board_bag self.old }
-        ensures ok { OnOk result (is_board_frozen self.new ≡ true) }
-        ensures err { OnErr result (is_board_frozen self.new ≡ is_board_frozen self.old) }
+        ensures frozen { is_board_frozen self.new ≡ true }
     {
         if let Board::Gathering(rows) = self {
-            let bag = Bag::of_rows(copied(alloc, rows)?)?;
-            *self = Board::Frozen(Frozen::of(bag));
+            let empty = Vec::new(*rows.allocator());
+            let gathered = mem::replace(rows, empty);
+            *self = Board::Frozen(Frozen::of(Bag::gathered(gathered)));
         }
-        Ok(())
     }
 
     /// Moves a board that is frozen to where it may be shared.

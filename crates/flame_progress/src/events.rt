@@ -34,25 +34,16 @@ pub fn shut(progress: &mut Progress, counts: &mut Counts, function: u32)
 }
 
 /// The board of this number is complete.
-pub fn freeze(
-    alloc: Global,
-    progress: &mut Progress,
-    counts: &mut Counts,
-    message: u32,
-) -> Result<(), NoMemory>
+pub fn freeze(progress: &mut Progress, counts: &mut Counts, message: u32)
     requires known { message < length progress.old.boards.items }
     requires inputs { (thing_at counts.old.inputs.things message).done ≡ false }
-    ensures ok { OnOk result ((round : Round) (pieces : ℕ)
+    ensures { (round : Round) (pieces : ℕ)
         → Tallies round.source.model progress.old counts.old
         → IsTrue (is_legal round.source.model (core_of progress.old) (event.Freeze message))
-        → Came round.source.model (after round pieces (core_of progress.old) (event.Freeze message)) progress.new counts.new) }
-    ensures err { OnErr result ((round : Round)
-        → Tallies round.source.model progress.old counts.old
-        → Came round.source.model (core_of progress.old) progress.new counts.new) }
+        → Came round.source.model (after round pieces (core_of progress.old) (event.Freeze message)) progress.new counts.new }
 {
-    progress.freeze(alloc, message)?;
+    progress.freeze(message);
     counts.freeze(message);
-    Ok(())
 }
 
 /// A piece of a function hands in its messages of this type, whose board gathers.

@@ -152,15 +152,12 @@ impl Progress {
     }
 
     /// The board of this number is complete.
-    pub fn freeze(&mut self, alloc: Global, message: u32) -> Result<(), NoMemory>
+    pub fn freeze(&mut self, message: u32)
         requires { message < length self.old.boards.items }
-        ensures ok { OnOk result (core_of self.new
-            ≡ record (core_of self.old) { frozen = slice_set (core_of self.old).frozen message true }) }
-        ensures err { OnErr result (core_of self.new ≡ core_of self.old) }
+        ensures core { core_of self.new ≡ record (core_of self.old) { frozen = slice_set (core_of self.old).frozen message true } }
         ensures statuses { self.new.statuses.items ≡ self.old.statuses.items }
     {
-        self.boards[message as usize].freeze(alloc)?;
-        Ok(())
+        self.boards[message as usize].freeze();
     }
 
     /// The takers of the function of this number leave their state, in these pieces, and these agents stay.

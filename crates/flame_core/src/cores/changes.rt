@@ -57,7 +57,8 @@ impl<'a> Core<'a> {
         })
     }
 
-    /// The event comes. `Illegal` exactly where it is not legal; nothing changes then, nor where no memory was found.
+    /// The event comes. `Illegal` exactly where it is not legal; nothing changes then, nor where no memory was found. Shut and
+    /// Freeze take none.
     pub fn step(&mut self, alloc: Global, event: Event) -> Result<(), StepFault>
         ensures ok { OnOk result (Happened event self.old self.new) }
         ensures err { IfErr result (Refused event self.old self.new) }

@@ -78,13 +78,6 @@ returns-in_err-hand_in-in-HandIn-clause-err c =
     c.in_err-hand_in-in-HandIn.ensures.err (round_of c.args.round.now) c.args.counts.now c.requires.ready.tallies in
     on_err c.from_residual-in_err-hand_in-in-HandIn.result kept
 
-pub returns-in_err-freeze-in-Freeze-clause-err : goal.returns-in_err-freeze-in-Freeze-clause-err
-returns-in_err-freeze-in-Freeze-clause-err c =
-    let model = c.args.round.now.program.now.model in
-    let kept : Came model (core_of c.args.progress.now) c.freeze.new.progress c.freeze.new.counts =
-    c.in_err-freeze-in-Freeze.ensures.err (round_of c.args.round.now) c.requires.ready.tallies in
-    on_err c.from_residual-in_err-freeze-in-Freeze.result kept
-
 pub returns-in_ok-hand_in-in-HandIn-clause-ok : goal.returns-in_ok-hand_in-in-HandIn-clause-ok
 returns-in_ok-hand_in-in-HandIn-clause-ok c =
     let model = c.args.round.now.program.now.model in
@@ -106,12 +99,12 @@ returns-in-Shut-clause-ok c =
     subst P (sym is)
     (c.shut.ensures round c.args.pieces c.requires.ready.tallies (ap (is_legal model core) (sym is) ∙ c.requires.legal))
 
-pub returns-in_ok-freeze-in-Freeze-clause-ok : goal.returns-in_ok-freeze-in-Freeze-clause-ok
-returns-in_ok-freeze-in-Freeze-clause-ok c =
+pub returns-in-Freeze-clause-ok : goal.returns-in-Freeze-clause-ok
+returns-in-Freeze-clause-ok c =
     let model = c.args.round.now.program.now.model in
     let core = core_of c.args.progress.now in
     let round = round_of c.args.round.now in
     let P : Event → Type 0 = λ e. Came model (after round c.args.pieces core e) c.freeze.new.progress c.freeze.new.counts in
     let is = c.in-Freeze.is in
     subst P (sym is)
-    (c.in_ok-freeze-in-Freeze.ensures.ok round c.args.pieces c.requires.ready.tallies (ap (is_legal model core) (sym is) ∙ c.requires.legal))
+    (c.freeze.ensures round c.args.pieces c.requires.ready.tallies (ap (is_legal model core) (sym is) ∙ c.requires.legal))

@@ -2,7 +2,6 @@
 use Rattle.std.proofs.Common.{◌≡◌, ◌<◌, List, true, length, refl, sym, subst, arith, length-set}
 use Rattle.std.specs.Prelude.{ℕ, slice_set, slice_index_or}
 use Rattle.std.proofs.lemmas.List.{length-map}
-use Rattle.flame_world.specs.Iterations.{Round}
 use Rattle.flame_events.specs.CoreStates.{Core}
 use Rattle.flame_events.specs.LegalEvents.{outputs_of}
 use Rattle.flame_pieces.specs.declared.statuses.Status.{Status}
@@ -13,8 +12,6 @@ use Rattle.flame_progress.specs.declared.progress.Progress.{Progress}
 use Rattle.flame_progress.specs.RunBoards.{is_board_frozen}
 use Rattle.flame_progress.specs.RunCores.{core_of, HasOutputsAt}
 use Rattle.flame_progress.specs.RunCounts.{Counted}
-use Rattle.flame_progress.specs.Tallying.{Came, Tallies}
-use Rattle.flame_progress.proofs.Written.{on_err}
 use Rattle.flame_progress.proofs.Tallied.{came, counted_frozen, mark_set}
 use Rattle.flame_progress.proofs.events.freeze.Goals as goal
 
@@ -23,28 +20,17 @@ same_outputs : (old new : Progress) → new.statuses.items ≡ old.statuses.item
 same_outputs old new same f outputs has =
     let P : List Status → Type 0 = λ l. HasOutputs outputs (slice_index_or l f Waiting) in subst P (sym same) has
 
-pub returns-in_err-freeze-clause-err : goal.returns-in_err-freeze-clause-err
-returns-in_err-freeze-clause-err c =
-    let old = c.args.progress.now in
-    let counts = c.args.counts.now in
-    let kept : (round : Round) → Tallies round.source.model old counts → Came round.source.model (core_of old) c.freeze.new.self counts =
-    λ round tallies.
-    came round.source.model old c.freeze.new.self counts counts (core_of old) c.in_err-freeze.ensures.err refl refl
-    (λ g has. same_outputs old c.freeze.new.self c.in_err-freeze.ensures.statuses g (outputs_of round.source.model g) has)
-    tallies tallies.counted in
-    on_err c.from_residual.result kept
-
-pub returns-clause-ok : goal.returns-clause-ok
-returns-clause-ok c = λ round pieces tallies legal.
+pub returns : goal.returns
+returns c = λ round pieces tallies legal.
     let model = round.source.model in
     let core = core_of c.args.progress.now in
     let m = c.args.message in
     let less : m < length core.frozen = omega (arith, c.requires.known, length-map c.args.progress.now.boards.items is_board_frozen) in
     let next : Core = record core { frozen = slice_set core.frozen m true } in
     let P : Counts → Type 0 = λ counts. Counted model next counts in
-    came model c.args.progress.now c.freeze.new.self c.args.counts.now c.freeze-2.new.self next c.in_ok-freeze.ensures.ok
+    came model c.args.progress.now c.freeze.new.self c.args.counts.now c.freeze-2.new.self next c.freeze.ensures.core
     refl (length-set core.frozen m true)
-    (λ g has. same_outputs c.args.progress.now c.freeze.new.self c.in_ok-freeze.ensures.statuses g (outputs_of model g) has) tallies
+    (λ g has. same_outputs c.args.progress.now c.freeze.new.self c.freeze.ensures.statuses g (outputs_of model g) has) tallies
     (subst P (sym c.freeze-2.ensures)
     (counted_frozen model core next c.args.counts.now m (omega (arith, c.requires.known, tallies.messages))
     (mark_set core.frozen m less) refl tallies.counted))

@@ -88,7 +88,11 @@ returns-then-is_err-clause-err c =
     } in
     let kept : Came inside.program.now.model (core_of inside.progress) c.happen-done.new.progress c.happen-done.new.counts =
     was_err c.happen-done.result c.happen-done.ensures.err (sym c.if-is_err.ensures.value) in
-    (sym c.if-not-allows.ensures, seen_so seen (core_of c.happen-done.new.progress) kept.core ∙ c.self.view_is)
+    let takes = was_err c.happen-done.result c.happen-done.ensures.takes (sym c.if-is_err.ensures.value) in (
+      sym c.if-not-allows.ensures,
+      takes,
+      seen_so seen (core_of c.happen-done.new.progress) kept.core ∙ c.self.view_is,
+    )
 
 pub returns-clause-ok : goal.returns-clause-ok
 returns-clause-ok c =

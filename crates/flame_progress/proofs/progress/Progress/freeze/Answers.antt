@@ -1,42 +1,19 @@
-use Rattle.std.proofs.Common.{◌≡◌, ap, ◌∙◌}
+use Rattle.std.proofs.Common.{ap, ◌∙◌}
 use Rattle.std.specs.Prelude.{slice_set}
 use Rattle.std.proofs.lemmas.List.{map-set}
 use Rattle.std.specs.Prelude.{map}
-use Rattle.flame_events.specs.CoreStates.{Core}
 use Rattle.flame_progress.specs.RunBoards.{board_bag, is_board_frozen}
 use Rattle.flame_progress.specs.RunCores.{core_of}
-use Rattle.flame_progress.proofs.Written.{map-kept, on_err}
+use Rattle.flame_progress.proofs.Written.{map-kept}
 use Rattle.flame_progress.proofs.progress.Progress.freeze.Goals as goal
 
-pub returns-in_err-freeze-clause-err : goal.returns-in_err-freeze-clause-err
-returns-in_err-freeze-clause-err c =
+pub returns-clause-core : goal.returns-clause-core
+returns-clause-core c =
     let boards = c.args.self.now.boards.items in
     let m = c.args.message in
     let core = core_of c.args.self.now in
     let old = c.index_mut.result.now in
     let new = c.freeze.new.self in
-    let bags = map-kept board_bag boards m old new c.requires c.index_mut.ensures.value c.in_err-freeze.ensures.bag in
-    let marks = map-kept is_board_frozen boards m old new c.requires c.index_mut.ensures.value c.in_err-freeze.ensures.err in
-    let same : (let next : Core = record {
-      statuses = core.statuses;
-      field = record { pools = core.field.pools; born = core.field.born; boards = map board_bag (slice_set boards m new) };
-      frozen = map is_board_frozen (slice_set boards m new);
-    } in next)
-    ≡ core =
-    λ i. record {
-      statuses = core.statuses;
-      field = record { pools = core.field.pools; born = core.field.born; boards = bags i };
-      frozen = marks i;
-    } in
-    on_err c.from_residual.result same
-
-pub returns-clause-ok : goal.returns-clause-ok
-returns-clause-ok c =
-    let boards = c.args.self.now.boards.items in
-    let m = c.args.message in
-    let core = core_of c.args.self.now in
-    let old = c.index_mut.result.now in
-    let new = c.freeze.new.self in
-    let bags = map-kept board_bag boards m old new c.requires c.index_mut.ensures.value c.in_ok-freeze.ensures.bag in
-    let marks = map-set is_board_frozen boards m new ∙ ap (slice_set (map is_board_frozen boards) m) c.in_ok-freeze.ensures.ok in
+    let bags = map-kept board_bag boards m old new c.requires c.index_mut.ensures.value c.freeze.ensures.bag in
+    let marks = map-set is_board_frozen boards m new ∙ ap (slice_set (map is_board_frozen boards) m) c.freeze.ensures.frozen in
     λ i. record { statuses = core.statuses; field = record { pools = core.field.pools; born = core.field.born; boards = bags i }; frozen = marks i }
