@@ -134,11 +134,12 @@ leads_on seen share fits can =
     }
 
 -- what the share leaves is seen wherever the core is
-pub absorbed_so : (seen old new : Seen) (share : Share) → seen ≡ old → (can : CanAbsorb seen share)
+pub absorbed_so : (seen old new : Seen) (share : Share) → seen ≡ old → FitsCore seen.source.model seen.core → (can : CanAbsorb seen share)
     → new ≡ when_came (agent_events (piece_of share).function (piece_of share).number can.work) seen
     → Absorbed share old new
-absorbed_so seen old new share same can left =
-    subst (λ (s : Seen). Absorbed share s new) same (record { can = can; left = left })
+absorbed_so seen old new share same fits can left =
+    subst (λ (s : Seen). Absorbed share s new) same
+    (record { can = can; legal = (leads_on seen share fits can).legal; left = left })
 
 pub taken_in : (round : run.Round) (pieces : ℕ) (progress new : Progress) (counts : Counts) (share : Share) (route : Route) (leaving : Leaving)
     (work : Work) (rest : Rest) (parts : List Part)

@@ -13,10 +13,11 @@ use Rattle.flame_events.specs.declared.events.Event.{Event}
 use Rattle.flame_events.specs.declared.events.Event.TheVariants as event
 use Rattle.flame_events.specs.AbsorbedPieces.{agent_events}
 use Rattle.flame_events.specs.CoreStates.{Work, work_of}
+use Rattle.flame_events.specs.EventSteps.{are_legal}
 use Rattle.flame_events.specs.LegalEvents.{is_legal}
 use Rattle.flame_core.specs.declared.faults.StepFault.{StepFault}
 use Rattle.flame_core.specs.declared.faults.StepFault.TheVariants.{Illegal, NoMemory}
-use Rattle.flame_core.specs.SeenCores.{Seen, when_came}
+use Rattle.flame_core.specs.SeenCores.{Seen, round_in, when_came}
 
 -- ---- an event
 
@@ -61,9 +62,13 @@ pub record CanAbsorb (seen : Seen) (share : Share) : Type 0 where
   pub new : work.ran ≡ 0
   pub setting : IsSettingIn seen (piece_of share).function (setting_of share)
 
--- the share's piece ran: its Agent events came [own]
+-- the share's piece ran: its Agent events, each legal when it comes, came [own]
 pub record Absorbed (share : Share) (old new : Seen) : Type 0 where
   pub can : CanAbsorb old share
+  pub legal :
+      IsTrue
+      (are_legal (round_in old) old.pieces old.core
+      (agent_events (piece_of share).function (piece_of share).number can.work))
   pub left : new ≡ when_came (agent_events (piece_of share).function (piece_of share).number can.work) old
 
 -- nothing changed: the share cannot be absorbed, or it can and memory was not found [own]

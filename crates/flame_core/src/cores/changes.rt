@@ -86,8 +86,8 @@ impl<'a> Core<'a> {
         Ok(())
     }
 
-    /// The piece of the share ran: what its Agent events leave. `Illegal` exactly where the share's piece is no piece of an
-    /// open function, has other agents, has an agent that ran, or ran under another setting than that of the core and the
+    /// The piece of the share ran: its Agent events, which are legal one after another, come. `Illegal` exactly where the share's piece is no piece of an
+    /// open function, has other agents or an agent that ran, or where the share's setting is not that of the core and the
     /// function; nothing changes then, nor where no memory was found.
     pub fn absorb(&mut self, alloc: Global, share: Share<'_>) -> Result<(), StepFault>
         ensures ok { OnOk result (Absorbed share.entry self.old self.new) }

@@ -156,5 +156,6 @@ returns-clause-ok c =
       in_order = reached_in_order seen reached;
       tallies = c.self.invariant.tallies;
     }) can.there) in
-    absorbed_so seen c.args.self.now (record seen { core = core_of c.absorb-done.new.progress }) c.args.share c.self.view_is can
+    absorbed_so seen c.args.self.now (record seen { core = core_of c.absorb-done.new.progress }) c.args.share c.self.view_is
+    (reached_fits seen reached) can
     (seen_when seen events (core_of c.absorb-done.new.progress) made.core)
