@@ -24,7 +24,7 @@ use Rattle.flame_events.specs.CoreEnds.{ending, is_complete}
 use Rattle.flame_events.specs.CoreFits.{FitsCore}
 use Rattle.flame_events.specs.CoreStates.{Work, Status, Waiting, Open, Shut, Faulted, is_shut, is_waiting, Core, status_of, work_of}
 use Rattle.flame_events.specs.EventSteps.{after, fresh_work, opened, ran_agent, ran_next, replay, with_agent, with_sent, with_work}
-use Rattle.flame_events.specs.EveryOrder.{EveryOrderIsTheIteration}
+use Rattle.flame_events.specs.EveryOrder.{CanGoOn, EveryOrderIsTheIteration}
 use Rattle.flame_events.specs.Histories.{Leads}
 use Rattle.flame_events.specs.LegalEvents.{is_legal, outputs_of}
 use Rattle.flame_events.proofs.CoreWidths.{fitting_cores_open}
@@ -197,6 +197,16 @@ ends_so every seen accepted reached complete =
     ap (ending round) left
     ∙ (every seen.source seen.world seen.iteration seen.fuel seen.pieces reached.events accepted many reached.some reached.leads.legal).0
     (ap (is_complete seen.source.model) (sym left) ∙ complete)
+
+pub goes_on : EveryOrderIsTheIteration → (seen : Seen) → IsAccepted seen.source → IsReached seen
+    → is_complete seen.source.model seen.core ≡ false
+    → CanGoOn seen.source.model seen.core
+goes_on every seen accepted reached less =
+    let left = reached.leads.left in
+    let many = sym (zip-length _ seen.source.model.agents seen.world.agents reached.fits.agents) in
+    subst (λ (core : Core). CanGoOn seen.source.model core) (sym left)
+    ((every seen.source seen.world seen.iteration seen.fuel seen.pieces reached.events accepted many reached.some reached.leads.legal).1
+    (ap (is_complete seen.source.model) (sym left) ∙ less))
 
 pub finished : {E : Type 0} → EveryOrderIsTheIteration → (seen entry : Seen) → seen ≡ entry → IsAccepted seen.source → IsReached seen
     → is_complete entry.source.model entry.core ≡ true → (r : Result Turn E)

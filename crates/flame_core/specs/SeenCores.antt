@@ -1,5 +1,5 @@
 -- How a core is seen, and how it came to be.
-use Rattle.std.specs.Prelude.{ℕ, ◌<◌, ℤ, List}
+use Rattle.std.specs.Prelude.{◌≡◌, ℕ, ◌<◌, ℤ, List}
 use Rattle.flame_spec.specs.declared.outcomes.Source.{Source}
 use Rattle.flame_world.specs.declared.worlds.World.{World}
 use Rattle.flame_world.specs.Iterations.{Round, round_of}
@@ -34,6 +34,10 @@ pub record IsReached (seen : Seen) : Type 0 where
   pub some : 0 < seen.pieces
   pub events : List Event
   pub leads : Leads (round_in seen) seen.pieces (start_in seen) events seen.core
+
+-- it is as it began [own]
+abbrev pub IsNew : Seen → Type 0
+IsNew seen = seen.core ≡ start_in seen
 
 -- how it is seen when these events came more [own]
 abbrev pub when_came : List Event → Seen → Seen

@@ -4,6 +4,7 @@ ghost use Rattle.std.specs.Prelude.{◌≡◌, ◌≤◌, IfOk, IfErr, OnOk};
 ghost use Rattle.flame_world.specs.WorldFits.{FitsModel};
 ghost use Rattle.flame_events.specs.CoreStates.{opening_core};
 ghost use Rattle.flame_core.specs.CoreCalls.{Absorbed, Happened, NotAbsorbed, Refused};
+ghost use Rattle.flame_core.specs.SeenCores.{IsNew};
 
 use crate::absorbing::{absorb, can_absorb};
 use crate::cores::Core;
@@ -31,7 +32,8 @@ impl<'a> Core<'a> {
     ) -> Result<Core<'a>, NoMemory>
         requires fits { FitsModel program.now.model world }
         requires some { 1 ≤ pieces }
-        ensures { IfOk result (λ core. core ≡ record {
+        ensures new { IfOk result IsNew }
+        ensures core { IfOk result (λ core. core ≡ record {
           source = program.now;
           world = world;
           iteration = iteration;

@@ -1,14 +1,17 @@
 //! What a core tells.
 
-ghost use Rattle.std.specs.Prelude.{◌≡◌, ◌<◌, ◌↔◌, [], Some, None, IfOk, IsTrue, length, option_map, slice_index_or, if◌then◌else◌};
+ghost use Rattle.std.specs.Prelude.{◌≡◌, ◌<◌, ◌↔◌, [], Some, None, false, IfOk, IsTrue, length, option_map, slice_index_or, if◌then◌else◌};
 ghost use Rattle.flame_events.specs.CoreEnds.{is_complete, least_fault_rank};
 ghost use Rattle.flame_events.specs.CoreStates.{is_frozen, status_of, works_of};
+ghost use Rattle.flame_events.specs.EveryOrder.{CanGoOn};
 ghost use Rattle.flame_core.specs.CoreCalls.{allows, BeganWith, IsPieceOf};
+ghost use Rattle.flame_core.specs.SeenCores.{IsReached};
 
 use crate::cores::Core;
 use crate::ending::{first_faulted, wanted_are_shut};
 use crate::starting::Start;
 use flame_events::Event;
+use flame_events::laws::every_order;
 use flame_index::Frozen;
 use flame_program::Program;
 use flame_rows::NoMemory;
@@ -54,9 +57,10 @@ impl<'a> Core<'a> {
         self.progress.frozen(message)
     }
 
-    /// The program.
+    /// The program. Events, each legal when it came, led from the beginning to the core.
     pub fn program(&self) -> &'a Program
-        ensures { result.now ≡ self.now.source }
+        ensures source { result.now ≡ self.now.source }
+        ensures reached { IsReached self.now }
     {
         self.program
     }
@@ -97,10 +101,14 @@ impl<'a> Core<'a> {
     }
 
     /// Whether all functions are shut that are wanted: those of a rank below the least of a function that is faulted, and all
-    /// where none is.
+    /// where none is. Where some are not, there is a legal event of a wanted function, or one that freezes a board that one
+    /// inputs.
     pub fn complete(&self) -> bool
-        ensures { result ≡ is_complete self.now.source.model self.now.core }
+        ensures complete { result ≡ is_complete self.now.source.model self.now.core }
+        ensures goes_on { result ≡ false → CanGoOn self.now.source.model self.now.core }
     {
+        every_order();
+        let _source = self.program.source();
         wanted_are_shut(self.program, &self.progress)
     }
 }

@@ -72,8 +72,12 @@ invariant_of-result c =
       };
     }
 
-pub returns : goal.returns
-returns c =
+pub returns-clause-new : goal.returns-clause-new
+returns-clause-new c =
+    c.in_ok-progress.ensures.core ∙ ap (opening_core c.args.program.now.model) (c.in_ok-agents.ensures ∙ c.items.ensures)
+
+pub returns-clause-core : goal.returns-clause-core
+returns-clause-core c =
     let model = c.args.program.now.model in
     let is = c.in_ok-progress.ensures.core ∙ ap (opening_core model) (c.in_ok-agents.ensures ∙ c.items.ensures) in
     let fits : SFits w32 c.args.iteration = search rules in
