@@ -19,6 +19,7 @@ mod takers;
 
 pub use cores::Core;
 pub use faults::StepFault;
+pub use flame_events::Event;
 pub use iterations::iterate;
 pub use plain::PlainRunner;
 pub use runners::Runner;
