@@ -61,13 +61,14 @@ impl<'a> Core<'a> {
 
     /// The event comes. `Illegal` exactly where it is not legal; nothing changes then, nor where no memory was found. Shut and
     /// Freeze take none.
-    pub fn step(&mut self, alloc: Global, event: Event) -> Result<(), StepFault>
+    pub fn step(&mut self, event: Event) -> Result<(), StepFault>
         ensures ok { OnOk result (Happened event self.old self.new) }
         ensures err { IfErr result (Refused event self.old self.new) }
     {
         if !self.allows(event) {
             return Err(StepFault::Illegal);
         }
+        let alloc = *self.progress.born.allocator();
         let round = Round {
             program: self.program,
             constants: &self.world.constants,
@@ -88,10 +89,10 @@ impl<'a> Core<'a> {
         Ok(())
     }
 
-    /// The piece of the share ran: its Agent events, which are legal one after another, come. `Illegal` exactly where the share's piece is no piece of an
-    /// open function, has other agents or an agent that ran, or where the share's setting is not that of the core and the
-    /// function; nothing changes then, nor where no memory was found.
-    pub fn absorb(&mut self, alloc: Global, share: Share<'_>) -> Result<(), StepFault>
+    /// The piece of the share ran: its Agent events, which are legal one after another, come. `Illegal` exactly where the
+    /// share's piece is no piece of an open function, has other agents or an agent that ran, or where the share's setting is
+    /// not that of the core and the function; nothing changes then, nor where no memory was found.
+    pub fn absorb(&mut self, share: Share<'_>) -> Result<(), StepFault>
         ensures ok { OnOk result (Absorbed share.entry self.old self.new) }
         ensures err { IfErr result (NotAbsorbed share.entry self.old self.new) }
     {
@@ -104,6 +105,7 @@ impl<'a> Core<'a> {
         if !can_absorb(&round, &self.progress, &share) {
             return Err(StepFault::Illegal);
         }
+        let alloc = *self.progress.born.allocator();
         let done = absorb(alloc, &round, &mut self.progress, share);
         if done.is_err() {
             return Err(StepFault::NoMemory);

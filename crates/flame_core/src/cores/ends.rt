@@ -9,11 +9,10 @@ use crate::ending::ended;
 use flame_events::laws::every_order;
 use flame_rows::NoMemory;
 use flame_world::{Turn, World};
-use std::alloc::Global;
 
 impl<'a> Core<'a> {
     /// The turn of the iteration, whatever the order in which its events came. The core is complete.
-    pub fn finish(self, alloc: Global) -> Result<Turn, NoMemory>
+    pub fn finish(self) -> Result<Turn, NoMemory>
         requires { is_complete self.source.model self.core ≡ true }
         ensures { IfOk result (λ turn. turn
             ≡ meant self.entry.source self.entry.world self.entry.iteration self.entry.fuel) }
@@ -27,6 +26,7 @@ impl<'a> Core<'a> {
         } = self;
         let World { constants, .. } = world;
         let _source = program.source();
+        let alloc = *progress.born.allocator();
         ended(alloc, program, constants, progress)
     }
 }
