@@ -11,7 +11,6 @@ use flame_events::Event;
 use flame_program::Program;
 use flame_rows::{Bag, NoMemory};
 use flame_world::{Turn, World};
-use std::alloc::Global;
 use std::io;
 use std::time::{CpuClock, Duration};
 
@@ -54,9 +53,9 @@ impl Measured {
 }
 
 /// All events come. Tells whether each was legal.
-fn step_all(alloc: Global, core: &mut Core<'_>, events: &[Event]) -> Result<bool, NoMemory> {
+fn step_all(core: &mut Core<'_>, events: &[Event]) -> Result<bool, NoMemory> {
     for event in events {
-        match core.step(alloc, *event) {
+        match core.step(*event) {
             Ok(()) => {}
             Err(StepFault::Illegal) => return Ok(false),
             Err(StepFault::NoMemory) => return Err(NoMemory),
@@ -75,11 +74,11 @@ fn rows_in(bags: &[Bag]) -> u64 {
 }
 
 /// How many agents and messages there are at the end; none where there is no end, or a fault.
-fn end_of(alloc: Global, core: Core<'_>) -> Result<Option<(u64, u64)>, NoMemory> {
+fn end_of(core: Core<'_>) -> Result<Option<(u64, u64)>, NoMemory> {
     if !core.complete() {
         return Ok(None);
     }
-    match core.finish(alloc)? {
+    match core.finish()? {
         Turn::Done(world, boards) => Ok(Some((
             rows_in(world.agents.items()),
             rows_in(boards.boards.items()),
@@ -110,11 +109,11 @@ fn measure_core(
     let start = since(rt, Duration::ZERO)?;
     let mut core = Core::new(rt.alloc(), program, world, 1, 1000, grid.agents)?;
     let beginning = since(rt, start)?;
-    if !step_all(rt.alloc(), &mut core, events)? {
+    if !step_all(&mut core, events)? {
         return Ok(None);
     }
     let stepping = since(rt, start)?.saturating_sub(beginning);
-    match end_of(rt.alloc(), core)? {
+    match end_of(core)? {
         Some((agents, messages)) => Ok(Some(Measured {
             events: events.len() as u64,
             agents,

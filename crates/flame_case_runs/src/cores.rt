@@ -33,9 +33,9 @@ fn came(happened: bool, allowed: bool) -> &'static str {
 }
 
 /// The event comes, where it is legal. Tells whether it is.
-fn stepped(alloc: Global, core: &mut Core<'_>, event: Event) -> Result<&'static str, NoMemory> {
+fn stepped(core: &mut Core<'_>, event: Event) -> Result<&'static str, NoMemory> {
     let allowed = core.allows(event);
-    match core.step(alloc, event) {
+    match core.step(event) {
         Ok(()) => Ok(came(true, allowed)),
         Err(StepFault::Illegal) => Ok(came(false, allowed)),
         Err(StepFault::NoMemory) => Err(NoMemory),
@@ -106,30 +106,21 @@ fn print_told(out: &mut String, core: &Core<'_>, question: &str) -> Result<(), N
 }
 
 /// Adds the line and its answer.
-fn print_answer(
-    alloc: Global,
-    out: &mut String,
-    core: &mut Core<'_>,
-    line: &str,
-) -> Result<(), NoMemory> {
+fn print_answer(out: &mut String, core: &mut Core<'_>, line: &str) -> Result<(), NoMemory> {
     write!(out, "{line}: ")?;
     match event_in(line) {
-        Some(event) => out.push_str(stepped(alloc, core, event)?)?,
+        Some(event) => out.push_str(stepped(core, event)?)?,
         None => print_told(out, core, line)?,
     }
     Ok(writeln!(out, "")?)
 }
 
 /// Adds what the iteration comes to, where the core is complete.
-pub(crate) fn print_finish(
-    alloc: Global,
-    out: &mut String,
-    core: Core<'_>,
-) -> Result<(), NoMemory> {
+pub(crate) fn print_finish(out: &mut String, core: Core<'_>) -> Result<(), NoMemory> {
     if !core.complete() {
         return Ok(out.push_str("not complete\n")?);
     }
-    let turn = core.finish(alloc)?;
+    let turn = core.finish()?;
     Ok(print_turn(out, &turn)?)
 }
 
@@ -154,9 +145,9 @@ fn told(
     )?;
     let mut out = String::new(alloc);
     for line in &case.lines(alloc, "events")? {
-        print_answer(alloc, &mut out, &mut core, line.as_str())?;
+        print_answer(&mut out, &mut core, line.as_str())?;
     }
-    print_finish(alloc, &mut out, core)?;
+    print_finish(&mut out, core)?;
     Ok(out)
 }
 

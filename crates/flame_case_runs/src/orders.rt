@@ -52,7 +52,7 @@ fn walk(
         print_event(&mut events, *event)?;
     }
     let mut end = String::new(alloc);
-    print_finish(alloc, &mut end, core)?;
+    print_finish(&mut end, core)?;
     Ok(Walked { events, end })
 }
 

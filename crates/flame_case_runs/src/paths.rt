@@ -115,7 +115,7 @@ impl Path {
         let Some(event) = legal.get(taken).copied() else {
             return Ok(None);
         };
-        match core.step(alloc, event) {
+        match core.step(event) {
             Ok(()) => Ok(Some(event)),
             Err(StepFault::Illegal) => Ok(None),
             Err(StepFault::NoMemory) => Err(NoMemory),
