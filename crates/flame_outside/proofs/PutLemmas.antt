@@ -16,7 +16,7 @@ use Rattle.flame_outside.specs.Memory.{DepotInMemory, seen_depot, after_put, aft
 use Rattle.flame_outside.proofs.AnswerLemmas.{by_put}
 use Rattle.flame_outside.proofs.FrameLemmas.{puts_same}
 
-get-insert_other :
+pub get-insert_other :
     (files : Files) (name bytes other : List ℕ) → other ≢ name → get (insert files name bytes) other ≡ get files other
 get-insert_other files name bytes other differs =
     get-insert nat_list_cmp_total files name bytes other

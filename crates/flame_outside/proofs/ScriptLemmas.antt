@@ -314,13 +314,6 @@ same_by_reads :
     → told (outside new out) ≡ told (outside old out)
 same_by_reads old new out only = ap (λ files. both files out.written) only.files
 
-pub only_reads_stand :
-    (acts : List Act) (old new : SeenDepot) (out : SeenSink)
-    → OnlyReads old new
-    → StandsAt acts 0 (outside old out) (outside new out)
-only_reads_stand acts old new out only =
-    nothing_stands acts (outside old out) (outside new out) (same_by_reads old new out only)
-
 pub stands_after_reads :
     (acts : List Act) (done : ℕ) (old mid : SeenDepot) (out : SeenSink) (new : Outside)
     → OnlyReads old mid
@@ -363,7 +356,6 @@ stands_on acts done old mid new s same on = record { few = s.few; stands = still
 
 pub reads_stand_aside : ReadsStandAside
 reads_stand_aside = record {
-  only_reads = only_reads_stand;
   before = stands_after_reads;
   before_failing = fails_after_reads;
   behind = stands_on;

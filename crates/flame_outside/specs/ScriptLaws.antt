@@ -92,10 +92,6 @@ pub record ScriptsJoin : Type 0 where
 
 -- reads leave a script as it stood: before it, and behind it [own]
 pub record ReadsStandAside : Type 0 where
-  pub only_reads :
-      (acts : List Act) (old new : SeenDepot) (out : SeenSink)
-      → OnlyReads old new
-      → StandsAt acts 0 (outside old out) (outside new out)
   pub before :
       (acts : List Act) (done : ℕ) (old mid : SeenDepot) (out : SeenSink) (new : Outside)
       → OnlyReads old mid
