@@ -1,5 +1,5 @@
 -- What fits a model stays so while events come.
-use Rattle.std.proofs.Common.{◌≡◌, ℕ, zero, suc, ◌+◌, ◌<◌, ◌≤◌, ⊎_elim, true, false, List, [], ◌∷◌, ◌++◌, length, map, take, drop, Option, Some, None, refl, sym, ap, ◌∙◌, arith, subst, length-set, length-take, le-div_iff_mul-le}
+use Rattle.std.proofs.Common.{◌≡◌, ℕ, zero, suc, ◌+◌, ◌<◌, ◌≤◌, ⊎_elim, true, false, List, [], ◌∷◌, ◌++◌, length, map, take, drop, Option, Some, None, refl, sym, ap, ◌∙◌, arith, subst, length-set, length-take}
 use Rattle.std.specs.Prelude.{◌==◌, slice_get, slice_set, slice_index_or}
 use Rattle.std.specs.List.{filter, AllZip, position_or_len}
 use Rattle.std.proofs.lemmas.Bool.{cases_eq, cases_lt, eqb-true}
@@ -30,6 +30,7 @@ use Rattle.flame_events.specs.CoreStates.{Work, Status, Waiting, Open, Faulted, 
 use Rattle.flame_events.specs.LegalEvents.{outputs_of}
 use Rattle.flame_events.specs.EventSteps.{fresh_work, opened, with_sent, with_agent, ran_agent, ran_next, joined_board, handed_in, done_with, after}
 use Rattle.flame_events.specs.CoreFits.{FitsWork, FitsCore, FittingCoresOpen, FittingCoresStay}
+use Rattle.flame_events.proofs.EvenCuts.{share_counts}
 use Rattle.flame_events.proofs.Weights.{Row, Rows}
 use Rattle.flame_events.proofs.Spots.{get_there, get_below}
 use Rattle.flame_events.proofs.Moves.{has_changed}
@@ -165,8 +166,8 @@ cut_fits : (model : Model) (f : ℕ) (type : AgentType) (pieces : ℕ) (agents :
 cut_fits model f type zero [] some wide = tt
 cut_fits model f type (suc pieces) [] some wide = tt
 cut_fits model f type pieces (agent ∷ agents) some wide =
-    let size : 1 ≤ piece_size (length (agent ∷ agents)) pieces = (le-div_iff_mul-le some).1 (omega (arith, some)) in
-    runs_fit model f type pieces (piece_size (length (agent ∷ agents)) pieces) (agent ∷ agents) (omega (arith, size)) wide
+    let size : 0 < piece_size (length (agent ∷ agents)) pieces = share_counts (length (agent ∷ agents)) pieces some (omega arith) in
+    runs_fit model f type pieces (piece_size (length (agent ∷ agents)) pieces) (agent ∷ agents) size wide
 
 fits_opened : (round : Round) (pieces : ℕ) (core : Core) (f : ℕ) (place : Place) → 0 < pieces → FitsCore round.source.model core
     → slice_get (functions round.source.model) f ≡ Some place
@@ -225,7 +226,7 @@ work_after round f type work memory o fits at leaves =
         (merged_wide (width t.variables) old (messages_of (sent_by o) m) (fits.messages m t old there was)
         (messages_wide round.source.model (sent_by o) (sent_wide round.source.model (width type.memory) o leaves) m t there))
 
-status_below : (core : Core) (f k : ℕ) (work : Work) → work_of core f k ≡ Some work → f < length core.statuses
+pub status_below : (core : Core) (f k : ℕ) (work : Work) → work_of core f k ≡ Some work → f < length core.statuses
 status_below core f k work at = ⊎_elim
     (λ (less : f < length core.statuses). less)
     (λ (over : length core.statuses ≤ f). absurd (none_some (sym (ap (λ s. slice_get (works_of s) k) (past_waiting core.statuses f over)) ∙ at)))
@@ -387,7 +388,7 @@ length-map : {X Y : Type 0} (f : X → Y) (xs : List X) → length (map f xs) �
 length-map f [] = refl
 length-map f (x ∷ xs) = ap suc (length-map f xs)
 
-all_one : {X Y : Type 0} (y : Y) (xs : List X) (k : ℕ) → slice_index_or (map (λ (x : X). y) xs) k y ≡ y
+pub all_one : {X Y : Type 0} (y : Y) (xs : List X) (k : ℕ) → slice_index_or (map (λ (x : X). y) xs) k y ≡ y
 all_one y [] k = refl
 all_one y (x ∷ xs) zero = refl
 all_one y (x ∷ xs) (suc k) = all_one y xs k

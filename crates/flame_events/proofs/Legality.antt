@@ -39,7 +39,7 @@ done_handed : (outs : List ℕ) (m : ℕ) (agents : Rows) (o : Option SimFault) 
 done_handed outs m agents None = refl
 done_handed outs m agents (Some fault) = refl
 
-may_shut_is : (outs : List ℕ) (status : Status) → may_shut outs status ≡ true → (status ≡ Open (works_of status)) × (list_all (is_over outs) (works_of status) ≡ true)
+pub may_shut_is : (outs : List ℕ) (status : Status) → may_shut outs status ≡ true → (status ≡ Open (works_of status)) × (list_all (is_over outs) (works_of status) ≡ true)
 may_shut_is outs Waiting legal = absurd (false≢true legal)
 may_shut_is outs (Open works) legal = (refl, legal)
 may_shut_is outs Shut legal = absurd (false≢true legal)
@@ -103,7 +103,7 @@ put_true : (b c : Bool) → c ≡ true → cond b true c ≡ true
 put_true true c is = refl
 put_true false c is = is
 
-frozen_cases : (core : Core) (m i : ℕ) → cond (i == m) true (is_frozen core i) ≡ true → (i ≡ m) ⊎ (is_frozen core i ≡ true)
+pub frozen_cases : (core : Core) (m i : ℕ) → cond (i == m) true (is_frozen core i) ≡ true → (i ≡ m) ⊎ (is_frozen core i ≡ true)
 frozen_cases core m i frozen =
     (elim (i == m) as (λ b. (i == m) ≡ b → cond b true (is_frozen core i) ≡ true → (i ≡ m) ⊎ (is_frozen core i ≡ true)) [
       | true ↦ λ same _. inl (eqb-true i m same)

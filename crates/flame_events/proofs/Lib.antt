@@ -1,3 +1,4 @@
+pub mod EvenCuts
 pub mod Weights
 pub mod Spots
 pub mod Pools

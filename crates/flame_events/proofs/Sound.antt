@@ -141,13 +141,13 @@ pub in_predecessors : (model : Model) (f g : ℕ) → g < function_count model �
 in_predecessors model f g less stands =
     is_in-all_below (λ other. before model other f) (function_count model) g ∙ (λ i. lt-ltb g (function_count model) less i && stands i)
 
-both_wait : (status : Status) → is_waiting status ≡ true → is_shut status ≡ true → ⊥
+pub both_wait : (status : Status) → is_waiting status ≡ true → is_shut status ≡ true → ⊥
 both_wait Waiting waits shut = false≢true shut
 both_wait (Open works) waits shut = false≢true shut
 both_wait Shut waits shut = false≢true waits
 both_wait (Faulted fault) waits shut = false≢true shut
 
-waiting_is : (status : Status) → is_waiting status ≡ true → status ≡ Waiting
+pub waiting_is : (status : Status) → is_waiting status ≡ true → status ≡ Waiting
 waiting_is Waiting waits = refl
 waiting_is (Open works) waits = absurd (false≢true waits)
 waiting_is Shut waits = absurd (false≢true waits)

@@ -1,10 +1,9 @@
 -- The pieces of an open function.
-use Rattle.std.proofs.Common.{◌≡◌, ℕ, zero, suc, ◌+◌, ◌-◌, ◌/◌, ◌%◌, ◌*◌, ◌<◌, ◌≤◌, ⊎_elim, Bool, true, false, cond, List, [], ◌∷◌, ◌++◌, length, map, take, drop, get_or, Option, Some, None, refl, sym, ap, ◌∙◌, arith, subst, append-nil, take-append-drop, take_all, length-drop, length-set, get_or-set_other, one-add, div-add-mod', mul_comm}
+use Rattle.std.proofs.Common.{◌≡◌, ℕ, zero, suc, ◌+◌, ◌<◌, ◌≤◌, ⊎_elim, Bool, true, false, cond, List, [], ◌∷◌, ◌++◌, length, map, take, get_or, Option, Some, None, refl, sym, ap, ◌∙◌, arith, subst, append-nil, take_all, length-set, get_or-set_other, one-add}
 use Rattle.std.specs.Prelude.{not, ◌==◌, ◌||◌, slice_get, slice_set, slice_index_or, is_none, option_map}
 use Rattle.std.specs.Option.{option_or}
 use Rattle.std.specs.List.{filter_map, flat_map, cons_option, list_all, position_or_len}
 use Rattle.std.proofs.lemmas.Bool.{cases_eq, cases_lt, eqb-true, and_parts, ltb-false, lt-ltb, false≢true}
-use Rattle.std.proofs.lemmas.Nat.{mod_below}
 use Rattle.std.proofs.lemmas.List.{take_more}
 use Rattle.std.proofs.lemmas.List.Elements.{filter_map-append}
 use Rattle.flame_rows.specs.Bags.{ascending, merge, weigh}
@@ -16,10 +15,11 @@ use Rattle.flame_sense.specs.RangeLaws.{Each}
 use Rattle.flame_world.specs.declared.faults.SimFault.{SimFault}
 use Rattle.flame_world.specs.AgentRuns.{sent_by, fault_by, messages_of, least_fault}
 use Rattle.flame_world.specs.Iterations.{Round}
-use Rattle.flame_events.specs.Cuts.{piece_size, runs, cut}
+use Rattle.flame_events.specs.Cuts.{cut}
 use Rattle.flame_events.specs.CoreStates.{Work, Status, Waiting, Open, Shut, Faulted, has_left, part_in, fault_in}
 use Rattle.flame_events.specs.LegalEvents.{outputs_of, is_over}
 use Rattle.flame_events.specs.EventSteps.{fresh_work, with_sent, with_agent, done_with}
+use Rattle.flame_events.proofs.EvenCuts.{cuts_are_even}
 use Rattle.flame_events.proofs.Weights.{Row, Rows}
 use Rattle.flame_events.proofs.Spots.{get_below}
 use Rattle.flame_events.proofs.Holding.{Ideal, sent, sent-append}
@@ -130,7 +130,7 @@ in_place m (output ∷ outs) less =
     ])
     less
 
-past_end : (parts : List (Option Rows)) (k : ℕ) → length parts ≤ k → slice_index_or parts k None ≡ None
+pub past_end : (parts : List (Option Rows)) (k : ℕ) → length parts ≤ k → slice_index_or parts k None ≡ None
 past_end [] k over = refl
 past_end (part ∷ parts) zero over = absurd (omega (arith, over))
 past_end (part ∷ parts) (suc k) over = past_end parts k (omega (arith, over))
@@ -411,25 +411,9 @@ fresh_handed outs m (agents ∷ pieces) = (let here = nothing (is_none (part_in 
 
 -- ---- the pieces are all agents
 
-runs_whole : (outs : List ℕ) (more size : ℕ) (agents : Rows) → length agents ≤ more * size → flat_map its_agents (map (fresh_work outs) (runs more size agents)) ≡ agents
-runs_whole outs zero size [] enough = refl
-runs_whole outs zero size (agent ∷ agents) enough = absurd (omega (arith, enough))
-runs_whole outs (suc more) size [] enough = refl
-runs_whole outs (suc more) size (agent ∷ agents) enough =
-    let rest = length-drop size (agent ∷ agents) in
-    let enough' : length (drop size (agent ∷ agents)) ≤ more * size = grind (arith, rest, enough) in
-    ap (λ l. take size (agent ∷ agents) ++ l) (runs_whole outs more size (drop size (agent ∷ agents)) enough')
-    ∙ take-append-drop size (agent ∷ agents)
+fresh_agents : (outs : List ℕ) (bags : List Rows) → flat_map its_agents (map (fresh_work outs) bags) ≡ flat_map (λ bag. bag) bags
+fresh_agents outs [] = refl
+fresh_agents outs (bag ∷ bags) = ap (λ l. bag ++ l) (fresh_agents outs bags)
 
 pub cut_whole : (outs : List ℕ) (pieces : ℕ) (agents : Rows) → 0 < pieces → flat_map its_agents (map (fresh_work outs) (cut pieces agents)) ≡ agents
-cut_whole outs pieces agents some = runs_whole outs pieces (piece_size (length agents) pieces) agents (covered (length agents) pieces some)
-  where
-    covered : (n p : ℕ) → 0 < p → n ≤ p * ((n + p - 1) / p)
-    covered n p some =
-        let x = n + p - 1 in
-        let q = x / p in
-        let whole : q * p + x % p ≡ x = div-add-mod' x p in
-        let rest : x % p < p = mod_below x p some in
-        let turned : p * q ≡ q * p = mul_comm p q in
-        let enough : n ≤ q * p = omega (arith, whole, rest, some) in
-        subst (λ k. n ≤ k) (sym turned) enough
+cut_whole outs pieces agents some = fresh_agents outs (cut pieces agents) ∙ (cuts_are_even agents pieces some).whole

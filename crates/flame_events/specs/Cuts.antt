@@ -5,7 +5,8 @@ use Rattle.std.specs.Prelude.{ℕ, zero, suc, ◌+◌, ◌-◌, ◌/◌, List, [
 abbrev pub piece_size : ℕ → ℕ → ℕ
 piece_size agents pieces = (agents + pieces - 1) / pieces
 
--- the first runs of this length, at most so many, until all is taken: the last one may be shorter [own]
+-- the first runs of this length, of which the last may be shorter, until all is taken or there are so many: within that
+-- number a cut takes all, and by it the recursion ends [own]
 abbrev pub runs : {X : Type 0} → ℕ → ℕ → List X → List (List X)
 runs zero size xs = []
 runs (suc more) size [] = []

@@ -7,6 +7,7 @@ pub mod EveryOrder
 pub mod AbsorbedPieces
 -- ---- what it is about
 pub mod Cuts
+pub mod EvenPieces
 pub mod CoreStates
 pub mod LegalEvents
 pub mod EventSteps

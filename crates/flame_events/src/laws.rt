@@ -2,6 +2,7 @@
 
 ghost use Rattle.flame_events.specs.AbsorbedPieces.{AgentsRunAtOnce};
 ghost use Rattle.flame_events.specs.CoreFits.{FittingCoresOpen, FittingCoresStay};
+ghost use Rattle.flame_events.specs.EvenPieces.{PieceSizesAreShares, CutsAreEven, NobodyIsNoPiece};
 ghost use Rattle.flame_events.specs.EveryOrder.{EveryOrderIsTheIteration};
 ghost use Rattle.flame_events.specs.Histories.{HistoriesGrow, HistoriesFit};
 
@@ -14,6 +15,15 @@ pub fn every_order()
 {
     names_differ();
 }
+
+/// How agents are cut into pieces: laid end to end in order, the pieces are the agents. There are at most so many of
+/// them, and none is empty. Each but the last has as many agents as an equal share is, rounded up, and the last has no
+/// more. Of nobody there is none.
+pub fn cuts_are_even()
+    ensures sizes { PieceSizesAreShares }
+    ensures even { CutsAreEven }
+    ensures nobody { NobodyIsNoPiece }
+{}
 
 /// Where a piece has agents, of which none ran, its events are legal, one after another, and leave what its agents leave
 /// together.
