@@ -18,3 +18,4 @@ pub mod EveryOrders
 pub mod Absorbing
 pub mod CoreWidths
 pub mod Growing
+pub mod LeastRanks

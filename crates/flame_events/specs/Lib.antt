@@ -12,5 +12,6 @@ pub mod CoreStates
 pub mod LegalEvents
 pub mod EventSteps
 pub mod CoreEnds
+pub mod FaultRanks
 pub mod CoreFits
 pub mod Histories

@@ -4,6 +4,7 @@ ghost use Rattle.flame_events.specs.AbsorbedPieces.{AgentsRunAtOnce};
 ghost use Rattle.flame_events.specs.CoreFits.{FittingCoresOpen, FittingCoresStay};
 ghost use Rattle.flame_events.specs.EvenPieces.{PieceSizesAreShares, CutsAreEven, NobodyIsNoPiece};
 ghost use Rattle.flame_events.specs.EveryOrder.{EveryOrderIsTheIteration};
+ghost use Rattle.flame_events.specs.FaultRanks.{LowerRanksAreWanted, LeastRankHasFirstFault};
 ghost use Rattle.flame_events.specs.Histories.{HistoriesGrow, HistoriesFit};
 
 use flame_laws::names_differ;
@@ -37,6 +38,13 @@ pub fn agents_at_once()
 pub fn cores_keep_their_widths()
     ensures open { FittingCoresOpen }
     ensures stay { FittingCoresStay }
+{}
+
+/// What the least rank of a faulted function tells: the wanted functions are those before it in model order, and the first
+/// fault is that of the function of this rank. Where no function is faulted, all are wanted, and there is no first fault.
+pub fn least_ranks()
+    ensures wanted { LowerRanksAreWanted }
+    ensures first { LeastRankHasFirstFault }
 {}
 
 /// Where legal events lead to a core and further ones lead on from there, all together lead to where these do. Where they
