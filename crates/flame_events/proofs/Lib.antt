@@ -19,3 +19,4 @@ pub mod Absorbing
 pub mod CoreWidths
 pub mod Growing
 pub mod LeastRanks
+pub mod KeptCores

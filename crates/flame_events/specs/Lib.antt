@@ -15,3 +15,4 @@ pub mod CoreEnds
 pub mod FaultRanks
 pub mod CoreFits
 pub mod Histories
+pub mod CoreLaws

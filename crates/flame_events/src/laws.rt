@@ -2,6 +2,8 @@
 
 ghost use Rattle.flame_events.specs.AbsorbedPieces.{AgentsRunAtOnce};
 ghost use Rattle.flame_events.specs.CoreFits.{FittingCoresOpen, FittingCoresStay};
+ghost use Rattle.flame_events.specs.CoreLaws.{PiecesAreFewAndFilled, UnrunPiecesAreFresh};
+ghost use Rattle.flame_events.specs.CoreLaws.{PartsAreKeptUntilAllRan, BoardsGatherWhatIsHandedIn};
 ghost use Rattle.flame_events.specs.EvenPieces.{PieceSizesAreShares, CutsAreEven, NobodyIsNoPiece};
 ghost use Rattle.flame_events.specs.EveryOrder.{EveryOrderIsTheIteration};
 ghost use Rattle.flame_events.specs.FaultRanks.{LowerRanksAreWanted, LeastRankHasFirstFault};
@@ -53,4 +55,15 @@ pub fn least_ranks()
 pub fn histories_grow()
     ensures grow { HistoriesGrow }
     ensures fit { HistoriesFit }
+{}
+
+/// In a core to which events led, each legal when it came, from one with which an iteration begins: a function has at most
+/// so many pieces, and none is empty. A piece of which no agent ran is as it was when its function was opened: nothing is
+/// sent or handed in, and nobody faulted. Until all its agents ran, none of its parts is handed in. Where messages may be
+/// handed in for a board, it is one of the model's, and gathers.
+pub fn cores_keep_their_pieces()
+    ensures few { PiecesAreFewAndFilled }
+    ensures fresh { UnrunPiecesAreFresh }
+    ensures kept { PartsAreKeptUntilAllRan }
+    ensures gathers { BoardsGatherWhatIsHandedIn }
 {}
