@@ -136,7 +136,7 @@ agent_is round pieces f k place core work memory leaving agent to at there next 
 
 pub reached_fits : (seen : Seen) → IsReached seen → FitsCore seen.source.model seen.core
 reached_fits seen reached =
-    histories_fit (round_in seen) seen.pieces (start_in seen) seen.core reached.events reached.some
+    histories_fit (round_in seen) seen.pieces (start_in seen) seen.core reached.events
     (fitting_cores_open seen.source.model seen.world reached.fits) reached.leads
 
 -- a core to which events led, and further ones

@@ -220,19 +220,19 @@ module _ (round : Round) (pieces : ℕ) (core : Core) (statuses : length core.st
 
 -- ---- a core that was reached
 
-in_order_replay : (round : Round) (pieces : ℕ) (core : Core) (events : List Event) → 0 < pieces → FitsCore round.source.model core
+in_order_replay : (round : Round) (pieces : ℕ) (core : Core) (events : List Event) → FitsCore round.source.model core
     → InOrder round.source.model pieces core → are_legal round pieces core events ≡ true
     → InOrder round.source.model pieces (replay round pieces core events)
-in_order_replay round pieces core [] some fits in_order legal = in_order
-in_order_replay round pieces core (e ∷ events) some fits in_order legal =
+in_order_replay round pieces core [] fits in_order legal = in_order
+in_order_replay round pieces core (e ∷ events) fits in_order legal =
     let next = after round pieces core e in
     let both = and_parts (is_legal round.source.model core e) (are_legal round pieces next events) legal in
-    in_order_replay round pieces next events some (fitting_cores_stay round pieces core e some fits both.0)
+    in_order_replay round pieces next events (fitting_cores_stay round pieces core e fits both.0)
     (in_order_after round pieces core fits.statuses fits.frozen e both.0 in_order) both.1
 
 pub reached_in_order : (seen : Seen) → IsReached seen → InOrder seen.source.model seen.pieces seen.core
 reached_in_order seen reached =
     subst (InOrder seen.source.model seen.pieces) (sym reached.leads.left)
-    (in_order_replay (round_in seen) seen.pieces (start_in seen) reached.events reached.some
+    (in_order_replay (round_in seen) seen.pieces (start_in seen) reached.events
     (fitting_cores_open seen.source.model seen.world reached.fits)
     (in_order_opens seen.source.model seen.pieces seen.world.agents) reached.leads.legal)

@@ -161,18 +161,18 @@ runs_fit model f type (suc more) size (agent ∷ agents) some wide =
     fresh_rows outs message t rows at =
         subst (AreWide (width t.variables)) (sym (no_rows outs (position_or_len (λ output. output == message) outs) rows at)) tt
 
-cut_fits : (model : Model) (f : ℕ) (type : AgentType) (pieces : ℕ) (agents : Rows) → 0 < pieces → AreWide (width type.memory) agents
+cut_fits : (model : Model) (f : ℕ) (type : AgentType) (pieces : ℕ) (agents : Rows) → AreWide (width type.memory) agents
     → Each (FitsWork model f type) (map (fresh_work (outputs_of model f)) (cut pieces agents))
-cut_fits model f type zero [] some wide = tt
-cut_fits model f type (suc pieces) [] some wide = tt
-cut_fits model f type pieces (agent ∷ agents) some wide =
-    let size : 0 < piece_size (length (agent ∷ agents)) pieces = share_counts (length (agent ∷ agents)) pieces some (omega arith) in
-    runs_fit model f type pieces (piece_size (length (agent ∷ agents)) pieces) (agent ∷ agents) size wide
+cut_fits model f type zero agents wide = tt
+cut_fits model f type (suc pieces) [] wide = tt
+cut_fits model f type (suc pieces) (agent ∷ agents) wide =
+    let size : 0 < piece_size (length (agent ∷ agents)) (suc pieces) = share_counts (length (agent ∷ agents)) (suc pieces) (omega arith) (omega arith) in
+    runs_fit model f type (suc pieces) (piece_size (length (agent ∷ agents)) (suc pieces)) (agent ∷ agents) size wide
 
-fits_opened : (round : Round) (pieces : ℕ) (core : Core) (f : ℕ) (place : Place) → 0 < pieces → FitsCore round.source.model core
+fits_opened : (round : Round) (pieces : ℕ) (core : Core) (f : ℕ) (place : Place) → FitsCore round.source.model core
     → slice_get (functions round.source.model) f ≡ Some place
     → FitsCore round.source.model (opened round pieces f (Some place) core)
-fits_opened round pieces core f place some fits at =
+fits_opened round pieces core f place fits at =
     let model = round.source.model in
     let typed = place_type model f place at in
     let rests = pool_wide model place core.field typed fits.field.pools in
@@ -192,7 +192,7 @@ fits_opened round pieces core f place some fits at =
           (λ other there.
           let same : place ≡ other = cc in
           subst (λ (p : Place). Each (FitsWork model f p.type) (map (fresh_work (outputs_of model f)) (cut pieces agents))) same
-          (cut_fits model f place.type pieces agents some (each_filter (IsWide (width place.type.memory)) _ (resting place core.field) rests)))
+          (cut_fits model f place.type pieces agents (each_filter (IsWide (width place.type.memory)) _ (resting place core.field) rests)))
           fits.works;
     }
 
@@ -367,17 +367,17 @@ fits_shut round pieces core f fits =
           (cases_lt f (length core.statuses));
     }
 
-fits_open : (round : Round) (pieces : ℕ) (core : Core) (f : ℕ) (place : Option Place) → 0 < pieces → FitsCore round.source.model core
+fits_open : (round : Round) (pieces : ℕ) (core : Core) (f : ℕ) (place : Option Place) → FitsCore round.source.model core
     → slice_get (functions round.source.model) f ≡ place → FitsCore round.source.model (opened round pieces f place core)
-fits_open round pieces core f None some fits at = fits
-fits_open round pieces core f (Some place) some fits at = fits_opened round pieces core f place some fits at
+fits_open round pieces core f None fits at = fits
+fits_open round pieces core f (Some place) fits at = fits_opened round pieces core f place fits at
 
 pub fitting_cores_stay : FittingCoresStay
-fitting_cores_stay round pieces core (event.Open f) some fits legal = fits_open round pieces core f (slice_get (functions round.source.model) f) some fits refl
-fitting_cores_stay round pieces core (event.Agent f k) some fits legal = fits_next round core f k (slice_get (functions round.source.model) f) (work_of core f k) fits refl refl
-fitting_cores_stay round pieces core (event.HandIn f k m) some fits legal = fits_handed round.source.model core f k m (work_of core f k) fits refl
-fitting_cores_stay round pieces core (event.Shut f) some fits legal = fits_shut round pieces core f fits
-fitting_cores_stay round pieces core (event.Freeze m) some fits legal = record {
+fitting_cores_stay round pieces core (event.Open f) fits legal = fits_open round pieces core f (slice_get (functions round.source.model) f) fits refl
+fitting_cores_stay round pieces core (event.Agent f k) fits legal = fits_next round core f k (slice_get (functions round.source.model) f) (work_of core f k) fits refl refl
+fitting_cores_stay round pieces core (event.HandIn f k m) fits legal = fits_handed round.source.model core f k m (work_of core f k) fits refl
+fitting_cores_stay round pieces core (event.Shut f) fits legal = fits_shut round pieces core f fits
+fitting_cores_stay round pieces core (event.Freeze m) fits legal = record {
   statuses = fits.statuses;
   frozen = length-set core.frozen m true ∙ fits.frozen;
   field = fits.field;

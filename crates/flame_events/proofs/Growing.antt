@@ -1,5 +1,5 @@
 -- Histories grow at their end, and what fits stays so along them.
-use Rattle.std.proofs.Common.{◌≡◌, ℕ, ◌<◌, List, [], ◌∷◌, ◌++◌, true, refl, sym, ap, ◌∙◌, subst}
+use Rattle.std.proofs.Common.{◌≡◌, ℕ, List, [], ◌∷◌, ◌++◌, true, refl, sym, ap, ◌∙◌, subst}
 use Rattle.std.proofs.lemmas.Bool.{and_parts, and_from}
 use Rattle.flame_world.specs.Iterations.{Round}
 use Rattle.flame_events.specs.declared.events.Event.{Event}
@@ -30,14 +30,14 @@ histories_grow round pieces start core last events more first then_more = record
   left = then_more.left ∙ ap (λ c. replay round pieces c more) first.left ∙ sym (replay-append round pieces start events more);
 }
 
-fits_replay : (round : Round) (pieces : ℕ) (core : Core) (events : List Event) → 0 < pieces → FitsCore round.source.model core
+fits_replay : (round : Round) (pieces : ℕ) (core : Core) (events : List Event) → FitsCore round.source.model core
     → are_legal round pieces core events ≡ true → FitsCore round.source.model (replay round pieces core events)
-fits_replay round pieces core [] some fits legal = fits
-fits_replay round pieces core (e ∷ events) some fits legal =
+fits_replay round pieces core [] fits legal = fits
+fits_replay round pieces core (e ∷ events) fits legal =
     let next = after round pieces core e in
     let both = and_parts (is_legal round.source.model core e) (are_legal round pieces next events) legal in
-    fits_replay round pieces next events some (fitting_cores_stay round pieces core e some fits both.0) both.1
+    fits_replay round pieces next events (fitting_cores_stay round pieces core e fits both.0) both.1
 
 pub histories_fit : HistoriesFit
-histories_fit round pieces start core events some fits leads =
-    subst (FitsCore round.source.model) (sym leads.left) (fits_replay round pieces start events some fits leads.legal)
+histories_fit round pieces start core events fits leads =
+    subst (FitsCore round.source.model) (sym leads.left) (fits_replay round pieces start events fits leads.legal)

@@ -20,3 +20,4 @@ pub mod CoreWidths
 pub mod Growing
 pub mod LeastRanks
 pub mod KeptCores
+pub mod RunningOut

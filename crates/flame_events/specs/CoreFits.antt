@@ -15,8 +15,8 @@ use Rattle.flame_events.specs.CoreStates.{Work, works_of, part_in, Core, status_
 use Rattle.flame_events.specs.LegalEvents.{outputs_of, is_legal}
 use Rattle.flame_events.specs.EventSteps.{after}
 
--- a piece of this function fits the model: it has agents, as wide as their type declares, of which some ran; and a part
--- for each output, with messages as wide as declared [own]
+-- a piece of this function fits the model: it has agents, as wide as their type declares, and no more ran than it has; and
+-- it has a part for each output, with messages as wide as declared [own]
 pub record FitsWork (model : Model) (function : ℕ) (type : AgentType) (work : Work) : Type 0 where
   pub agents : AreWide (width type.memory) work.agents
   pub some : 0 < length work.agents
@@ -48,7 +48,6 @@ FittingCoresOpen =
 abbrev pub FittingCoresStay : Type 0
 FittingCoresStay =
     (round : Round) (pieces : ℕ) (core : Core) (event : Event)
-    → 0 < pieces
     → FitsCore round.source.model core
     → IsTrue (is_legal round.source.model core event)
     → FitsCore round.source.model (after round pieces core event)

@@ -1,5 +1,5 @@
 -- Cores that some legal events led to.
-use Rattle.std.specs.Prelude.{◌≡◌, ℕ, ◌<◌, List, ◌++◌, IsTrue}
+use Rattle.std.specs.Prelude.{◌≡◌, ℕ, List, ◌++◌, IsTrue}
 use Rattle.flame_world.specs.Iterations.{Round}
 use Rattle.flame_events.specs.declared.events.Event.{Event}
 use Rattle.flame_events.specs.CoreFits.{FitsCore}
@@ -23,7 +23,6 @@ HistoriesGrow =
 abbrev pub HistoriesFit : Type 0
 HistoriesFit =
     (round : Round) (pieces : ℕ) (start core : Core) (events : List Event)
-    → 0 < pieces
     → FitsCore round.source.model start
     → Leads round pieces start events core
     → FitsCore round.source.model core

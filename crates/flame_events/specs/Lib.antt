@@ -16,3 +16,4 @@ pub mod FaultRanks
 pub mod CoreFits
 pub mod Histories
 pub mod CoreLaws
+pub mod EventBounds

@@ -5,6 +5,7 @@ ghost use Rattle.flame_events.specs.CoreFits.{FittingCoresOpen, FittingCoresStay
 ghost use Rattle.flame_events.specs.CoreLaws.{PiecesAreFewAndFilled, UnrunPiecesAreFresh};
 ghost use Rattle.flame_events.specs.CoreLaws.{PartsAreKeptUntilAllRan, BoardsGatherWhatIsHandedIn};
 ghost use Rattle.flame_events.specs.EvenPieces.{PieceSizesAreShares, CutsAreEven, NobodyIsNoPiece};
+ghost use Rattle.flame_events.specs.EventBounds.{EventsRunOut, PieceEventsRunOut, LegalEventsAreBounded, PieceEventsAreBounded};
 ghost use Rattle.flame_events.specs.EveryOrder.{EveryOrderIsTheIteration};
 ghost use Rattle.flame_events.specs.FaultRanks.{LowerRanksAreWanted, LeastRankHasFirstFault};
 ghost use Rattle.flame_events.specs.Histories.{HistoriesGrow, HistoriesFit};
@@ -34,9 +35,8 @@ pub fn agents_at_once()
     ensures { AgentsRunAtOnce }
 {}
 
-/// In a world that fits the model a core begins that fits, and so it stays, where functions are cut into one piece at
-/// least: a status for each function, a mark for each message, pools for all states, and agents and messages as wide as
-/// declared, in pieces too.
+/// In a world that fits the model a core begins that fits, and so it stays: a status for each function, a mark for each
+/// message, pools for all states, and agents and messages as wide as declared, in pieces too.
 pub fn cores_keep_their_widths()
     ensures open { FittingCoresOpen }
     ensures stay { FittingCoresStay }
@@ -50,8 +50,7 @@ pub fn least_ranks()
 {}
 
 /// Where legal events lead to a core and further ones lead on from there, all together lead to where these do. Where they
-/// begin with a core that fits the model, and functions are cut into one piece at least, the core that they lead to fits
-/// it.
+/// begin with a core that fits the model, the core that they lead to fits it.
 pub fn histories_grow()
     ensures grow { HistoriesGrow }
     ensures fit { HistoriesFit }
@@ -66,4 +65,16 @@ pub fn cores_keep_their_pieces()
     ensures fresh { UnrunPiecesAreFresh }
     ensures kept { PartsAreKeptUntilAllRan }
     ensures gathers { BoardsGatherWhatIsHandedIn }
+{}
+
+/// How many events are left in a core that fits the model. Of functions and boards: two for each function that waits, one
+/// for each that is open, one for each board that gathers; each that is legal is one of these. Of pieces: one for each
+/// agent that did not run, and for each part that is not handed in; each that is legal is one of these, and leaves as many
+/// of functions and boards. So among legal events no more are of functions and boards than are left of these, and no more
+/// in a row of pieces.
+pub fn events_run_out()
+    ensures one { EventsRunOut }
+    ensures one_of_piece { PieceEventsRunOut }
+    ensures many { LegalEventsAreBounded }
+    ensures many_of_pieces { PieceEventsAreBounded }
 {}
