@@ -19,7 +19,7 @@ is_faulted core function = is_some (fault_of (status_of core function))
 abbrev pub least_fault_rank : Model → Core → Option ℕ
 least_fault_rank model core = position (is_faulted core) (model_order model)
 
--- of these functions those before the first that is faulted [own]
+-- these functions up to the first that is faulted, which is left out with all after it [own]
 abbrev pub unfaulted : Core → List ℕ → List ℕ
 unfaulted core functions = take_while (λ function. not (is_faulted core function)) functions
 

@@ -1,4 +1,4 @@
--- How many events are left, and that each legal event is one of them.
+-- How many events are left, and that each legal event lessens that.
 use Rattle.std.specs.Prelude.{◌≡◌, ℕ, ◌+◌, ◌-◌, List, length, sum_by, count_by, Bool, true, false, not, is_some, IsTrue}
 use Rattle.std.specs.List.{list_all}
 use Rattle.flame_world.specs.Iterations.{Round}
@@ -42,7 +42,7 @@ is_of_piece (event.Freeze message) = false
 
 -- ---- one event
 
--- in a core that fits the model, each legal event of a function or of a board is one of those that are left [own]
+-- in a core that fits the model, a legal event of a function or of a board lessens by one how many of these are left [own]
 abbrev pub EventsRunOut : Type 0
 EventsRunOut =
     (round : Round) (pieces : ℕ) (core : Core) (event : Event)
@@ -51,8 +51,7 @@ EventsRunOut =
     → is_of_piece event ≡ false
     → events_left (after round pieces core event) + 1 ≡ events_left core
 
--- and each legal event of a piece is one of those that are left of pieces, and leaves as many of functions and boards
--- [own]
+-- a legal event of a piece lessens by one how many of these are left, and leaves as many of functions and boards [own]
 abbrev pub PieceEventsRunOut : Type 0
 PieceEventsRunOut =
     (round : Round) (pieces : ℕ) (core : Core) (event : Event)
@@ -64,7 +63,8 @@ PieceEventsRunOut =
 
 -- ---- many events
 
--- among events, each legal when it comes, those of functions and boards are as many as are no longer left then [own]
+-- when events came, each legal when it did, those of functions and boards among them and those that are left are together
+-- as many as were left before [own]
 abbrev pub LegalEventsAreBounded : Type 0
 LegalEventsAreBounded =
     (round : Round) (pieces : ℕ) (core : Core) (events : List Event)
@@ -73,7 +73,7 @@ LegalEventsAreBounded =
     → events_left (replay round pieces core events) + count_by (λ event. not (is_of_piece event)) events
     ≡ events_left core
 
--- where all are of pieces, they are as many as are no longer left of pieces then [own]
+-- where all that came are of pieces, they and those that are left are together as many as were left before [own]
 abbrev pub PieceEventsAreBounded : Type 0
 PieceEventsAreBounded =
     (round : Round) (pieces : ℕ) (core : Core) (events : List Event)

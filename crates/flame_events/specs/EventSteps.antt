@@ -85,7 +85,7 @@ ran_agent round function piece place work (Some memory) core = record core {
   field = arrived place (outcome_in round function core.field) memory core.field;
 }
 
--- the next agent of the piece runs [own]
+-- the next agent of the piece runs; where there is none, nothing changes [own]
 abbrev pub ran_next : Round → ℕ → ℕ → Option Place → Option Work → Core → Core
 ran_next round function piece None work core = core
 ran_next round function piece (Some place) None core = core
@@ -112,7 +112,7 @@ handed_in function piece message outputs None core = core
 handed_in function piece message outputs (Some work) core =
     joined_board function piece message outputs work (part_in outputs work.parts message) core
 
--- ---- functions are done, and boards complete
+-- ---- functions are done
 
 -- done without a fault, or with this one [own]
 abbrev pub done_with : Option SimFault → Status

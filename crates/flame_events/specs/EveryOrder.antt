@@ -22,12 +22,12 @@ IsOfWanted model core (event.Shut function) = IsTrue (is_in function (wanted mod
 IsOfWanted model core (event.Freeze message) =
     (function : ℕ) × IsTrue (is_in function (wanted model core)) × IsTrue (is_in message (inputs_of model function))
 
--- a legal event is there that brings a wanted function on [own]
+-- there is a legal event of a wanted function, or one that freezes a board which such a function inputs [own]
 abbrev pub CanGoOn : Model → Core → Type 0
 CanGoOn model core = (next : Event) × IsTrue (is_legal model core next) × IsOfWanted model core next
 
 -- whatever events come, each legal when it comes: where the core is complete, it comes to the iteration, and where it is
--- not, a legal event brings a wanted function on [own]
+-- not, there is such an event [own]
 abbrev pub EveryOrderIsTheIteration : Type 0
 EveryOrderIsTheIteration =
     (source : Source) (world : World) (number : ℤ) (fuel pieces : ℕ) (events : List Event)

@@ -27,10 +27,11 @@ inputs_at (Some place) model =
     (λ input. option_map (λ found. found.0) (message_named model.messages input.message))
     place.function.inputs
 
--- those that the function of this number inputs, and those that it outputs [XMML]
+-- those that the function of this number inputs [XMML]
 abbrev pub inputs_of : Model → ℕ → List ℕ
 inputs_of model function = inputs_at (slice_get (functions model) function) model
 
+-- the numbers of the messages that the function of this number outputs [XMML]
 abbrev pub outputs_of : Model → ℕ → List ℕ
 outputs_of model function = outputs_at (slice_get (functions model) function) model
 

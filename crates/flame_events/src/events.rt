@@ -11,6 +11,6 @@ pub enum Event {
     HandIn(u32, u32, u32),
     /// A function is done.
     Shut(u32),
-    /// The board of a message is complete, and may be read.
+    /// The board of a message is frozen: it has all its messages, and may be read.
     Freeze(u32),
 }

@@ -13,7 +13,8 @@ ghost use Rattle.flame_events.specs.Histories.{HistoriesGrow, HistoriesFit};
 use flame_laws::names_differ;
 
 /// Whatever the order of the events, as long as each is legal when it comes: where the core is complete, its end is the
-/// iteration, faults included; where it is not, a wanted function can go on.
+/// iteration, faults included; where it is not, there is a legal event of a wanted function, or one that freezes a board
+/// which such a function inputs.
 pub fn every_order()
     ensures { EveryOrderIsTheIteration }
 {
@@ -29,8 +30,8 @@ pub fn cuts_are_even()
     ensures nobody { NobodyIsNoPiece }
 {}
 
-/// Where a piece has agents, of which none ran, its events are legal, one after another, and leave what its agents leave
-/// together.
+/// Where a piece has agents, of which none ran, its events are legal, one after another, and leave the core in which all of
+/// them ran at once.
 pub fn agents_at_once()
     ensures { AgentsRunAtOnce }
 {}
@@ -68,10 +69,10 @@ pub fn cores_keep_their_pieces()
 {}
 
 /// How many events are left in a core that fits the model. Of functions and boards: two for each function that waits, one
-/// for each that is open, one for each board that gathers; each that is legal is one of these. Of pieces: one for each
-/// agent that did not run, and for each part that is not handed in; each that is legal is one of these, and leaves as many
-/// of functions and boards. So among legal events no more are of functions and boards than are left of these, and no more
-/// in a row of pieces.
+/// for each that is open, one for each board that gathers; each that is legal lessens this by one. Of pieces: one for each
+/// agent that did not run, and for each part that is not handed in; each that is legal lessens this by one, and leaves as
+/// many of functions and boards. So among legal events no more are of functions and boards than are left of these, and no
+/// more in a row of pieces than are left of those.
 pub fn events_run_out()
     ensures one { EventsRunOut }
     ensures one_of_piece { PieceEventsRunOut }
