@@ -20,15 +20,15 @@ use Rattle.flame_events.specs.declared.events.Event.{Event}
 use Rattle.flame_events.specs.declared.events.Event.TheVariants as event
 use Rattle.flame_events.specs.Cuts.{cut}
 use Rattle.flame_events.specs.CoreStates.{Work, Status, Waiting, Open, is_waiting, is_shut, works_of, has_left, part_in, fault_in, Core, status_of, work_of, is_frozen, opening_core}
-use Rattle.flame_events.specs.LegalEvents.{outputs_of, are_shut, writers, may_open, may_hand_in, may_shut, may_freeze, is_legal}
+use Rattle.flame_events.specs.LegalEvents.{inputs_of, outputs_of, predecessors, are_shut, writers, may_open, may_hand_in, may_shut, may_freeze, is_legal}
 use Rattle.flame_events.specs.EventSteps.{fresh_work, opened, with_sent, with_agent, with_work, ran_agent, ran_next, joined_board, handed_in, done_with, after, replay, are_legal}
-use Rattle.flame_events.specs.CoreLaws.{EventsLeadTo, PiecesAreFewAndFilled, UnrunPiecesAreFresh, PartsAreKeptUntilAllRan, BoardsGatherWhatIsHandedIn}
+use Rattle.flame_events.specs.CoreLaws.{EventsLeadTo, WhatBeganMayBegin, FrozenBoardsAreWritten, PiecesAreFewAndFilled, UnrunPiecesAreFresh, PartsAreKeptUntilAllRan, BoardsGatherWhatIsHandedIn}
 use Rattle.flame_events.proofs.EvenCuts.{cuts_are_even}
 use Rattle.flame_events.proofs.Weights.{Row, Rows}
 use Rattle.flame_events.proofs.Spots.{get_there, get_below, output_named}
 use Rattle.flame_events.proofs.Works.{each_at, each_set, kept_is_output, length-with_sent, all_of_list, without}
 use Rattle.flame_events.proofs.Sound.{set_table, put_all, both_wait, can_open, opens_with, past_waiting}
-use Rattle.flame_events.proofs.Legality.{may_shut_is, in_writers, frozen_cases}
+use Rattle.flame_events.proofs.Legality.{may_shut_is, each_also, in_writers, put_true, frozen_cases}
 use Rattle.flame_events.proofs.CoreWidths.{status_below, all_one}
 
 pub record KeptWork (outs : List ℕ) (work : Work) : Type 0 where
@@ -41,29 +41,36 @@ pub record KeptWorks (outs : List ℕ) (pieces : ℕ) (works : List Work) : Type
   pub few : length works ≤ pieces
   pub each : Each (KeptWork outs) works
 
+pub record MayBegin (model : Model) (core : Core) (f : ℕ) : Type 0 where
+  pub earlier : are_shut core (predecessors model f) ≡ true
+  pub fed : list_all (is_frozen core) (inputs_of model f) ≡ true
+
 pub record KeptCore (model : Model) (pieces : ℕ) (core : Core) : Type 0 where
   pub long : length core.statuses ≡ function_count model
   pub marks : length core.frozen ≡ length model.messages
-  pub written : (m g : ℕ) → g < function_count model → is_frozen core m ≡ true
-      → is_in m (outputs_of model g) ≡ true → is_shut (status_of core g) ≡ true
+  pub begun : (f : ℕ) → is_waiting (status_of core f) ≡ false → MayBegin model core f
+  pub written : (m : ℕ) → is_frozen core m ≡ true → are_shut core (writers model m) ≡ true
   pub works : (f : ℕ) → KeptWorks (outputs_of model f) pieces (works_of (status_of core f))
 
 -- ---- the status of one function changes
 
 kept_put : (model : Model) (pieces : ℕ) (core : Core) (f : ℕ) (v : Status) (b : Field) → KeptCore model pieces core → f < length core.statuses
-    → (is_shut (status_of core f) ≡ true → is_shut v ≡ true) → KeptWorks (outputs_of model f) pieces (works_of v)
+    → (is_shut (status_of core f) ≡ true → is_shut v ≡ true) → MayBegin model core f → KeptWorks (outputs_of model f) pieces (works_of v)
     → KeptCore model pieces (record { statuses = slice_set core.statuses f v; field = b; frozen = core.frozen })
-kept_put model pieces core f v b kept less shut works =
+kept_put model pieces core f v b kept less shut may works =
     let P : ℕ → Status → Type 0 =
-    λ g s. (is_shut (status_of core g) ≡ true → is_shut s ≡ true) × KeptWorks (outputs_of model g) pieces (works_of s) in
+    λ g s. (is_shut (status_of core g) ≡ true → is_shut s ≡ true) × (is_waiting s ≡ false → MayBegin model core g) × KeptWorks (outputs_of model g) pieces (works_of s) in
     let facts : (g : ℕ) → P g (slice_index_or (slice_set core.statuses f v) g Waiting) = λ g.
     subst (P g) (sym (set_table core.statuses f v Waiting less g))
-    (put_all P (status_of core) f v (shut, works) (λ k apart. ((λ e. e), kept.works k)) g) in
+    (put_all P (status_of core) f v (shut, (λ e. may), works) (λ k apart. ((λ e. e), kept.begun k, kept.works k)) g) in
+    let also : (numbers : List ℕ) → are_shut core numbers ≡ true → list_all (λ g. is_shut (slice_index_or (slice_set core.statuses f v) g Waiting)) numbers ≡ true =
+    λ numbers all. each_also (λ g. is_shut (status_of core g)) (λ g. is_shut (slice_index_or (slice_set core.statuses f v) g Waiting)) numbers (λ g is. (facts g).0 is) all in
     record {
       long = length-set core.statuses f v ∙ kept.long;
       marks = kept.marks;
-      written = λ m g below frozen writes. (facts g).0 (kept.written m g below frozen writes);
-      works = λ g. (facts g).1;
+      begun = λ g waits. let was = (facts g).1 waits in record { earlier = also (predecessors model g) was.earlier; fed = was.fed };
+      written = λ m frozen. also (writers model m) (kept.written m frozen);
+      works = λ g. (facts g).2;
     }
 
 kept_work : (model : Model) (pieces : ℕ) (core : Core) (f k : ℕ) (work new : Work) (b : Field) → KeptCore model pieces core
@@ -74,6 +81,7 @@ kept_work model pieces core f k work new b kept at fine =
     let is = opens_with (status_of core f) k work at in
     kept_put model pieces core f (Open (slice_set works k new)) b kept (status_below core f k work at)
     (λ shut. absurd (false≢true (sym (ap is_shut is) ∙ shut)))
+    (kept.begun f (ap is_waiting is))
     (record {
       few = omega (arith, length-set works k new, (kept.works f).few);
       each = each_set (KeptWork (outputs_of model f)) works k new (kept.works f).each fine;
@@ -109,6 +117,11 @@ fresh_kept outs (bag ∷ bags) some = (
   fresh_kept outs bags some.1,
 )
 
+shut_before : (model : Model) (core : Core) (f : ℕ) → may_open model core f ≡ true → are_shut core (predecessors model f) ≡ true
+shut_before model core f legal =
+    let known = nat_lt f (function_count model) && is_waiting (status_of core f) in
+    (and_parts known (are_shut core (predecessors model f)) (and_parts (known && are_shut core (predecessors model f)) (list_all (is_frozen core) (inputs_of model f)) legal).0).1
+
 kept_opened : (round : Round) (pieces : ℕ) (core : Core) (f : ℕ) (place : Option Place) → KeptCore round.source.model pieces core
     → may_open round.source.model core f ≡ true → KeptCore round.source.model pieces (opened round pieces f place core)
 kept_opened round pieces core f None kept legal = kept
@@ -119,6 +132,7 @@ kept_opened round pieces core f (Some place) kept legal =
     let bags = cut pieces (taking round f place core.field) in
     kept_put model pieces core f (Open (map (fresh_work outs) bags)) (opened round pieces f (Some place) core).field kept (omega (arith, can.below, kept.long))
     (λ shut. absurd (both_wait (status_of core f) can.waits shut))
+    (record { earlier = shut_before model core f legal; fed = can.fed })
     (record {
       few = omega (arith, length-map bags (fresh_work outs), cut_few pieces (taking round f place core.field));
       each = fresh_kept outs bags (cut_filled pieces (taking round f place core.field));
@@ -208,6 +222,7 @@ kept_shut round pieces core f kept legal =
     let fault = fault_in (works_of (status_of core f)) in
     kept_put round.source.model pieces core f (done_with fault) core.field kept (open_there core f (works_of (status_of core f)) is)
     (λ shut. absurd (false≢true (sym (ap is_shut is) ∙ shut)))
+    (kept.begun f (ap is_waiting is))
     (done_works outs pieces fault)
 
 kept_frozen : (round : Round) (pieces : ℕ) (core : Core) (m : ℕ) → KeptCore round.source.model pieces core
@@ -221,9 +236,16 @@ kept_frozen round pieces core m kept legal =
     record {
       long = kept.long;
       marks = length-set core.frozen m true ∙ kept.marks;
-      written = λ i g below frozen writes. ⊎_elim
-          (λ (same : i ≡ m). all_of_list (λ g. is_shut (status_of core g)) (writers model m) g a.1 (in_writers model m g below (ap (λ n. is_in n (outputs_of model g)) (sym same) ∙ writes)))
-          (λ (old : is_frozen core i ≡ true). kept.written i g below old writes)
+      begun = λ f waits.
+          let was = kept.begun f waits in
+          record {
+            earlier = was.earlier;
+            fed = each_also (is_frozen core) (λ i. slice_index_or (slice_set core.frozen m true) i false) (inputs_of model f)
+                (λ i old. marks i ∙ put_true (i == m) (is_frozen core i) old) was.fed;
+          };
+      written = λ i frozen. ⊎_elim
+          (λ (same : i ≡ m). ap (λ n. are_shut core (writers model n)) same ∙ a.1)
+          (λ (old : is_frozen core i ≡ true). kept.written i old)
           (frozen_cases core m i (sym (marks i) ∙ frozen));
       works = kept.works;
     }
@@ -251,7 +273,8 @@ kept_opening : (model : Model) (pieces : ℕ) (agents : List Rows) → KeptCore 
 kept_opening model pieces agents = record {
   long = length-map (functions model) (λ place. Waiting);
   marks = length-map model.messages (λ message. false);
-  written = λ m g below frozen writes. absurd (true≢false (sym frozen ∙ all_one false model.messages m));
+  begun = λ f waits. absurd (true≢false (sym (ap is_waiting (all_one Waiting (functions model) f)) ∙ waits));
+  written = λ m frozen. absurd (true≢false (sym frozen ∙ all_one false model.messages m));
   works = λ f. subst (λ s. KeptWorks (outputs_of model f) pieces (works_of s)) (sym (all_one Waiting (functions model) f)) (record { few = omega arith; each = tt });
 }
 
@@ -261,6 +284,14 @@ kept_core round pieces core led =
     (kept_replay round pieces (opening_core round.source.model led.agents) led.events (kept_opening round.source.model pieces led.agents) led.leads.legal)
 
 -- ---- the laws
+
+pub what_began_may_begin : WhatBeganMayBegin
+what_began_may_begin round pieces function core led begun =
+    let may = (kept_core round pieces core led).begun function begun in
+    (may.earlier, may.fed)
+
+pub frozen_boards_are_written : FrozenBoardsAreWritten
+frozen_boards_are_written round pieces message core led frozen = (kept_core round pieces core led).written message frozen
 
 each_some : (outs : List ℕ) (works : List Work) → Each (KeptWork outs) works → Each (λ work. 0 < length work.agents) works
 each_some outs [] all = tt
@@ -299,7 +330,8 @@ boards_gather_what_is_handed_in round pieces f k m core led legal = by_work (wor
           get_below model.messages m output.named.message output.named.there,
           ⊎_elim
               (λ (frozen : is_frozen core m ≡ true).
-              absurd (false≢true (sym (ap is_shut (opens_with (status_of core f) k work there)) ∙ kept.written m f below frozen writes)))
+              absurd (false≢true (sym (ap is_shut (opens_with (status_of core f) k work there))
+              ∙ all_of_list (λ g. is_shut (status_of core g)) (writers model m) f (kept.written m frozen) (in_writers model m f below writes))))
               (λ (gathers : is_frozen core m ≡ false). gathers)
               (cases_Bool (is_frozen core m)),
         )

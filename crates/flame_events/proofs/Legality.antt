@@ -89,7 +89,7 @@ sound_shut round start t pieces core f h legal =
 
 -- ---- a board is frozen
 
-each_also : (test other : ℕ → Bool) (numbers : List ℕ) → ((n : ℕ) → test n ≡ true → other n ≡ true) → list_all test numbers ≡ true → list_all other numbers ≡ true
+pub each_also : (test other : ℕ → Bool) (numbers : List ℕ) → ((n : ℕ) → test n ≡ true → other n ≡ true) → list_all test numbers ≡ true → list_all other numbers ≡ true
 each_also test other [] go all = refl
 each_also test other (n ∷ numbers) go all =
     let both = and_parts (test n) (list_all test numbers) all in
@@ -99,7 +99,7 @@ pub in_writers : (model : Model) (m g : ℕ) → g < function_count model → is
 in_writers model m g less writes =
     is_in-all_below (λ f. is_in m (outputs_of model f)) (function_count model) g ∙ (λ i. lt-ltb g (function_count model) less i && writes i)
 
-put_true : (b c : Bool) → c ≡ true → cond b true c ≡ true
+pub put_true : (b c : Bool) → c ≡ true → cond b true c ≡ true
 put_true true c is = refl
 put_true false c is = is
 

@@ -40,8 +40,8 @@ ran_agents round function piece place work core = record core {
   };
 }
 
--- where a piece has agents, of which none ran, its events are legal, one after another, and leave the core in which all of
--- them ran at once [own]
+-- where a piece has agents, of which none ran, its events are legal, one after another, and leave the core in which all
+-- of them ran at once [own]
 abbrev pub AgentsRunAtOnce : Type 0
 AgentsRunAtOnce =
     (round : Round) (pieces function piece : ℕ) (place : Place) (work : Work) (core : Core)

@@ -15,8 +15,8 @@ use Rattle.flame_events.specs.CoreStates.{Work, works_of, part_in, Core, status_
 use Rattle.flame_events.specs.LegalEvents.{outputs_of, is_legal}
 use Rattle.flame_events.specs.EventSteps.{after}
 
--- a piece of this function fits the model: it has agents, as wide as their type declares, and no more ran than it has; and
--- it has a part for each output, with messages as wide as declared [own]
+-- a piece of this function fits the model: it has agents, as wide as their type declares, and no more ran than it has;
+-- and it has a part for each output, with messages as wide as declared [own]
 pub record FitsWork (model : Model) (function : ℕ) (type : AgentType) (work : Work) : Type 0 where
   pub agents : AreWide (width type.memory) work.agents
   pub some : 0 < length work.agents
@@ -28,8 +28,8 @@ pub record FitsWork (model : Model) (function : ℕ) (type : AgentType) (work : 
       → part_in (outputs_of model function) work.parts message ≡ Some rows
       → AreWide (width declared.variables) rows
 
--- a core fits the model: it has a status for each function and a mark for each message, and its field and its pieces fit
--- [own]
+-- a core fits the model: it has a status for each function and a mark for each message, and its field and its pieces
+-- fit [own]
 pub record FitsCore (model : Model) (core : Core) : Type 0 where
   pub statuses : length core.statuses ≡ function_count model
   pub frozen : length core.frozen ≡ length model.messages

@@ -11,8 +11,8 @@ use Rattle.flame_world.specs.Fields.{Field, opening}
 -- ---- how far a function is
 
 -- a piece of an open function: its agents in content order, how many of them ran, for each output of the function the
--- bag of messages of those that ended, until it is handed in, and the least fault of those that faulted. The pieces of a
--- function are its works, and `piece` is the number of one of them [own]
+-- bag of messages of those that ended, until it is handed in, and the least fault of those that faulted. The pieces of
+-- a function are its works, and `piece` is the number of one of them [own]
 pub record Work : Type 0 where
   pub agents : List (List ℤ)
   pub ran : ℕ
@@ -61,8 +61,8 @@ works_of (Faulted fault) = []
 abbrev pub has_left : Work → Bool
 has_left work = nat_lt work.ran (length work.agents)
 
--- of its parts, which stand in the order of these outputs, the messages for this output: None where they are handed in, or
--- where it is none of these [own]
+-- of its parts, which stand in the order of these outputs, the messages for this output: None where they are handed in,
+-- or where it is none of these [own]
 abbrev pub part_in : List ℕ → List (Option (List (List ℤ))) → ℕ → Option (List (List ℤ))
 part_in outputs parts message = slice_index_or parts (position_or_len (λ output. output == message) outputs) None
 

@@ -16,8 +16,8 @@ pub record AreEven (agents : List (List ℤ)) (pieces size : ℕ) (bags : List (
       → piece + 1 < length bags
       → length bag ≡ size
 
--- the size of a piece is an equal share, rounded up: so many pieces of it are enough for all agents, and no lesser size is
--- [own]
+-- the size of a piece is an equal share, rounded up: so many pieces of it are enough for all agents, and no lesser size
+-- is [own]
 abbrev pub PieceSizesAreShares : Type 0
 PieceSizesAreShares =
     (agents pieces : ℕ)

@@ -24,7 +24,8 @@ events_left core = sum_by turns_left core.statuses + count_by not core.frozen
 
 -- ---- of pieces
 
--- each agent of a piece that did not run is to run, and each of its parts that is not handed in is to be handed in [own]
+-- each agent of a piece that did not run is to run, and each of its parts that is not handed in is to be handed in
+-- [own]
 abbrev pub piece_events_left : Work → ℕ
 piece_events_left work = length work.agents - work.ran + count_by is_some work.parts
 
@@ -42,7 +43,8 @@ is_of_piece (event.Freeze message) = false
 
 -- ---- one event
 
--- in a core that fits the model, a legal event of a function or of a board lessens by one how many of these are left [own]
+-- in a core that fits the model, a legal event of a function or of a board lessens by one how many of these are left
+-- [own]
 abbrev pub EventsRunOut : Type 0
 EventsRunOut =
     (round : Round) (pieces : ℕ) (core : Core) (event : Event)
@@ -63,8 +65,8 @@ PieceEventsRunOut =
 
 -- ---- many events
 
--- when events came, each legal when it did, those of functions and boards among them and those that are left are together
--- as many as were left before [own]
+-- when events came, each legal when it did, those of functions and boards among them and those that are left are
+-- together as many as were left before [own]
 abbrev pub LegalEventsAreBounded : Type 0
 LegalEventsAreBounded =
     (round : Round) (pieces : ℕ) (core : Core) (events : List Event)

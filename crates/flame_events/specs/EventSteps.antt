@@ -65,8 +65,8 @@ abbrev pub with_work : Core → ℕ → ℕ → Work → List Status
 with_work core function piece work =
     slice_set core.statuses function (Open (slice_set (works_of (status_of core function)) piece work))
 
--- an agent with this memory runs, where functions have these outcomes: if it lives on, it arrives in the next state, and
--- its births are set aside [FLAME User Manual]
+-- an agent with this memory runs, where functions have these outcomes: if it lives on, it arrives in the next state,
+-- and its births are set aside [FLAME User Manual]
 abbrev pub arrived : Place → (List ℤ → Outcome) → List ℤ → Field → Field
 arrived place run memory field = record field {
   pools =

@@ -26,8 +26,8 @@ IsOfWanted model core (event.Freeze message) =
 abbrev pub CanGoOn : Model → Core → Type 0
 CanGoOn model core = (next : Event) × IsTrue (is_legal model core next) × IsOfWanted model core next
 
--- whatever events come, each legal when it comes: where the core is complete, it comes to the iteration, and where it is
--- not, there is such an event [own]
+-- whatever events come, each legal when it comes: where the core is complete, it comes to the iteration, and where it
+-- is not, there is such an event [own]
 abbrev pub EveryOrderIsTheIteration : Type 0
 EveryOrderIsTheIteration =
     (source : Source) (world : World) (number : ℤ) (fuel pieces : ℕ) (events : List Event)

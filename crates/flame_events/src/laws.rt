@@ -2,10 +2,12 @@
 
 ghost use Rattle.flame_events.specs.AbsorbedPieces.{AgentsRunAtOnce};
 ghost use Rattle.flame_events.specs.CoreFits.{FittingCoresOpen, FittingCoresStay};
+ghost use Rattle.flame_events.specs.CoreLaws.{WhatBeganMayBegin, FrozenBoardsAreWritten};
 ghost use Rattle.flame_events.specs.CoreLaws.{PiecesAreFewAndFilled, UnrunPiecesAreFresh};
 ghost use Rattle.flame_events.specs.CoreLaws.{PartsAreKeptUntilAllRan, BoardsGatherWhatIsHandedIn};
 ghost use Rattle.flame_events.specs.EvenPieces.{PieceSizesAreShares, CutsAreEven, NobodyIsNoPiece};
-ghost use Rattle.flame_events.specs.EventBounds.{EventsRunOut, PieceEventsRunOut, LegalEventsAreBounded, PieceEventsAreBounded};
+ghost use Rattle.flame_events.specs.EventBounds.{EventsRunOut, PieceEventsRunOut};
+ghost use Rattle.flame_events.specs.EventBounds.{LegalEventsAreBounded, PieceEventsAreBounded};
 ghost use Rattle.flame_events.specs.EveryOrder.{EveryOrderIsTheIteration};
 ghost use Rattle.flame_events.specs.FaultRanks.{LowerRanksAreWanted, LeastRankHasFirstFault};
 ghost use Rattle.flame_events.specs.Histories.{HistoriesGrow, HistoriesFit};
@@ -13,8 +15,8 @@ ghost use Rattle.flame_events.specs.Histories.{HistoriesGrow, HistoriesFit};
 use flame_laws::names_differ;
 
 /// Whatever the order of the events, as long as each is legal when it comes: where the core is complete, its end is the
-/// iteration, faults included; where it is not, there is a legal event of a wanted function, or one that freezes a board
-/// which such a function inputs.
+/// iteration, faults included; where it is not, there is a legal event of a wanted function, or one that freezes a
+/// board which such a function inputs.
 pub fn every_order()
     ensures { EveryOrderIsTheIteration }
 {
@@ -30,8 +32,8 @@ pub fn cuts_are_even()
     ensures nobody { NobodyIsNoPiece }
 {}
 
-/// Where a piece has agents, of which none ran, its events are legal, one after another, and leave the core in which all of
-/// them ran at once.
+/// Where a piece has agents, of which none ran, its events are legal, one after another, and leave the core in which
+/// all of them ran at once.
 pub fn agents_at_once()
     ensures { AgentsRunAtOnce }
 {}
@@ -43,24 +45,33 @@ pub fn cores_keep_their_widths()
     ensures stay { FittingCoresStay }
 {}
 
-/// What the least rank of a faulted function tells: the wanted functions are those before it in model order, and the first
-/// fault is that of the function of this rank. Where no function is faulted, all are wanted, and there is no first fault.
+/// What the least rank of a faulted function tells: the wanted functions are those before it in model order, and the
+/// first fault is that of the function of this rank. Where no function is faulted, all are wanted, and there is no
+/// first fault.
 pub fn least_ranks()
     ensures wanted { LowerRanksAreWanted }
     ensures first { LeastRankHasFirstFault }
 {}
 
-/// Where legal events lead to a core and further ones lead on from there, all together lead to where these do. Where they
-/// begin with a core that fits the model, the core that they lead to fits it.
+/// Where legal events lead to a core and further ones lead on from there, all together lead to where these do. Where
+/// they begin with a core that fits the model, the core that they lead to fits it.
 pub fn histories_grow()
     ensures grow { HistoriesGrow }
     ensures fit { HistoriesFit }
 {}
 
-/// In a core to which events led, each legal when it came, from one with which an iteration begins: a function has at most
-/// so many pieces, and none is empty. A piece of which no agent ran is as it was when its function was opened: nothing is
-/// sent or handed in, and nobody faulted. Until all its agents ran, none of its parts is handed in. Where messages may be
-/// handed in for a board, it is one of the model's, and gathers.
+/// In a core to which events led, each legal when it came, from one with which an iteration begins: where a function is
+/// open or done, its predecessors are shut and the boards of its inputs are frozen; and where a board is frozen, the
+/// functions that output its message are shut.
+pub fn cores_keep_their_order()
+    ensures begun { WhatBeganMayBegin }
+    ensures written { FrozenBoardsAreWritten }
+{}
+
+/// In a core to which events led, each legal when it came, from one with which an iteration begins: a function has at
+/// most so many pieces, and none is empty. A piece of which no agent ran is as it was when its function was opened:
+/// nothing is sent or handed in, and nobody faulted. Until all its agents ran, none of its parts is handed in. Where
+/// messages may be handed in for a board, it is one of the model's, and gathers.
 pub fn cores_keep_their_pieces()
     ensures few { PiecesAreFewAndFilled }
     ensures fresh { UnrunPiecesAreFresh }
@@ -68,11 +79,11 @@ pub fn cores_keep_their_pieces()
     ensures gathers { BoardsGatherWhatIsHandedIn }
 {}
 
-/// How many events are left in a core that fits the model. Of functions and boards: two for each function that waits, one
-/// for each that is open, one for each board that gathers; each that is legal lessens this by one. Of pieces: one for each
-/// agent that did not run, and for each part that is not handed in; each that is legal lessens this by one, and leaves as
-/// many of functions and boards. So among legal events no more are of functions and boards than are left of these, and no
-/// more in a row of pieces than are left of those.
+/// How many events are left in a core that fits the model. Of functions and boards: two for each function that waits,
+/// one for each that is open, one for each board that gathers; each that is legal lessens this by one. Of pieces: one
+/// for each agent that did not run, and for each part that is not handed in; each that is legal lessens this by one,
+/// and leaves as many of functions and boards. So among legal events no more are of functions and boards than are left
+/// of these, and no more in a row of pieces than are left of those.
 pub fn events_run_out()
     ensures one { EventsRunOut }
     ensures one_of_piece { PieceEventsRunOut }
