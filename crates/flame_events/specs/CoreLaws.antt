@@ -42,8 +42,8 @@ PiecesAreFewAndFilled =
     → (length (works_of (status_of core function)) ≤ pieces)
     × Each (λ work. 0 < length work.agents) (works_of (status_of core function))
 
--- a piece of which no agent ran is as it was when its function was opened: nothing is sent or handed in, and nobody
--- faulted [own]
+-- a piece of which no agent ran is as opening a function makes one of its agents: nothing is sent or handed in, and
+-- nobody faulted [own]
 abbrev pub UnrunPiecesAreFresh : Type 0
 UnrunPiecesAreFresh =
     (round : Round) (pieces function piece : ℕ) (work : Work) (core : Core)

@@ -69,8 +69,8 @@ pub fn cores_keep_their_order()
 {}
 
 /// In a core to which events led, each legal when it came, from one with which an iteration begins: a function has at
-/// most so many pieces, and none is empty. A piece of which no agent ran is as it was when its function was opened:
-/// nothing is sent or handed in, and nobody faulted. Until all its agents ran, none of its parts is handed in. Where
+/// most so many pieces, and none is empty. A piece of which no agent ran is as opening a function makes one of its
+/// agents: nothing is sent or handed in, and nobody faulted. Until all its agents ran, none of its parts is handed in. Where
 /// messages may be handed in for a board, it is one of the model's, and gathers.
 pub fn cores_keep_their_pieces()
     ensures few { PiecesAreFewAndFilled }
