@@ -157,7 +157,7 @@ open_long core f k work at = ⊎_elim
     none_some : None ≡ Some work → ⊥
     none_some e = cc
 
-get_set : (works : List Work) (k : ℕ) (work other : Work) → slice_get works k ≡ Some work → slice_get (slice_set works k other) k ≡ Some other
+pub get_set : (works : List Work) (k : ℕ) (work other : Work) → slice_get works k ≡ Some work → slice_get (slice_set works k other) k ≡ Some other
 get_set [] k work other at = absurd cc
 get_set (w ∷ works) zero work other at = refl
 get_set (w ∷ works) (suc k) work other at = get_set works k work other at

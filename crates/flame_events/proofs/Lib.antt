@@ -21,3 +21,4 @@ pub mod Growing
 pub mod LeastRanks
 pub mod KeptCores
 pub mod RunningOut
+pub mod HandedTogether

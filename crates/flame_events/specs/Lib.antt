@@ -5,6 +5,7 @@
 -- own: a choice of this project, or a word that a definition is made of
 pub mod EveryOrder
 pub mod AbsorbedPieces
+pub mod HandedPieces
 -- ---- what it is about
 pub mod Cuts
 pub mod EvenPieces

@@ -10,6 +10,7 @@ ghost use Rattle.flame_events.specs.EventBounds.{EventsRunOut, PieceEventsRunOut
 ghost use Rattle.flame_events.specs.EventBounds.{LegalEventsAreBounded, PieceEventsAreBounded};
 ghost use Rattle.flame_events.specs.EveryOrder.{EveryOrderIsTheIteration};
 ghost use Rattle.flame_events.specs.FaultRanks.{LowerRanksAreWanted, LeastRankHasFirstFault};
+ghost use Rattle.flame_events.specs.HandedPieces.{PartsAreHandedInAtOnce};
 ghost use Rattle.flame_events.specs.Histories.{HistoriesGrow, HistoriesFit};
 
 use flame_laws::names_differ;
@@ -36,6 +37,12 @@ pub fn cuts_are_even()
 /// all of them ran at once.
 pub fn agents_at_once()
     ensures { AgentsRunAtOnce }
+{}
+
+/// Where all agents of a piece ran, it has all its parts, and no output stands twice, the events by which it hands them in
+/// are legal, one after another, and leave the core in which all are handed in at once.
+pub fn parts_at_once()
+    ensures { PartsAreHandedInAtOnce }
 {}
 
 /// In a world that fits the model a core begins that fits, and so it stays: a status for each function, a mark for each
