@@ -8,6 +8,7 @@ mod ending;
 mod faults;
 mod fields;
 mod happening;
+mod inputs;
 mod iterations;
 mod parting;
 mod plain;

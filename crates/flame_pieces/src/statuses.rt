@@ -8,7 +8,7 @@ ghost use Rattle.flame_events.specs.LegalEvents.{may_shut};
 ghost use Rattle.flame_pieces.specs.RunWorks.{work_of, outputs_in};
 ghost use Rattle.flame_pieces.specs.RunStatuses.{status_of, HasOutputs};
 
-use crate::works::{Work, all_over, or_else};
+use crate::works::{Work, all_over};
 use flame_world::SimFault;
 use std::mem;
 
@@ -31,7 +31,7 @@ fn fault_among(works: Vec<Work>) -> Option<SimFault>
 {
     let mut fault = None;
     for work in works {
-        fault = or_else(fault, work.fault);
+        fault = fault.or(work.fault);
     }
     fault
 }
@@ -41,36 +41,21 @@ impl Status {
     pub fn is_waiting(&self) -> bool
         ensures { result ≡ is_waiting (status_of self.now) }
     {
-        match self {
-            Status::Waiting => true,
-            Status::Open(_) => false,
-            Status::Shut => false,
-            Status::Faulted(_) => false,
-        }
+        matches!(self, Status::Waiting)
     }
 
     /// Whether it is done without a fault.
     pub fn is_shut(&self) -> bool
         ensures { result ≡ is_shut (status_of self.now) }
     {
-        match self {
-            Status::Waiting => false,
-            Status::Open(_) => false,
-            Status::Shut => true,
-            Status::Faulted(_) => false,
-        }
+        matches!(self, Status::Shut)
     }
 
     /// Whether it is done with a fault.
     pub fn is_faulted(&self) -> bool
         ensures { result ≡ is_some (fault_of (status_of self.now)) }
     {
-        match self {
-            Status::Waiting => false,
-            Status::Open(_) => false,
-            Status::Shut => false,
-            Status::Faulted(_) => true,
-        }
+        matches!(self, Status::Faulted(_))
     }
 
     /// How many pieces it has, while it is open.

@@ -57,16 +57,6 @@ fn outputs_of(alloc: Global, messages: &[u32]) -> Result<Vec<Output>, NoMemory>
     Ok(outputs)
 }
 
-/// The one fault, or else the other.
-pub(crate) fn or_else(one: Option<SimFault>, other: Option<SimFault>) -> Option<SimFault>
-    ensures { result ≡ option_or one other }
-{
-    match one {
-        Some(fault) => Some(fault),
-        None => other,
-    }
-}
-
 /// How many of these are messages of this type.
 fn count_in(sent: &[Sent], message: u32) -> usize
     ensures { result ≡ count_by (λ one. one.message == message) sent.now }
@@ -175,7 +165,7 @@ impl Work {
         let _room = self.sent.append(&mut sent);
         self.ran += ran;
         let earlier = self.fault.take();
-        self.fault = or_else(earlier, fault);
+        self.fault = earlier.or(fault);
     }
 
     /// How many messages of this type it keeps.

@@ -29,6 +29,7 @@ fn moved(alloc: Global, board: &mut Frozen) -> Result<Arc<Frozen>, NoMemory>
     let mut shared = Arc::new(alloc, Frozen::of(Bag::empty(alloc)))?;
     match Arc::get_mut(&mut shared) {
         Some(place) => mem::swap(place, board),
+        // Nobody else has it yet.
         None => return Err(NoMemory),
     }
     Ok(shared)
@@ -54,14 +55,10 @@ impl Board {
     }
 
     /// Whether no message comes any more.
-    pub fn is_frozen(&self) -> bool
+    pub(crate) fn is_frozen(&self) -> bool
         ensures { result ≡ is_board_frozen self.now }
     {
-        match self {
-            Board::Gathering(_) => false,
-            Board::Frozen(_) => true,
-            Board::Shared(_) => true,
-        }
+        !matches!(self, Board::Gathering(_))
     }
 
     /// The messages, where no more come.
@@ -77,7 +74,7 @@ impl Board {
     }
 
     /// No message comes any more: the board is put in order, which takes no memory.
-    pub fn freeze(&mut self)
+    pub(crate) fn freeze(&mut self)
         ensures bag { board_bag self.new ≡ board_bag self.old }
         ensures frozen { is_board_frozen self.new ≡ true }
     {
@@ -115,7 +112,7 @@ impl Board {
     }
 
     /// The board, which is frozen, to be read.
-    pub fn share(&mut self, alloc: Global) -> Result<Arc<Frozen>, NoMemory>
+    pub(crate) fn share(&mut self, alloc: Global) -> Result<Arc<Frozen>, NoMemory>
         requires { is_board_frozen self.old ≡ true }
         ensures read { IfOk result (λ board. arc_value board ≡ board_bag self.old) }
         ensures bag { board_bag self.new ≡ board_bag self.old }

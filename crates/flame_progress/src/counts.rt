@@ -18,7 +18,7 @@ pub struct Counts {
 
 impl Counts {
     /// The function of this number is shut, which was not before.
-    pub fn shut(&mut self, function: u32)
+    pub(crate) fn shut(&mut self, function: u32)
         requires functions { (thing_at self.old.functions.things function).done ≡ false }
         requires outputs { (thing_at self.old.outputs.things function).done ≡ false }
         ensures { self.new ≡ record self.old {
@@ -31,7 +31,7 @@ impl Counts {
     }
 
     /// The board of this number is frozen, which was not before.
-    pub fn freeze(&mut self, message: u32)
+    pub(crate) fn freeze(&mut self, message: u32)
         requires { (thing_at self.old.inputs.things message).done ≡ false }
         ensures { self.new ≡ record self.old { inputs = with_done message self.old.inputs } }
     {

@@ -43,7 +43,7 @@ pub struct Progress {
 
 impl Progress {
     /// How far the function of this number is.
-    pub fn status(&self, function: u32) -> Option<&Status>
+    pub(crate) fn status(&self, function: u32) -> Option<&Status>
         ensures kept { option_map (λ status. status.now) result ≡ slice_get self.now.statuses.items function }
         ensures status { option_map (λ status. kept_status status.now) result ≡ slice_get (core_of self.now).statuses function }
     {
@@ -59,7 +59,7 @@ impl Progress {
     }
 
     /// Whether it has not begun.
-    pub fn is_waiting(&self, function: u32) -> bool
+    pub(crate) fn is_waiting(&self, function: u32) -> bool
         ensures { result ≡ is_waiting (status_of (core_of self.now) function) }
     {
         match self.status(function) {
@@ -111,7 +111,7 @@ impl Progress {
     }
 
     /// Whether the board of this number is frozen.
-    pub fn is_frozen(&self, message: u32) -> bool
+    pub(crate) fn is_frozen(&self, message: u32) -> bool
         ensures { result ≡ is_frozen (core_of self.now) message }
     {
         match self.board(message) {
@@ -140,7 +140,7 @@ impl Progress {
     }
 
     /// The function of this number is done.
-    pub fn shut(&mut self, function: u32)
+    pub(crate) fn shut(&mut self, function: u32)
         requires { function < length self.old.statuses.items }
         ensures core { core_of self.new ≡ record (core_of self.old) {
           statuses = slice_set (core_of self.old).statuses function
@@ -152,7 +152,7 @@ impl Progress {
     }
 
     /// The board of this number is complete.
-    pub fn freeze(&mut self, message: u32)
+    pub(crate) fn freeze(&mut self, message: u32)
         requires { message < length self.old.boards.items }
         ensures core { core_of self.new ≡ record (core_of self.old) { frozen = slice_set (core_of self.old).frozen message true } }
         ensures statuses { self.new.statuses.items ≡ self.old.statuses.items }
@@ -216,7 +216,7 @@ impl Progress {
     }
 
     /// A piece of a function hands in its messages of this type, whose board gathers.
-    pub fn hand_in(
+    pub(crate) fn hand_in(
         &mut self,
         alloc: Global,
         function: u32,

@@ -1,8 +1,11 @@
 //! How a core begins, and how it goes on.
 
-ghost use Rattle.std.specs.Prelude.{◌≡◌, ◌≤◌, IfOk, IfErr, OnOk};
+ghost use Rattle.std.specs.Prelude.{◌≡◌, ◌≤◌, IfOk, IfErr, OnOk, length, map};
+ghost use Rattle.std.specs.Arc.{arc_value};
+ghost use Rattle.flame_sense.specs.Outcomes.{place_of};
+ghost use Rattle.flame_world.specs.InputBoards.{boards_named};
 ghost use Rattle.flame_world.specs.WorldFits.{FitsModel};
-ghost use Rattle.flame_events.specs.CoreStates.{opening_core};
+ghost use Rattle.flame_events.specs.CoreStates.{opening_core, status_of, works_of};
 ghost use Rattle.flame_core.specs.CoreCalls.{Absorbed, Happened, NotAbsorbed, Refused};
 ghost use Rattle.flame_core.specs.SeenCores.{IsNew};
 
@@ -10,13 +13,16 @@ use crate::absorbing::{absorb, can_absorb};
 use crate::cores::Core;
 use crate::faults::StepFault;
 use crate::happening::happen;
+use crate::inputs::input_boards;
 use crate::rounds::Round;
 use crate::starting::{bags_copied, begun, counted};
 use flame_events::Event;
+use flame_index::Frozen;
 use flame_program::Program;
-use flame_rows::NoMemory;
+use flame_rows::{NoMemory, Seq};
 use flame_world::{Share, World};
 use std::alloc::Global;
+use std::sync::Arc;
 
 impl<'a> Core<'a> {
     /// The core with which the iteration of this number begins in this world, which fits the model, with this fuel for each
@@ -111,5 +117,22 @@ impl<'a> Core<'a> {
             return Err(StepFault::NoMemory);
         }
         Ok(())
+    }
+    /// The boards of the inputs of this function, which has a piece, in their order, for who runs the piece elsewhere. They are
+    /// shared and not copied, and the core stays as it is.
+    pub fn boards(&mut self, function: u32) -> Result<Seq<Arc<Frozen>>, NoMemory>
+        requires { 1 ≤ length (works_of (status_of self.old.core function)) }
+        ensures read { IfOk result (λ boards. map arc_value boards
+            ≡ boards_named (place_of self.old.source function) self.old.source.model self.old.core.field.boards) }
+        ensures kept { self.new ≡ self.old }
+    {
+        let alloc = *self.progress.born.allocator();
+        let round = Round {
+            program: self.program,
+            constants: &self.world.constants,
+            iteration: self.iteration,
+            fuel: self.fuel,
+        };
+        input_boards(alloc, &round, &mut self.progress, function)
     }
 }

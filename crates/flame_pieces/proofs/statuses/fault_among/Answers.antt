@@ -8,7 +8,7 @@ use Rattle.flame_pieces.proofs.statuses.fault_among.Goals as goal
 
 pub loop-work-preserved : goal.loop-work-preserved
 loop-work-preserved c =
-    c.or_else-fault.ensures
+    c.or-fault.ensures
     ∙ ap (λ one. option_or one c.in-Some.work.fault) c.loop-work.invariant
     ∙ sym (fault_more (map work_of c.loop-work.yielded) (work_of c.in-Some.work))
     ∙ ap fault_in (sym (map-append work_of c.loop-work.yielded (c.in-Some.work ∷ [])))

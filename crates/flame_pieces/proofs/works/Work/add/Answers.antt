@@ -18,5 +18,5 @@ returns-clause-work c =
     ∙ ap (λ (b : Bool). cond b (c.args.self.now.sent.items ++ c.args.sent.items) c.args.self.now.sent.items) (c.append-room.ensures.succeeds c.requires.room) in
     let parts = ap (λ sent. map (part_of sent) c.args.self.now.outputs.items) joined
     ∙ parts-append c.args.self.now.sent.items c.args.sent.items c.args.self.now.outputs.items in
-    let fault = c.or_else.ensures ∙ ap (λ one. option_or one c.args.fault) c.take-earlier.ensures.value in
+    let fault = c.or.ensures ∙ ap (λ one. option_or one c.args.fault) c.take-earlier.ensures.value in
     λ i. record { agents = c.args.self.now.agents; ran = c.args.self.now.ran + c.args.ran; parts = parts i; fault = fault i }

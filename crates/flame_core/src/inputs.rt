@@ -1,0 +1,38 @@
+//! Boards that a function reads.
+
+ghost use Rattle.std.specs.Prelude.{◌≡◌, false, IfOk, map};
+ghost use Rattle.std.specs.Arc.{arc_value};
+ghost use Rattle.flame_sense.specs.Outcomes.{place_of};
+ghost use Rattle.flame_world.specs.InputBoards.{boards_named};
+ghost use Rattle.flame_events.specs.CoreStates.{is_waiting, status_of};
+ghost use Rattle.flame_progress.specs.declared.counts.Counts.{Counts as Kept};
+ghost use Rattle.flame_progress.specs.RunBoards.{board_bag};
+ghost use Rattle.flame_progress.specs.RunCores.{core_of};
+ghost use Rattle.flame_progress.specs.Tallying.{Came, Tallies};
+ghost use Rattle.flame_core.specs.RunShares.{IsFed};
+
+use crate::rounds::Round;
+use crate::steps::route_of;
+use flame_index::Frozen;
+use flame_progress::{Progress, share};
+use flame_rows::{NoMemory, Seq};
+use std::alloc::Global;
+use std::sync::Arc;
+
+/// The boards of the inputs of a function that began, in their order. Nothing else changes.
+pub(crate) fn input_boards(
+    alloc: Global,
+    round: &Round<'_>,
+    progress: &mut Progress,
+    function: u32,
+) -> Result<Seq<Arc<Frozen>>, NoMemory>
+    requires fed { IsFed round.now.program.now.model progress.old function }
+    requires began { is_waiting (status_of (core_of progress.old) function) ≡ false }
+    ensures read { IfOk result (λ boards. map arc_value boards
+        ≡ boards_named (place_of round.now.program.now function) round.now.program.now.model (map board_bag progress.old.boards.items)) }
+    ensures kept { (counts : Kept) → Tallies round.now.program.now.model progress.old counts
+        → Came round.now.program.now.model (core_of progress.old) progress.new counts }
+{
+    let route = route_of(round, function);
+    Ok(Seq::of(share(alloc, &mut progress.boards, route.inputs.items())?))
+}
