@@ -87,15 +87,16 @@ fn end_of(core: Core<'_>) -> Result<Option<(u64, u64)>, NoMemory> {
     }
 }
 
-/// The time since then.
-fn since(rt: &impl CpuClock, begun: Duration) -> Result<Duration, NoMemory> {
+/// The time since then, where the clock can be read.
+fn since(rt: &impl CpuClock, begun: Duration) -> Option<Duration> {
     match rt.process_cpu_time() {
-        Ok(now) => Ok(now.saturating_sub(begun)),
-        Err(_) => Err(NoMemory),
+        Ok(now) => Some(now.saturating_sub(begun)),
+        Err(_) => None,
     }
 }
 
-/// Brings the core to its end. None where an event is not legal or the core is not complete behind all.
+/// Brings the core to its end. None where an event is not legal, the core is not complete behind all, or the clock cannot be
+/// read.
 fn measure_core(
     rt: &(impl CpuClock + AllocGlobal),
     program: &Program,
@@ -106,20 +107,26 @@ fn measure_core(
     requires fits { FitsModel program.now.model world }
     requires some { 1 ≤ grid.agents }
 {
-    let start = since(rt, Duration::ZERO)?;
+    let Some(start) = since(rt, Duration::ZERO) else {
+        return Ok(None);
+    };
     let mut core = Core::new(rt.alloc(), program, world, 1, 1000, grid.agents)?;
-    let beginning = since(rt, start)?;
+    let Some(beginning) = since(rt, start) else {
+        return Ok(None);
+    };
     if !step_all(&mut core, events)? {
         return Ok(None);
     }
-    let stepping = since(rt, start)?.saturating_sub(beginning);
+    let Some(end) = since(rt, start) else {
+        return Ok(None);
+    };
     match end_of(core)? {
         Some((agents, messages)) => Ok(Some(Measured {
             events: events.len() as u64,
             agents,
             messages,
             beginning,
-            stepping,
+            stepping: end.saturating_sub(beginning),
         })),
         None => Ok(None),
     }

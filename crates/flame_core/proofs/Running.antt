@@ -1,7 +1,7 @@
 -- A piece whose next agent runs.
-use Rattle.std.proofs.Common.{◌≡◌, ℕ, ◌<◌, true, List, length, map, Some, Vec, sym, ap, ◌∙◌, subst, arith}
+use Rattle.std.proofs.Common.{◌≡◌, ℕ, ◌<◌, true, false, List, length, map, Some, Vec, sym, ap, ◌∙◌, subst, arith}
 use Rattle.std.specs.Global.{Global}
-use Rattle.std.specs.Prelude.{ℤ, slice_get}
+use Rattle.std.specs.Prelude.{ℤ, slice_get, slice_index_or}
 use Rattle.std.specs.List.{All}
 use Rattle.std.proofs.lemmas.List.{length-map}
 use Rattle.flame_spec.specs.declared.models.Model.{Model}
@@ -24,10 +24,12 @@ use Rattle.flame_progress.proofs.Known.{open_within}
 use Rattle.flame_route.specs.declared.routes.Route.{Route}
 use Rattle.flame_core.specs.AgentLeavings.{IsNext}
 use Rattle.flame_core.specs.RunReady.{InOrder}
+use Rattle.flame_core.specs.RunShares.{IsFed}
 use Rattle.flame_core.specs.RunSteps.{GoesBy}
 use Rattle.flame_core.proofs.Leaving.{each_passes, has_next}
 use Rattle.flame_core.proofs.NamedNumbers.{numbers-within}
 use Rattle.flame_core.proofs.Openings.{all_found}
+use Rattle.flame_core.proofs.Shown.{marked_within}
 
 -- boards that are shared are the boards that they were
 pub same_core : (progress : Progress) (boards : Vec Board Global)
@@ -77,3 +79,18 @@ pub inputs_known : (model : Model) (progress : Progress) (counts : Counts) (f : 
 inputs_known model progress counts f route goes tallies =
     subst (λ n. All (λ m. m < n) route.inputs) (sym tallies.messages)
     (numbers-within model goes.place.function.inputs route.inputs goes.routed.inputs)
+
+-- the same of a function that began
+pub fed_frozen : (model : Model) (progress : Progress) (f : ℕ) (route : Route) (goes : GoesBy model f route) → IsFed model progress f
+    → is_waiting (status_of (core_of progress) f) ≡ false → All (λ m. is_frozen (core_of progress) m ≡ true) route.inputs
+fed_frozen model progress f route goes fed began =
+    let core = core_of progress in
+    subst (All (λ m. is_frozen core m ≡ true)) (inputs_are model f route goes)
+    (each_passes (is_frozen core) (inputs_of model f) (fed.fed began))
+
+pub fed_known : (model : Model) (progress : Progress) (f : ℕ) (route : Route) (goes : GoesBy model f route) → IsFed model progress f
+    → is_waiting (status_of (core_of progress) f) ≡ false → All (λ m. m < length progress.boards.items) route.inputs
+fed_known model progress f route goes fed began = λ j d less.
+    let core = core_of progress in
+    let frozen = fed_frozen model progress f route goes fed began in
+    omega (arith, marked_within core.frozen (slice_index_or route.inputs j d) (frozen j d less), length-map progress.boards.items is_board_frozen)

@@ -1,8 +1,10 @@
 //! How a core begins, and how it goes on.
 
-ghost use Rattle.std.specs.Prelude.{◌≡◌, ◌≤◌, IfOk, IfErr, OnOk, length, map};
+ghost use Rattle.std.specs.Prelude.{◌≡◌, ◌≤◌, Some, IfOk, IfErr, OnOk, length, map, slice_get};
 ghost use Rattle.std.specs.Arc.{arc_value};
+ghost use Rattle.flame_spec.specs.Functions.{Place, functions};
 ghost use Rattle.flame_sense.specs.Outcomes.{place_of};
+ghost use Rattle.flame_agent.specs.FunctionFits.{AreBoardsFor};
 ghost use Rattle.flame_world.specs.InputBoards.{boards_named};
 ghost use Rattle.flame_world.specs.WorldFits.{FitsModel};
 ghost use Rattle.flame_events.specs.CoreStates.{opening_core, status_of, works_of};
@@ -118,12 +120,16 @@ impl<'a> Core<'a> {
         }
         Ok(())
     }
+
     /// The boards of the inputs of this function, which has a piece, in their order, for who runs the piece elsewhere. They are
-    /// shared and not copied, and the core stays as it is.
+    /// shared and not copied, as wide as the model declares, and the core stays as it is.
     pub fn boards(&mut self, function: u32) -> Result<Seq<Arc<Frozen>>, NoMemory>
         requires { 1 ≤ length (works_of (status_of self.old.core function)) }
         ensures read { IfOk result (λ boards. map arc_value boards
             ≡ boards_named (place_of self.old.source function) self.old.source.model self.old.core.field.boards) }
+        ensures wide { IfOk result (λ boards. (place : Place)
+            → slice_get (functions self.old.source.model) function ≡ Some place
+            → AreBoardsFor self.old.source.model place.function.inputs (map arc_value boards)) }
         ensures kept { self.new ≡ self.old }
     {
         let alloc = *self.progress.born.allocator();

@@ -1,6 +1,9 @@
 //! What a core tells.
 
-ghost use Rattle.std.specs.Prelude.{◌≡◌, ◌<◌, ◌↔◌, [], Some, None, false, IfOk, IsTrue, length, option_map, slice_index_or, if◌then◌else◌};
+ghost use Rattle.std.specs.Prelude.{◌≡◌, ◌<◌, ◌↔◌, [], Some, None, false, IfOk, IsTrue, length, option_map, slice_get, slice_index_or, if◌then◌else◌};
+ghost use Rattle.flame_spec.specs.Columns.{width};
+ghost use Rattle.flame_spec.specs.Functions.{Place, functions};
+ghost use Rattle.flame_world.specs.WorldFits.{AreWide};
 ghost use Rattle.flame_events.specs.CoreEnds.{is_complete, least_fault_rank};
 ghost use Rattle.flame_events.specs.CoreStates.{is_frozen, status_of, works_of};
 ghost use Rattle.flame_events.specs.EveryOrder.{CanGoOn};
@@ -34,10 +37,13 @@ impl<'a> Core<'a> {
         self.progress.pieces(function) as u32
     }
 
-    /// A copy of this piece of a function.
+    /// A copy of this piece of a function, whose agents are as wide as the model declares.
     pub fn piece(&self, function: u32, piece: u32) -> Result<Piece, NoMemory>
         requires { piece < length (works_of (status_of self.now.core function)) }
-        ensures { IfOk result (IsPieceOf self.now function piece) }
+        ensures is { IfOk result (IsPieceOf self.now function piece) }
+        ensures wide { IfOk result (λ piece. (place : Place)
+            → slice_get (functions self.now.source.model) function ≡ Some place
+            → AreWide (width place.type.memory) piece.agents) }
     {
         match self.progress.work(function, piece) {
             Some(work) => Ok(Piece {
