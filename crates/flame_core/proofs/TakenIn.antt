@@ -24,7 +24,7 @@ use Rattle.flame_world.specs.Shares.{piece_of, setting_of}
 use Rattle.flame_world.proofs.NamedBoards.{named_boards_are_enough}
 use Rattle.flame_events.specs.AbsorbedPieces.{agent_events}
 use Rattle.flame_events.specs.CoreFits.{FitsCore, FitsWork}
-use Rattle.flame_events.specs.CoreStates.{Work, Status, Open, Waiting, Core, is_shut, is_waiting, status_of, work_of, works_of}
+use Rattle.flame_events.specs.CoreStates.{Work, Status, Open, Shut, Faulted, Waiting, Core, is_shut, is_waiting, status_of, work_of, works_of}
 use Rattle.flame_events.specs.EventSteps.{replay, with_work}
 use Rattle.flame_events.specs.Histories.{Leads}
 use Rattle.flame_events.specs.LegalEvents.{outputs_of}
@@ -89,6 +89,16 @@ fed_of model pieces progress fits in_order f = record {
 -- a function with a piece is none that waits
 pub began : (core : Core) (f k : ℕ) (work : Work) → work_of core f k ≡ Some work → is_waiting (status_of core f) ≡ false
 began core f k work there = ap is_waiting (opens_with (status_of core f) k work there)
+
+-- and so is one that has pieces
+pub has_begun : (core : Core) (f : ℕ) → 1 ≤ length (works_of (status_of core f)) → is_waiting (status_of core f) ≡ false
+has_begun core f many = pieces_began (status_of core f) many
+  where
+    pieces_began : (status : Status) → 1 ≤ length (works_of status) → is_waiting status ≡ false
+    pieces_began Waiting some = absurd (omega (arith, some))
+    pieces_began (Open works) some = refl
+    pieces_began Shut some = refl
+    pieces_began (Faulted fault) some = refl
 
 pub piece_below : (model : Model) (core : Core) (f k : ℕ) (work : Work) → FitsCore model core → work_of core f k ≡ Some work → f < function_count model
 piece_below model core f k work fits there =

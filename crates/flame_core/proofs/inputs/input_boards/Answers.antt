@@ -1,5 +1,5 @@
 -- The boards that a function reads, which are shared.
-use Rattle.std.proofs.Common.{◌≡◌, ◌∙◌, true, Some, [], length, map, refl, sym, ap, subst}
+use Rattle.std.proofs.Common.{◌≡◌, ◌∙◌, ◌<◌, true, Some, [], length, map, refl, sym, ap, subst}
 use Rattle.std.specs.Prelude.{slice_index_or}
 use Rattle.std.specs.Arc.{arc_value}
 use Rattle.std.specs.List.{All}
@@ -30,3 +30,30 @@ share-requires-clause-frozen c =
     subst (All (λ m. is_frozen (core_of c.args.progress.now) m ≡ true)) (sym c.items.ensures)
     (fed_frozen c.args.round.now.program.now.model c.args.progress.now c.args.function c.route_of-route.result.now
     c.route_of-route.ensures c.requires.fed c.requires.began)
+
+pub returns-clause-read : goal.returns-clause-read
+returns-clause-read c =
+    let source = c.args.round.now.program.now in
+    let boards = map board_bag c.args.progress.now.boards.items in
+    let goes = c.route_of-route.ensures in
+    let read = ap (map arc_value) c.of.ensures ∙ c.in_ok-share.ensures.read
+    ∙ ap (map (λ message. slice_index_or boards message [])) c.items.ensures in
+    frozen-named source c.args.function goes.place c.route_of-route.result.now.inputs boards _ goes.there goes.routed.inputs read
+
+pub returns-clause-wide : goal.returns-clause-wide
+returns-clause-wide c = λ place at fits.
+    let model = c.args.round.now.program.now.model in
+    let boards = map board_bag c.args.progress.now.boards.items in
+    let goes = c.route_of-route.ensures in
+    let read = ap (map arc_value) c.of.ensures ∙ c.in_ok-share.ensures.read
+    ∙ ap (map (λ message. slice_index_or boards message [])) c.items.ensures in
+    let wide = frozen-wide model goes.place c.route_of-route.result.now.inputs boards _ fits goes.routed.inputs read in
+    subst (λ (p : Place). AreBoardsFor model p.function.inputs (map arc_value c.of.result)) (some_place _ _ (sym goes.there ∙ at)) wide
+
+pub returns-clause-kept : goal.returns-clause-kept
+returns-clause-kept c = λ counts tallies.
+    let model = c.args.round.now.program.now.model in
+    let progress = c.args.progress.now in
+    let same = same_core progress c.share.new.boards c.in_ok-share.ensures.bags c.in_ok-share.ensures.frozen in
+    came model progress (record progress { boards = c.share.new.boards }) counts counts (core_of progress) same refl refl
+    (λ g has. has) tallies tallies.counted

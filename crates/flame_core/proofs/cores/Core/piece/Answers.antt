@@ -33,7 +33,7 @@ returns-clause-wide c = λ place at.
     } in
     let fits = subst (λ (s : Seen). FitsCore s.source.model s.core) c.self.view_is (reached_fits seen c.self.invariant.reached) in
     let there = ap (λ (s : Seen). work_of s.core c.args.function c.args.piece) (sym c.self.view_is) ∙ sym c.in-Some.ensures.work in
-    let work = each_at (FitsWork c.self.now.source.model c.args.function place.type) (works_of (status_of c.self.now.core c.args.function))
+    let work = each_at (FitsWork c.args.self.now.source.model c.args.function place.type) (works_of (status_of c.args.self.now.core c.args.function))
     c.args.piece (kept_work c.in-Some.work.now) (fits.works c.args.function place at) there in
     subst (AreWide (width place.type.memory)) (sym c.in_ok-copy-in-Some.ensures) work.agents
 
