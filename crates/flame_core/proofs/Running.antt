@@ -1,5 +1,5 @@
 -- A piece whose next agent runs.
-use Rattle.std.proofs.Common.{◌≡◌, ℕ, ◌<◌, true, false, List, length, map, Some, Vec, sym, ap, ◌∙◌, subst, arith}
+use Rattle.std.proofs.Common.{◌≡◌, ℕ, ◌<◌, true, false, List, length, map, Some, Vec, ap, ◌∙◌, subst, arith}
 use Rattle.std.specs.Global.{Global}
 use Rattle.std.specs.Prelude.{ℤ, slice_get, slice_index_or}
 use Rattle.std.specs.List.{All}
@@ -23,11 +23,9 @@ use Rattle.flame_progress.specs.Tallying.{Tallies}
 use Rattle.flame_progress.proofs.Known.{open_within}
 use Rattle.flame_route.specs.declared.routes.Route.{Route}
 use Rattle.flame_core.specs.AgentLeavings.{IsNext}
-use Rattle.flame_core.specs.RunReady.{InOrder}
 use Rattle.flame_core.specs.RunShares.{IsFed}
 use Rattle.flame_core.specs.RunSteps.{GoesBy}
 use Rattle.flame_core.proofs.Leaving.{each_passes, has_next}
-use Rattle.flame_core.proofs.NamedNumbers.{numbers-within}
 use Rattle.flame_core.proofs.Openings.{all_found}
 use Rattle.flame_core.proofs.Shown.{marked_within}
 
@@ -65,22 +63,7 @@ pub inputs_are : (model : Model) (f : ℕ) (route : Route) (goes : GoesBy model 
 inputs_are model f route goes =
     ap (λ o. inputs_at o model) goes.there ∙ all_found _ goes.place.function.inputs route.inputs goes.routed.inputs
 
--- their boards are frozen
-pub inputs_frozen : (model : Model) (pieces : ℕ) (core : Core) (f k : ℕ) (route : Route) (goes : GoesBy model f route) → InOrder model pieces core
-    → may_run (work_of core f k) ≡ true → All (λ m. is_frozen core m ≡ true) route.inputs
-inputs_frozen model pieces core f k route goes in_order may =
-    let next = has_next core f k may in
-    let is = opens_with (status_of core f) k next.is.work next.is.there in
-    subst (All (λ m. is_frozen core m ≡ true)) (inputs_are model f route goes)
-    (each_passes (is_frozen core) (inputs_of model f) (in_order.fed f (ap is_waiting is)))
-
-pub inputs_known : (model : Model) (progress : Progress) (counts : Counts) (f : ℕ) (route : Route) (goes : GoesBy model f route) → Tallies model progress counts
-    → All (λ m. m < length progress.boards.items) route.inputs
-inputs_known model progress counts f route goes tallies =
-    subst (λ n. All (λ m. m < n) route.inputs) (sym tallies.messages)
-    (numbers-within model goes.place.function.inputs route.inputs goes.routed.inputs)
-
--- the same of a function that began
+-- their boards are frozen where it began
 pub fed_frozen : (model : Model) (progress : Progress) (f : ℕ) (route : Route) (goes : GoesBy model f route) → IsFed model progress f
     → is_waiting (status_of (core_of progress) f) ≡ false → All (λ m. is_frozen (core_of progress) m ≡ true) route.inputs
 fed_frozen model progress f route goes fed began =

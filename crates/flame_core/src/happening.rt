@@ -17,6 +17,7 @@ ghost use Rattle.flame_core.specs.RunSteps.{round_of};
 ghost use Rattle.flame_core.specs.AgentLeavings.{FitsAgent, HasNext, IsLeft, IsNext};
 ghost use Rattle.flame_core.specs.CoreCalls.{takes_memory};
 
+use crate::inputs::input_boards;
 use crate::parting::part;
 use crate::rounds::Round;
 use crate::steps::route_of;
@@ -26,7 +27,7 @@ use flame_events::Event;
 use flame_index::Frozen;
 use flame_pieces::cut;
 use flame_program::Program;
-use flame_progress::{Counts, Leaving, Progress, freeze, hand_in, share, shut, works_of};
+use flame_progress::{Counts, Leaving, Progress, freeze, hand_in, shut, works_of};
 use flame_rows::{NoMemory, Row, Seq};
 use flame_spec::{Effect, Fault, Outcome};
 use flame_world::Setting;
@@ -189,7 +190,7 @@ fn run_next(
     ensures err { OnErr result (Came round.now.program.now.model (core_of progress.old) progress.new counts.now) }
 {
     let route = route_of(round, function);
-    let boards = Seq::of(share(alloc, &mut progress.boards, route.inputs.items())?);
+    let boards = input_boards(alloc, round, progress, function)?;
     let leaving = next_leaving(alloc, round, progress, function, piece, &boards)?;
     progress.settle(function, piece, route.agent, route.to, leaving)?;
     Ok(())

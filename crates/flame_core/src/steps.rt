@@ -19,11 +19,10 @@ ghost use Rattle.flame_core.specs.RunSteps.{GoesBy, HasRoute, FitsRun, result_of
 ghost use Rattle.flame_core.specs.TakerRuns.{Leaves};
 
 use crate::fields::{Field, arrive, bear, exchange, freeze, send};
+use crate::parting::part;
 use crate::rounds::Round;
 use crate::takers::{Left, Ran, run_named};
 use flame_index::Frozen;
-use flame_lookup::number;
-use flame_pool::{choose_here, take};
 use flame_progress::Gathering;
 use flame_route::Route;
 use flame_rows::{Bag, NoMemory, Seq};
@@ -78,12 +77,7 @@ fn leave(
         (staying (round_of round.now) function place) (pools_of pools.old)) }
 {
     let pool = exchange(pools, route.agent, route.from, Gathering::empty(alloc)).into_bag()?;
-    let functions = out_of(round, function, route);
-    // Agents choose by numbers of 32 bits.
-    let _count = number(functions.len())?;
-    let conditions = round.program.conditions();
-    let choices = choose_here(alloc, &pool, conditions, functions, round.iteration)?;
-    let (takers, others) = take(pool, &choices, route.turn)?;
+    let (takers, others) = part(alloc, round, function, route, pool)?;
     exchange(pools, route.agent, route.from, Gathering::of(others));
     Ok(takers)
 }

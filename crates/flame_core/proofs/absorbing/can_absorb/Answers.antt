@@ -1,17 +1,13 @@
 use Rattle.std.proofs.Common.{◌≡◌, ◌∙◌, List, true, false, arith, ap, length, map, refl, subst, sym}
 use Rattle.std.specs.Prelude.{slice_index_or}
 use Rattle.std.specs.List.{All}
-use Rattle.std.proofs.lemmas.List.{length-map}
 use Rattle.flame_world.specs.declared.pieces.Piece.{Piece}
-use Rattle.flame_events.specs.CoreStates.{is_frozen, work_of}
-use Rattle.flame_events.specs.LegalEvents.{inputs_of}
+use Rattle.flame_events.specs.CoreStates.{work_of}
 use Rattle.flame_pieces.specs.RunWorks.{work_of as kept_work}
 use Rattle.flame_progress.specs.declared.boards.Board.{Board}
 use Rattle.flame_progress.specs.RunBoards.{board_bag, is_board_frozen}
 use Rattle.flame_progress.specs.RunCores.{core_of}
-use Rattle.flame_core.proofs.Leaving.{each_passes}
-use Rattle.flame_core.proofs.Running.{inputs_are}
-use Rattle.flame_core.proofs.Shown.{marked_within}
+use Rattle.flame_core.proofs.Running.{fed_frozen, fed_known}
 use Rattle.flame_core.proofs.TakenIn.{began, setting_seen}
 use Rattle.flame_core.proofs.absorbing.can_absorb.Goals as goal
 
@@ -24,29 +20,19 @@ route_of-requires c =
 pub is_setting-requires-clause-known : goal.is_setting-requires-clause-known
 is_setting-requires-clause-known c = λ j d less.
     let f = c.piece-piece.result.now.function in
-    let model = c.args.round.now.program.now.model in
-    let core = core_of c.args.progress.now in
-    let boards = c.args.progress.now.boards.items in
-    let inputs = c.route_of.result.now.inputs in
-    let waits = began core f c.piece-piece.result.now.number (kept_work c.in-Some.work.now) (sym c.in-Some.ensures.work) in
-    let all : All (λ m. is_frozen core m ≡ true) inputs =
-    subst (All (λ m. is_frozen core m ≡ true)) (inputs_are model f c.route_of.result.now c.route_of.ensures)
-    (each_passes (is_frozen core) (inputs_of model f) ((c.requires f).fed waits)) in
-    let within = marked_within core.frozen (slice_index_or inputs j d) (all j d less) in
-    omega (arith, within, length-map boards is_board_frozen, ap length c.deref.ensures.value)
+    let progress = c.args.progress.now in
+    let waits = began (core_of progress) f c.piece-piece.result.now.number (kept_work c.in-Some.work.now) (sym c.in-Some.ensures.work) in
+    let known = fed_known c.args.round.now.program.now.model progress f c.route_of.result.now c.route_of.ensures (c.requires f) waits in
+    omega (arith, known j d less, ap length c.deref.ensures.value)
 
 pub is_setting-requires-clause-frozen : goal.is_setting-requires-clause-frozen
 is_setting-requires-clause-frozen c =
     let f = c.piece-piece.result.now.function in
-    let model = c.args.round.now.program.now.model in
-    let core = core_of c.args.progress.now in
-    let inputs = c.route_of.result.now.inputs in
-    let waits = began core f c.piece-piece.result.now.number (kept_work c.in-Some.work.now) (sym c.in-Some.ensures.work) in
-    let all : All (λ m. is_frozen core m ≡ true) inputs =
-    subst (All (λ m. is_frozen core m ≡ true)) (inputs_are model f c.route_of.result.now c.route_of.ensures)
-    (each_passes (is_frozen core) (inputs_of model f) ((c.requires f).fed waits)) in
-    let P : List Board → Type 0 = λ l. All (λ m. slice_index_or (map is_board_frozen l) m false ≡ true) inputs in
-    subst P (sym c.deref.ensures.value) all
+    let progress = c.args.progress.now in
+    let waits = began (core_of progress) f c.piece-piece.result.now.number (kept_work c.in-Some.work.now) (sym c.in-Some.ensures.work) in
+    let P : List Board → Type 0 = λ l. All (λ m. slice_index_or (map is_board_frozen l) m false ≡ true) c.route_of.result.now.inputs in
+    subst P (sym c.deref.ensures.value)
+    (fed_frozen c.args.round.now.program.now.model progress f c.route_of.result.now c.route_of.ensures (c.requires f) waits)
 
 pub returns-then-is_untouched : goal.returns-then-is_untouched
 returns-then-is_untouched c =
