@@ -1,14 +1,11 @@
--- Calls that are done or answered an error.
-use Rattle.std.proofs.Common.{◌≡◌, true, false, Result, Ok, Err, OnOk, OnErr, sym}
-use Rattle.std.specs.Prelude.{is_err}
-use Rattle.std.proofs.lemmas.Bool.{false≢true}
+-- Calls that ended for want of memory.
+use Rattle.std.proofs.Common.{◌≡◌, Result, Ok, Err, sym, subst}
+use Rattle.std.specs.Prelude.{IfErr}
+use Rattle.std.specs.Result.{IsErrAnd}
+use Rattle.flame_core.specs.declared.faults.StepFault.{StepFault}
+use Rattle.flame_core.specs.declared.faults.StepFault.TheVariants.{NoMemory}
 
--- what holds where there is no error holds of this one
-pub was_ok : {A E P : Type 0} (r : Result A E) → OnOk r P → is_err r ≡ false → P
-was_ok (Ok a) holds not_err = holds
-was_ok (Err e) holds not_err = absurd (false≢true (sym not_err))
-
--- what holds where there is an error holds of this one
-pub was_err : {A E P : Type 0} (r : Result A E) → OnErr r P → is_err r ≡ true → P
-was_err (Ok a) holds err = absurd (false≢true err)
-was_err (Err e) holds err = holds
+-- what holds of want of memory holds of this answer
+pub no_memory_is : {A : Type 0} (r : Result A StepFault) (P : StepFault → Type 0) → IsErrAnd r (λ fault. fault ≡ NoMemory) → P NoMemory → IfErr r P
+no_memory_is (Ok a) P is holds = tt
+no_memory_is (Err fault) P is holds = subst P (sym is) holds

@@ -83,17 +83,14 @@ impl<'a> Core<'a> {
             iteration: self.iteration,
             fuel: self.fuel,
         };
-        let done = happen(
+        happen(
             alloc,
             &round,
             self.pieces,
             &mut self.progress,
             &mut self.counts,
             event,
-        );
-        if done.is_err() {
-            return Err(StepFault::NoMemory);
-        }
+        )?;
         Ok(())
     }
 
@@ -114,10 +111,7 @@ impl<'a> Core<'a> {
             return Err(StepFault::Illegal);
         }
         let alloc = *self.progress.born.allocator();
-        let done = absorb(alloc, &round, &mut self.progress, share);
-        if done.is_err() {
-            return Err(StepFault::NoMemory);
-        }
+        absorb(alloc, &round, &mut self.progress, share)?;
         Ok(())
     }
 

@@ -1,5 +1,5 @@
 -- A share comes, or nothing changes.
-use Rattle.std.proofs.Common.{◌∙◌, refl, rules, subst, sym, w32, SFits}
+use Rattle.std.proofs.Common.{◌∙◌, refl, rules, subst, w32, SFits}
 use Rattle.std.specs.Prelude.{ℤ}
 use Rattle.std.proofs.lemmas.Int.{to_z-of_z}
 use Rattle.flame_world.specs.Shares.{piece_of}
@@ -7,10 +7,10 @@ use Rattle.flame_events.specs.AbsorbedPieces.{agent_events}
 use Rattle.flame_events.specs.EventSteps.{replay}
 use Rattle.flame_progress.specs.RunCores.{core_of}
 use Rattle.flame_progress.specs.Tallying.{Came}
-use Rattle.flame_core.specs.CoreCalls.{CanAbsorb}
+use Rattle.flame_core.specs.CoreCalls.{CanAbsorb, NotAbsorbed}
 use Rattle.flame_core.specs.SeenCores.{Seen, round_in}
 use Rattle.flame_core.proofs.Comings.{reached_fits, seen_so, seen_when, stands_on, stands_still}
-use Rattle.flame_core.proofs.Done.{was_err, was_ok}
+use Rattle.flame_core.proofs.Done.{no_memory_is}
 use Rattle.flame_core.proofs.InOrders.{reached_in_order}
 use Rattle.flame_core.proofs.TakenIn.{absorbed_so, can_here, fed_of, leads_on}
 use Rattle.flame_core.proofs.cores.Core.absorb.Goals as goal
@@ -29,8 +29,8 @@ can_absorb-requires c =
     let reached = c.self.invariant.reached in
     fed_of inside.program.now.model inside.pieces inside.progress (reached_fits seen reached) (reached_in_order seen reached)
 
-pub absorb-done-requires-clause-fits : goal.absorb-done-requires-clause-fits
-absorb-done-requires-clause-fits c =
+pub absorb-requires-clause-fits : goal.absorb-requires-clause-fits
+absorb-requires-clause-fits c =
     let inside = c.self.inside in
     let seen : Seen = record {
       source = inside.program.now;
@@ -54,8 +54,8 @@ invariant_of-self c =
       core = core_of inside.progress;
     } in
     let reached = c.self.invariant.reached in
-    let done = was_err c.absorb-done.result c.absorb-done.ensures.err (sym c.if-is_err.ensures.value) in
-    let kept : Came inside.program.now.model (core_of inside.progress) c.absorb-done.new.progress inside.counts =
+    let done = c.in_err-absorb.ensures.err in
+    let kept : Came inside.program.now.model (core_of inside.progress) c.absorb.new.progress inside.counts =
     done inside.pieces inside.counts (record {
       known = reached.fits.constants;
       some = reached.some;
@@ -63,10 +63,10 @@ invariant_of-self c =
       in_order = reached_in_order seen reached;
       tallies = c.self.invariant.tallies;
     }) in
-    stands_still seen inside.progress c.absorb-done.new.progress inside.counts inside.counts c.self.invariant kept
+    stands_still seen inside.progress c.absorb.new.progress inside.counts inside.counts c.self.invariant kept
 
-pub returns-then-is_err-clause-err : goal.returns-then-is_err-clause-err
-returns-then-is_err-clause-err c =
+pub returns-in_err-absorb-clause-err : goal.returns-in_err-absorb-clause-err
+returns-in_err-absorb-clause-err c =
     let inside = c.self.inside in
     let seen : Seen = record {
       source = inside.program.now;
@@ -80,17 +80,19 @@ returns-then-is_err-clause-err c =
     let fits : SFits w32 inside.iteration = search rules in
     let can : CanAbsorb seen c.args.share =
     can_here seen _ c.args.share (c.if-not-can_absorb.ensures.0 refl) refl refl (to_z-of_z w32 inside.iteration fits) refl in
-    let done = was_err c.absorb-done.result c.absorb-done.ensures.err (sym c.if-is_err.ensures.value) in
-    let kept : Came inside.program.now.model (core_of inside.progress) c.absorb-done.new.progress inside.counts =
+    let done = c.in_err-absorb.ensures.err in
+    let kept : Came inside.program.now.model (core_of inside.progress) c.absorb.new.progress inside.counts =
     done inside.pieces inside.counts (record {
       known = reached.fits.constants;
       some = reached.some;
       fits = reached_fits seen reached;
       in_order = reached_in_order seen reached;
       tallies = c.self.invariant.tallies;
-    }) in (
+    }) in
+    no_memory_is c.from_residual.result
+    (NotAbsorbed c.args.share c.args.self.now (record seen { core = core_of c.absorb.new.progress })) c.from_residual.ensures.1 (
       subst (λ (s : Seen). CanAbsorb s c.args.share) c.self.view_is can,
-      seen_so seen (core_of c.absorb-done.new.progress) kept.core ∙ c.self.view_is,
+      seen_so seen (core_of c.absorb.new.progress) kept.core ∙ c.self.view_is,
     )
 
 pub invariant_of-self-2 : goal.invariant_of-self-2
@@ -112,10 +114,10 @@ invariant_of-self-2 c =
     let events = agent_events p.function p.number can.work in
     let core = core_of inside.progress in
     let next = replay (round_in seen) inside.pieces core events in
-    let done = was_ok c.absorb-done.result c.absorb-done.ensures.ok (sym c.if-is_err.ensures.value) in
+    let done = c.in_ok-absorb.ensures.ok in
     let P : ℤ → Type 0 = λ j. Came inside.program.now.model (replay (record (round_in seen) { iteration = j }) inside.pieces core events)
-    c.absorb-done.new.progress inside.counts in
-    let made : Came inside.program.now.model next c.absorb-done.new.progress inside.counts =
+    c.absorb.new.progress inside.counts in
+    let made : Came inside.program.now.model next c.absorb.new.progress inside.counts =
     subst P (to_z-of_z w32 inside.iteration fits) (done inside.pieces inside.counts can.work (record {
       known = reached.fits.constants;
       some = reached.some;
@@ -123,7 +125,7 @@ invariant_of-self-2 c =
       in_order = reached_in_order seen reached;
       tallies = c.self.invariant.tallies;
     }) can.there) in
-    stands_on seen inside.progress c.absorb-done.new.progress inside.counts inside.counts events next c.self.invariant
+    stands_on seen inside.progress c.absorb.new.progress inside.counts inside.counts events next c.self.invariant
     (leads_on seen c.args.share (reached_fits seen reached) can) made
 
 pub returns-clause-ok : goal.returns-clause-ok
@@ -145,10 +147,10 @@ returns-clause-ok c =
     let events = agent_events p.function p.number can.work in
     let core = core_of inside.progress in
     let next = replay (round_in seen) inside.pieces core events in
-    let done = was_ok c.absorb-done.result c.absorb-done.ensures.ok (sym c.if-is_err.ensures.value) in
+    let done = c.in_ok-absorb.ensures.ok in
     let P : ℤ → Type 0 = λ j. Came inside.program.now.model (replay (record (round_in seen) { iteration = j }) inside.pieces core events)
-    c.absorb-done.new.progress inside.counts in
-    let made : Came inside.program.now.model next c.absorb-done.new.progress inside.counts =
+    c.absorb.new.progress inside.counts in
+    let made : Came inside.program.now.model next c.absorb.new.progress inside.counts =
     subst P (to_z-of_z w32 inside.iteration fits) (done inside.pieces inside.counts can.work (record {
       known = reached.fits.constants;
       some = reached.some;
@@ -156,6 +158,6 @@ returns-clause-ok c =
       in_order = reached_in_order seen reached;
       tallies = c.self.invariant.tallies;
     }) can.there) in
-    absorbed_so seen c.args.self.now (record seen { core = core_of c.absorb-done.new.progress }) c.args.share c.self.view_is
+    absorbed_so seen c.args.self.now (record seen { core = core_of c.absorb.new.progress }) c.args.share c.self.view_is
     (reached_fits seen reached) can
-    (seen_when seen events (core_of c.absorb-done.new.progress) made.core)
+    (seen_when seen events (core_of c.absorb.new.progress) made.core)

@@ -4,19 +4,19 @@ use Rattle.std.specs.Prelude.{ℤ}
 use Rattle.std.proofs.lemmas.Int.{to_z-of_z}
 use Rattle.flame_events.specs.EventSteps.{after}
 use Rattle.flame_progress.specs.RunCores.{core_of}
-use Rattle.flame_core.specs.CoreCalls.{allows}
+use Rattle.flame_core.specs.CoreCalls.{allows, Refused}
 use Rattle.flame_core.specs.SeenCores.{Seen, round_in, when_came}
 use Rattle.flame_progress.specs.Tallying.{Came}
 use Rattle.flame_core.proofs.Comings.{one_leads, reached_fits, seen_so, seen_when, stands_on, stands_still}
-use Rattle.flame_core.proofs.Done.{was_err, was_ok}
+use Rattle.flame_core.proofs.Done.{no_memory_is}
 use Rattle.flame_core.proofs.InOrders.{reached_in_order}
 use Rattle.flame_core.proofs.cores.Core.step.Goals as goal
 
 pub returns-then-not-allows : goal.returns-then-not-allows
 returns-then-not-allows c = record { ok = tt; err = (sym c.if-not-allows.ensures, refl) }
 
-pub happen-done-requires-clause-ready : goal.happen-done-requires-clause-ready
-happen-done-requires-clause-ready c =
+pub happen-requires-clause-ready : goal.happen-requires-clause-ready
+happen-requires-clause-ready c =
     let inside = c.self.inside in
     let seen : Seen = record {
       source = inside.program.now;
@@ -35,8 +35,8 @@ happen-done-requires-clause-ready c =
       tallies = c.self.invariant.tallies;
     }
 
-pub happen-done-requires-clause-legal : goal.happen-done-requires-clause-legal
-happen-done-requires-clause-legal c = ap (λ (s : Seen). allows s c.args.event) c.self.view_is ∙ sym c.if-not-allows.ensures
+pub happen-requires-clause-legal : goal.happen-requires-clause-legal
+happen-requires-clause-legal c = ap (λ (s : Seen). allows s c.args.event) c.self.view_is ∙ sym c.if-not-allows.ensures
 
 pub invariant_of-self : goal.invariant_of-self
 invariant_of-self c =
@@ -49,9 +49,9 @@ invariant_of-self c =
       pieces = inside.pieces;
       core = core_of inside.progress;
     } in
-    let kept : Came inside.program.now.model (core_of inside.progress) c.happen-done.new.progress c.happen-done.new.counts =
-    was_err c.happen-done.result c.happen-done.ensures.err (sym c.if-is_err.ensures.value) in
-    stands_still seen inside.progress c.happen-done.new.progress inside.counts c.happen-done.new.counts c.self.invariant kept
+    let kept : Came inside.program.now.model (core_of inside.progress) c.happen.new.progress c.happen.new.counts =
+    c.in_err-happen.ensures.err in
+    stands_still seen inside.progress c.happen.new.progress inside.counts c.happen.new.counts c.self.invariant kept
 
 pub invariant_of-self-2 : goal.invariant_of-self-2
 invariant_of-self-2 c =
@@ -69,14 +69,14 @@ invariant_of-self-2 c =
     let fits : SFits w32 inside.iteration = search rules in
     let P : ℤ → Type 0 = λ j. Came inside.program.now.model
     (after (record (round_in seen) { iteration = j }) inside.pieces (core_of inside.progress) c.args.event)
-    c.happen-done.new.progress c.happen-done.new.counts in
-    let made : Came inside.program.now.model next c.happen-done.new.progress c.happen-done.new.counts =
-    subst P (to_z-of_z w32 inside.iteration fits) (was_ok c.happen-done.result c.happen-done.ensures.ok (sym c.if-is_err.ensures.value)) in
-    stands_on seen inside.progress c.happen-done.new.progress inside.counts c.happen-done.new.counts (c.args.event ∷ []) next c.self.invariant
+    c.happen.new.progress c.happen.new.counts in
+    let made : Came inside.program.now.model next c.happen.new.progress c.happen.new.counts =
+    subst P (to_z-of_z w32 inside.iteration fits) c.in_ok-happen.ensures.ok in
+    stands_on seen inside.progress c.happen.new.progress inside.counts c.happen.new.counts (c.args.event ∷ []) next c.self.invariant
     (one_leads (round_in seen) inside.pieces (core_of inside.progress) c.args.event legal) made
 
-pub returns-then-is_err-clause-err : goal.returns-then-is_err-clause-err
-returns-then-is_err-clause-err c =
+pub returns-in_err-happen-clause-err : goal.returns-in_err-happen-clause-err
+returns-in_err-happen-clause-err c =
     let inside = c.self.inside in
     let seen : Seen = record {
       source = inside.program.now;
@@ -86,12 +86,13 @@ returns-then-is_err-clause-err c =
       pieces = inside.pieces;
       core = core_of inside.progress;
     } in
-    let kept : Came inside.program.now.model (core_of inside.progress) c.happen-done.new.progress c.happen-done.new.counts =
-    was_err c.happen-done.result c.happen-done.ensures.err (sym c.if-is_err.ensures.value) in
-    let takes = was_err c.happen-done.result c.happen-done.ensures.takes (sym c.if-is_err.ensures.value) in (
+    let kept : Came inside.program.now.model (core_of inside.progress) c.happen.new.progress c.happen.new.counts =
+    c.in_err-happen.ensures.err in
+    no_memory_is c.from_residual.result
+    (Refused c.args.event c.args.self.now (record seen { core = core_of c.happen.new.progress })) c.from_residual.ensures.1 (
       sym c.if-not-allows.ensures,
-      takes,
-      seen_so seen (core_of c.happen-done.new.progress) kept.core ∙ c.self.view_is,
+      c.in_err-happen.ensures.takes,
+      seen_so seen (core_of c.happen.new.progress) kept.core ∙ c.self.view_is,
     )
 
 pub returns-clause-ok : goal.returns-clause-ok
@@ -109,10 +110,10 @@ returns-clause-ok c =
     let fits : SFits w32 inside.iteration = search rules in
     let P : ℤ → Type 0 = λ j. Came inside.program.now.model
     (after (record (round_in seen) { iteration = j }) inside.pieces (core_of inside.progress) c.args.event)
-    c.happen-done.new.progress c.happen-done.new.counts in
-    let made : Came inside.program.now.model next c.happen-done.new.progress c.happen-done.new.counts =
-    subst P (to_z-of_z w32 inside.iteration fits) (was_ok c.happen-done.result c.happen-done.ensures.ok (sym c.if-is_err.ensures.value)) in
+    c.happen.new.progress c.happen.new.counts in
+    let made : Came inside.program.now.model next c.happen.new.progress c.happen.new.counts =
+    subst P (to_z-of_z w32 inside.iteration fits) c.in_ok-happen.ensures.ok in
     record {
       legal = sym c.if-not-allows.ensures;
-      left = seen_when seen (c.args.event ∷ []) (core_of c.happen-done.new.progress) made.core ∙ ap (when_came (c.args.event ∷ [])) c.self.view_is;
+      left = seen_when seen (c.args.event ∷ []) (core_of c.happen.new.progress) made.core ∙ ap (when_came (c.args.event ∷ [])) c.self.view_is;
     }
