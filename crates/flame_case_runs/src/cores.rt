@@ -1,16 +1,28 @@
 //! Cases of cores: as those of iterations, with a line `pieces 2` in `given`, into how many pieces the agents of a function
-//! are cut at most, and the section `events`, an event or a question a line. Each line is answered behind its words: an
-//! event, after which the core goes on, by `legal` or `illegal`; `complete` by `true` or `false`; `pieces 0` by how many
-//! pieces the function has and by the agents of each; `frozen 0` by how many messages the board has and by them, or by
-//! `none`; and `least fault` by the rank, or by `none`. Then comes what the iteration comes to, where the core is complete.
+//! are cut at most, and the section `events`, an event, a share or a question a line. Each line is answered behind its words:
+//!
+//! - an event, as [`crate::events`] reads it, by `legal`, and then the core goes on, or by `illegal`;
+//! - `absorb 1 0` by the same: a share of this piece of this function, as [`crate::absorbs`] makes it, comes to the core. Behind
+//!   it a part of the share can be changed: `fuel 7`, `iteration 4`, `constants [3]`, the agents of the piece, as `agents [5]
+//!   [6]`, or the messages that the input of a number reads, as `board 0 [5] [6]`;
+//! - `complete` by `true` or `false`;
+//! - `pieces 0` by how many pieces the function has and by the agents of each;
+//! - `frozen 0` by how many messages the board has and by them, or by `none`;
+//! - `least fault` by the rank, or by `none`;
+//! - `starts from`, whether the core began with what the case gives, by `true` or `false`. Behind it a part of that can be
+//!   changed: `fuel 7`, `iteration 4`, `pieces 3`, `constants [3]`, or all agents of a type, as `agent 0 [9] [8]`.
+//!
+//! Then comes what the iteration comes to, where the core is complete.
 
 ghost use Rattle.std.specs.Prelude.{◌≤◌, IsTrue};
 ghost use Rattle.flame_spec.specs.WellFormed.{is_well_formed};
 ghost use Rattle.flame_world.specs.WorldFits.{FitsModel};
 
+use crate::absorbs::absorbed;
+use crate::beginnings::Beginning;
 use crate::events::event_in;
 use crate::fitting::fits;
-use crate::terms::{Terms, terms_in};
+use crate::terms::{Terms, terms_in, world_copied};
 use crate::worlds::{print_turn, world_in};
 use flame_case::Case;
 use flame_case_programs::{Sourced, program_of, source_in};
@@ -21,6 +33,9 @@ use flame_rows::{NoMemory, Row};
 use flame_spec::Source;
 use flame_world::World;
 use std::alloc::{AllocError, Global};
+
+/// What is answered to a line that says nothing.
+const NO_ANSWER: &str = "no event and no question";
 
 /// Whether the event came, where it was found to be allowed or not.
 fn came(happened: bool, allowed: bool) -> &'static str {
@@ -102,15 +117,53 @@ fn print_told(out: &mut String, core: &Core<'_>, question: &str) -> Result<(), N
     if let Some(message) = number_behind(question, "frozen ") {
         return print_board(out, core, message);
     }
-    Ok(out.push_str("no event and no question")?)
+    Ok(out.push_str(NO_ANSWER)?)
+}
+
+/// The words behind the question what the core starts from; none where it is another.
+fn words_behind(question: &str) -> Option<&str> {
+    let words = question.strip_prefix("starts from")?;
+    if words.is_empty() {
+        return Some(words);
+    }
+    words.strip_prefix(" ")
+}
+
+/// How it is told whether the core began so; none is no question.
+fn truth(began: Option<bool>) -> &'static str {
+    match began {
+        Some(true) => "true",
+        Some(false) => "false",
+        None => NO_ANSWER,
+    }
+}
+
+/// How it is told whether a share was absorbed; none is no share.
+fn absorption(legal: Option<bool>) -> &'static str {
+    match legal {
+        Some(true) => "legal",
+        Some(false) => "illegal",
+        None => NO_ANSWER,
+    }
 }
 
 /// Adds the line and its answer.
-fn print_answer(out: &mut String, core: &mut Core<'_>, line: &str) -> Result<(), NoMemory> {
+fn print_answer(
+    out: &mut String,
+    alloc: Global,
+    core: &mut Core<'_>,
+    begun: &Beginning<'_>,
+    line: &str,
+) -> Result<(), NoMemory> {
     write!(out, "{line}: ")?;
-    match event_in(line) {
-        Some(event) => out.push_str(stepped(core, event)?)?,
-        None => print_told(out, core, line)?,
+    if let Some(event) = event_in(line) {
+        out.push_str(stepped(core, event)?)?;
+    } else if let Some(words) = line.strip_prefix("absorb ") {
+        out.push_str(absorption(absorbed(alloc, core, begun, words)?))?;
+    } else if let Some(words) = words_behind(line) {
+        out.push_str(truth(begun.began(alloc, core, words)?))?;
+    } else {
+        print_told(out, core, line)?;
     }
     Ok(writeln!(out, "")?)
 }
@@ -135,6 +188,11 @@ fn told(
     requires fits { FitsModel program.now.model world }
     requires some { 1 ≤ terms.pieces }
 {
+    let begun = Beginning {
+        program,
+        world: world_copied(alloc, &world)?,
+        terms,
+    };
     let mut core = Core::new(
         alloc,
         program,
@@ -145,7 +203,7 @@ fn told(
     )?;
     let mut out = String::new(alloc);
     for line in &case.lines(alloc, "events")? {
-        print_answer(&mut out, &mut core, line.as_str())?;
+        print_answer(&mut out, alloc, &mut core, &begun, line.as_str())?;
     }
     print_finish(&mut out, core)?;
     Ok(out)

@@ -1,12 +1,16 @@
 //! What runs answer to cases, as texts.
 #![tactic(auto)]
 
+mod absorbs;
+mod beginnings;
+mod changes;
 mod cores;
 mod events;
 mod fitting;
 mod iterations;
 mod orders;
 mod paths;
+mod shares;
 mod terms;
 mod worlds;
 
