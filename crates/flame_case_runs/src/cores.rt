@@ -8,6 +8,7 @@
 //! - `complete` by `true` or `false`;
 //! - `pieces 0` by how many pieces the function has and by the agents of each;
 //! - `frozen 0` by how many messages the board has and by them, or by `none`;
+//! - `boards 0` by how many boards the function reads, where it has a piece, and by the messages of each, or by `none`;
 //! - `least fault` by the rank, or by `none`;
 //! - `starts from`, whether the core began with what the case gives, by `true` or `false`. Behind it a part of that can be
 //!   changed: `fuel 7`, `iteration 4`, `pieces 3`, `constants [3]`, or all agents of a type, as `agent 0 [9] [8]`.
@@ -90,6 +91,20 @@ fn print_board(out: &mut String, core: &Core<'_>, message: u32) -> Result<(), No
     Ok(print_rows(out, rows)?)
 }
 
+/// Adds how many boards the function reads, where it has a piece, and the messages of each.
+fn print_boards(out: &mut String, core: &mut Core<'_>, function: u32) -> Result<(), NoMemory> {
+    if core.pieces(function) == 0 {
+        return Ok(out.push_str("none")?);
+    }
+    let boards = core.boards(function)?;
+    write!(out, "{}", boards.len())?;
+    for board in boards.items() {
+        write!(out, ",")?;
+        print_rows(out, board.bag().rows())?;
+    }
+    Ok(())
+}
+
 /// Adds the least rank of a function that is faulted.
 fn print_least_fault(out: &mut String, core: &Core<'_>) -> Result<(), AllocError> {
     match core.least_fault() {
@@ -104,7 +119,7 @@ fn number_behind(line: &str, word: &str) -> Option<u32> {
 }
 
 /// Adds the answer to a question.
-fn print_told(out: &mut String, core: &Core<'_>, question: &str) -> Result<(), NoMemory> {
+fn print_told(out: &mut String, core: &mut Core<'_>, question: &str) -> Result<(), NoMemory> {
     if question == "complete" {
         return Ok(write!(out, "{}", core.complete())?);
     }
@@ -116,6 +131,9 @@ fn print_told(out: &mut String, core: &Core<'_>, question: &str) -> Result<(), N
     }
     if let Some(message) = number_behind(question, "frozen ") {
         return print_board(out, core, message);
+    }
+    if let Some(function) = number_behind(question, "boards ") {
+        return print_boards(out, core, function);
     }
     Ok(out.push_str(NO_ANSWER)?)
 }
