@@ -24,3 +24,4 @@ mod SameSeen
 mod Routed
 mod TakenIn
 mod Shown
+mod Inside

@@ -9,6 +9,7 @@ use Rattle.flame_progress.specs.RunCores.{core_of}
 use Rattle.flame_progress.specs.Tallying.{Came}
 use Rattle.flame_core.specs.CoreCalls.{CanAbsorb, NotAbsorbed}
 use Rattle.flame_core.specs.SeenCores.{Seen, round_in}
+use Rattle.flame_core.proofs.Inside.{seen_of, ready_in}
 use Rattle.flame_core.proofs.Comings.{reached_fits, seen_so, seen_when, stands_on, stands_still}
 use Rattle.flame_core.proofs.Done.{no_memory_is}
 use Rattle.flame_core.proofs.InOrders.{reached_in_order}
@@ -18,77 +19,35 @@ use Rattle.flame_core.proofs.cores.Core.absorb.Goals as goal
 pub can_absorb-requires : goal.can_absorb-requires
 can_absorb-requires c =
     let inside = c.self.inside in
-    let seen : Seen = record {
-      source = inside.program.now;
-      world = inside.world;
-      iteration = inside.iteration;
-      fuel = inside.fuel;
-      pieces = inside.pieces;
-      core = core_of inside.progress;
-    } in
+    let seen = seen_of inside.program.now inside.world inside.iteration inside.fuel inside.pieces inside.progress in
     let reached = c.self.invariant.reached in
     fed_of inside.program.now.model inside.pieces inside.progress (reached_fits seen reached) (reached_in_order seen reached)
 
 pub absorb-requires-clause-fits : goal.absorb-requires-clause-fits
 absorb-requires-clause-fits c =
     let inside = c.self.inside in
-    let seen : Seen = record {
-      source = inside.program.now;
-      world = inside.world;
-      iteration = inside.iteration;
-      fuel = inside.fuel;
-      pieces = inside.pieces;
-      core = core_of inside.progress;
-    } in
+    let seen = seen_of inside.program.now inside.world inside.iteration inside.fuel inside.pieces inside.progress in
     reached_fits seen c.self.invariant.reached
 
 pub invariant_of-self : goal.invariant_of-self
 invariant_of-self c =
     let inside = c.self.inside in
-    let seen : Seen = record {
-      source = inside.program.now;
-      world = inside.world;
-      iteration = inside.iteration;
-      fuel = inside.fuel;
-      pieces = inside.pieces;
-      core = core_of inside.progress;
-    } in
-    let reached = c.self.invariant.reached in
+    let seen = seen_of inside.program.now inside.world inside.iteration inside.fuel inside.pieces inside.progress in
     let done = c.in_err-absorb.ensures.err in
     let kept : Came inside.program.now.model (core_of inside.progress) c.absorb.new.progress inside.counts =
-    done inside.pieces inside.counts (record {
-      known = reached.fits.constants;
-      some = reached.some;
-      fits = reached_fits seen reached;
-      in_order = reached_in_order seen reached;
-      tallies = c.self.invariant.tallies;
-    }) in
+    done inside.pieces inside.counts (ready_in _ inside.world inside.iteration inside.fuel inside.pieces inside.progress inside.counts c.self.invariant refl) in
     stands_still seen inside.progress c.absorb.new.progress inside.counts inside.counts c.self.invariant kept
 
 pub returns-in_err-absorb-clause-err : goal.returns-in_err-absorb-clause-err
 returns-in_err-absorb-clause-err c =
     let inside = c.self.inside in
-    let seen : Seen = record {
-      source = inside.program.now;
-      world = inside.world;
-      iteration = inside.iteration;
-      fuel = inside.fuel;
-      pieces = inside.pieces;
-      core = core_of inside.progress;
-    } in
-    let reached = c.self.invariant.reached in
+    let seen = seen_of inside.program.now inside.world inside.iteration inside.fuel inside.pieces inside.progress in
     let fits : SFits w32 inside.iteration = search rules in
     let can : CanAbsorb seen c.args.share =
     can_here seen _ c.args.share (c.if-not-can_absorb.ensures.0 refl) refl refl (to_z-of_z w32 inside.iteration fits) refl in
     let done = c.in_err-absorb.ensures.err in
     let kept : Came inside.program.now.model (core_of inside.progress) c.absorb.new.progress inside.counts =
-    done inside.pieces inside.counts (record {
-      known = reached.fits.constants;
-      some = reached.some;
-      fits = reached_fits seen reached;
-      in_order = reached_in_order seen reached;
-      tallies = c.self.invariant.tallies;
-    }) in
+    done inside.pieces inside.counts (ready_in _ inside.world inside.iteration inside.fuel inside.pieces inside.progress inside.counts c.self.invariant refl) in
     no_memory_is c.from_residual.result
     (NotAbsorbed c.args.share c.args.self.now (record seen { core = core_of c.absorb.new.progress })) c.from_residual.ensures.1 (
       subst (λ (s : Seen). CanAbsorb s c.args.share) c.self.view_is can,
@@ -98,14 +57,7 @@ returns-in_err-absorb-clause-err c =
 pub invariant_of-self-2 : goal.invariant_of-self-2
 invariant_of-self-2 c =
     let inside = c.self.inside in
-    let seen : Seen = record {
-      source = inside.program.now;
-      world = inside.world;
-      iteration = inside.iteration;
-      fuel = inside.fuel;
-      pieces = inside.pieces;
-      core = core_of inside.progress;
-    } in
+    let seen = seen_of inside.program.now inside.world inside.iteration inside.fuel inside.pieces inside.progress in
     let reached = c.self.invariant.reached in
     let fits : SFits w32 inside.iteration = search rules in
     let taken = c.if-not-can_absorb.ensures.0 refl in
@@ -118,27 +70,14 @@ invariant_of-self-2 c =
     let P : ℤ → Type 0 = λ j. Came inside.program.now.model (replay (record (round_in seen) { iteration = j }) inside.pieces core events)
     c.absorb.new.progress inside.counts in
     let made : Came inside.program.now.model next c.absorb.new.progress inside.counts =
-    subst P (to_z-of_z w32 inside.iteration fits) (done inside.pieces inside.counts can.work (record {
-      known = reached.fits.constants;
-      some = reached.some;
-      fits = reached_fits seen reached;
-      in_order = reached_in_order seen reached;
-      tallies = c.self.invariant.tallies;
-    }) can.there) in
+    subst P (to_z-of_z w32 inside.iteration fits) (done inside.pieces inside.counts can.work (ready_in _ inside.world inside.iteration inside.fuel inside.pieces inside.progress inside.counts c.self.invariant refl) can.there) in
     stands_on seen inside.progress c.absorb.new.progress inside.counts inside.counts events next c.self.invariant
     (leads_on seen c.args.share (reached_fits seen reached) can) made
 
 pub returns-clause-ok : goal.returns-clause-ok
 returns-clause-ok c =
     let inside = c.self.inside in
-    let seen : Seen = record {
-      source = inside.program.now;
-      world = inside.world;
-      iteration = inside.iteration;
-      fuel = inside.fuel;
-      pieces = inside.pieces;
-      core = core_of inside.progress;
-    } in
+    let seen = seen_of inside.program.now inside.world inside.iteration inside.fuel inside.pieces inside.progress in
     let reached = c.self.invariant.reached in
     let fits : SFits w32 inside.iteration = search rules in
     let taken = c.if-not-can_absorb.ensures.0 refl in
@@ -151,13 +90,7 @@ returns-clause-ok c =
     let P : ℤ → Type 0 = λ j. Came inside.program.now.model (replay (record (round_in seen) { iteration = j }) inside.pieces core events)
     c.absorb.new.progress inside.counts in
     let made : Came inside.program.now.model next c.absorb.new.progress inside.counts =
-    subst P (to_z-of_z w32 inside.iteration fits) (done inside.pieces inside.counts can.work (record {
-      known = reached.fits.constants;
-      some = reached.some;
-      fits = reached_fits seen reached;
-      in_order = reached_in_order seen reached;
-      tallies = c.self.invariant.tallies;
-    }) can.there) in
+    subst P (to_z-of_z w32 inside.iteration fits) (done inside.pieces inside.counts can.work (ready_in _ inside.world inside.iteration inside.fuel inside.pieces inside.progress inside.counts c.self.invariant refl) can.there) in
     absorbed_so seen c.args.self.now (record seen { core = core_of c.absorb.new.progress }) c.args.share c.self.view_is
     (reached_fits seen reached) can
     (seen_when seen events (core_of c.absorb.new.progress) made.core)

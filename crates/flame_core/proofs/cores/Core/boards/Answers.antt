@@ -8,6 +8,7 @@ use Rattle.flame_agent.specs.FunctionFits.{AreBoardsFor}
 use Rattle.flame_events.specs.CoreStates.{status_of, works_of}
 use Rattle.flame_progress.specs.RunCores.{core_of}
 use Rattle.flame_core.specs.SeenCores.{Seen}
+use Rattle.flame_core.proofs.Inside.{seen_of}
 use Rattle.flame_core.proofs.Comings.{reached_fits}
 use Rattle.flame_core.proofs.InOrders.{reached_in_order}
 use Rattle.flame_core.proofs.TakenIn.{fed_of, has_begun}
@@ -16,14 +17,7 @@ use Rattle.flame_core.proofs.cores.Core.boards.Goals as goal
 pub input_boards-requires-clause-fed : goal.input_boards-requires-clause-fed
 input_boards-requires-clause-fed c =
     let inside = c.self.inside in
-    let seen : Seen = record {
-      source = inside.program.now;
-      world = inside.world;
-      iteration = inside.iteration;
-      fuel = inside.fuel;
-      pieces = inside.pieces;
-      core = core_of inside.progress;
-    } in
+    let seen = seen_of inside.program.now inside.world inside.iteration inside.fuel inside.pieces inside.progress in
     let reached = c.self.invariant.reached in
     fed_of inside.program.now.model inside.pieces inside.progress (reached_fits seen reached) (reached_in_order seen reached) c.args.function
 
@@ -36,14 +30,7 @@ input_boards-requires-clause-began c =
 pub returns-clause-wide : goal.returns-clause-wide
 returns-clause-wide c =
     let inside = c.self.inside in
-    let seen : Seen = record {
-      source = inside.program.now;
-      world = inside.world;
-      iteration = inside.iteration;
-      fuel = inside.fuel;
-      pieces = inside.pieces;
-      core = core_of inside.progress;
-    } in
+    let seen = seen_of inside.program.now inside.world inside.iteration inside.fuel inside.pieces inside.progress in
     let fits = (reached_fits seen c.self.invariant.reached).field.boards in
     let P : Seen → Type 0 = λ s. IfOk c.input_boards.result (λ boards. (place : Place)
     → slice_get (functions s.source.model) c.args.function ≡ Some place

@@ -2,8 +2,8 @@
 use Rattle.std.proofs.Common.{sym, ap, ◌∙◌, subst}
 use Rattle.flame_events.specs.CoreEnds.{is_complete}
 use Rattle.flame_events.specs.EveryOrder.{CanGoOn}
-use Rattle.flame_progress.specs.RunCores.{core_of}
 use Rattle.flame_core.specs.SeenCores.{Seen}
+use Rattle.flame_core.proofs.Inside.{seen_of}
 use Rattle.flame_core.proofs.Comings.{goes_on}
 use Rattle.flame_core.proofs.cores.Core.complete.Goals as goal
 
@@ -13,13 +13,6 @@ returns-clause-complete c = c.wanted_are_shut.ensures ∙ ap (λ (s : Seen). is_
 pub returns-clause-goes_on : goal.returns-clause-goes_on
 returns-clause-goes_on c = λ less.
     let inside = c.self.inside in
-    let seen : Seen = record {
-      source = inside.program.now;
-      world = inside.world;
-      iteration = inside.iteration;
-      fuel = inside.fuel;
-      pieces = inside.pieces;
-      core = core_of inside.progress;
-    } in
+    let seen = seen_of inside.program.now inside.world inside.iteration inside.fuel inside.pieces inside.progress in
     subst (λ (s : Seen). CanGoOn s.source.model s.core) c.self.view_is
     (goes_on c.every_order.ensures seen c.source-source.ensures.accepted c.self.invariant.reached (sym c.wanted_are_shut.ensures ∙ less))

@@ -1,32 +1,17 @@
 -- What a core comes to, whatever the order of its events.
-use Rattle.flame_progress.specs.RunCores.{core_of}
-use Rattle.flame_core.specs.SeenCores.{Seen}
+use Rattle.flame_core.proofs.Inside.{seen_of}
 use Rattle.flame_core.proofs.Comings.{as_many, finished, reached_fits}
 use Rattle.flame_core.proofs.cores.Core.finish.Goals as goal
 
 pub ended-requires : goal.ended-requires
 ended-requires c =
     let inside = c.self.inside in
-    let seen : Seen = record {
-      source = inside.program.now;
-      world = inside.world;
-      iteration = inside.iteration;
-      fuel = inside.fuel;
-      pieces = inside.pieces;
-      core = core_of inside.progress;
-    } in
+    let seen = seen_of inside.program.now inside.world inside.iteration inside.fuel inside.pieces inside.progress in
     as_many inside.program.now.model inside.progress (reached_fits seen c.self.invariant.reached)
 
 pub returns : goal.returns
 returns c =
     let inside = c.self.inside in
-    let seen : Seen = record {
-      source = inside.program.now;
-      world = inside.world;
-      iteration = inside.iteration;
-      fuel = inside.fuel;
-      pieces = inside.pieces;
-      core = core_of inside.progress;
-    } in
+    let seen = seen_of inside.program.now inside.world inside.iteration inside.fuel inside.pieces inside.progress in
     finished c.every_order.ensures seen _ c.self.view_is c.source-source.ensures.accepted c.self.invariant.reached c.requires c.ended.result
     c.ended.ensures

@@ -5,8 +5,8 @@ use Rattle.flame_events.specs.CoreFits.{FitsCore, FitsWork}
 use Rattle.flame_events.specs.CoreStates.{status_of, work_of, works_of}
 use Rattle.flame_events.proofs.Works.{each_at}
 use Rattle.flame_pieces.specs.RunWorks.{work_of as kept_work}
-use Rattle.flame_progress.specs.RunCores.{core_of}
 use Rattle.flame_core.specs.SeenCores.{Seen}
+use Rattle.flame_core.proofs.Inside.{seen_of}
 use Rattle.flame_core.proofs.Comings.{reached_fits}
 use Rattle.flame_core.proofs.Gets.{has-at}
 use Rattle.flame_core.proofs.cores.Core.piece.Goals as goal
@@ -23,14 +23,7 @@ returns-clause-is c = record {
 pub returns-clause-wide : goal.returns-clause-wide
 returns-clause-wide c = λ place at.
     let inside = c.self.inside in
-    let seen : Seen = record {
-      source = inside.program.now;
-      world = inside.world;
-      iteration = inside.iteration;
-      fuel = inside.fuel;
-      pieces = inside.pieces;
-      core = core_of inside.progress;
-    } in
+    let seen = seen_of inside.program.now inside.world inside.iteration inside.fuel inside.pieces inside.progress in
     let fits = subst (λ (s : Seen). FitsCore s.source.model s.core) c.self.view_is (reached_fits seen c.self.invariant.reached) in
     let there = ap (λ (s : Seen). work_of s.core c.args.function c.args.piece) (sym c.self.view_is) ∙ sym c.in-Some.ensures.work in
     let work = each_at (FitsWork c.args.self.now.source.model c.args.function place.type) (works_of (status_of c.args.self.now.core c.args.function))

@@ -7,9 +7,9 @@ use Rattle.flame_progress.specs.RunCores.{core_of}
 use Rattle.flame_core.specs.CoreCalls.{allows, Refused}
 use Rattle.flame_core.specs.SeenCores.{Seen, round_in, when_came}
 use Rattle.flame_progress.specs.Tallying.{Came}
-use Rattle.flame_core.proofs.Comings.{one_leads, reached_fits, seen_so, seen_when, stands_on, stands_still}
+use Rattle.flame_core.proofs.Inside.{seen_of, ready_in}
+use Rattle.flame_core.proofs.Comings.{one_leads, seen_so, seen_when, stands_on, stands_still}
 use Rattle.flame_core.proofs.Done.{no_memory_is}
-use Rattle.flame_core.proofs.InOrders.{reached_in_order}
 use Rattle.flame_core.proofs.cores.Core.step.Goals as goal
 
 pub returns-then-not-allows : goal.returns-then-not-allows
@@ -18,22 +18,7 @@ returns-then-not-allows c = record { ok = tt; err = (sym c.if-not-allows.ensures
 pub happen-requires-clause-ready : goal.happen-requires-clause-ready
 happen-requires-clause-ready c =
     let inside = c.self.inside in
-    let seen : Seen = record {
-      source = inside.program.now;
-      world = inside.world;
-      iteration = inside.iteration;
-      fuel = inside.fuel;
-      pieces = inside.pieces;
-      core = core_of inside.progress;
-    } in
-    let reached = c.self.invariant.reached in
-    record {
-      known = reached.fits.constants;
-      some = reached.some;
-      fits = reached_fits seen reached;
-      in_order = reached_in_order seen reached;
-      tallies = c.self.invariant.tallies;
-    }
+    ready_in _ inside.world inside.iteration inside.fuel inside.pieces inside.progress inside.counts c.self.invariant refl
 
 pub happen-requires-clause-legal : goal.happen-requires-clause-legal
 happen-requires-clause-legal c = ap (λ (s : Seen). allows s c.args.event) c.self.view_is ∙ sym c.if-not-allows.ensures
@@ -41,14 +26,7 @@ happen-requires-clause-legal c = ap (λ (s : Seen). allows s c.args.event) c.sel
 pub invariant_of-self : goal.invariant_of-self
 invariant_of-self c =
     let inside = c.self.inside in
-    let seen : Seen = record {
-      source = inside.program.now;
-      world = inside.world;
-      iteration = inside.iteration;
-      fuel = inside.fuel;
-      pieces = inside.pieces;
-      core = core_of inside.progress;
-    } in
+    let seen = seen_of inside.program.now inside.world inside.iteration inside.fuel inside.pieces inside.progress in
     let kept : Came inside.program.now.model (core_of inside.progress) c.happen.new.progress c.happen.new.counts =
     c.in_err-happen.ensures.err in
     stands_still seen inside.progress c.happen.new.progress inside.counts c.happen.new.counts c.self.invariant kept
@@ -56,14 +34,7 @@ invariant_of-self c =
 pub invariant_of-self-2 : goal.invariant_of-self-2
 invariant_of-self-2 c =
     let inside = c.self.inside in
-    let seen : Seen = record {
-      source = inside.program.now;
-      world = inside.world;
-      iteration = inside.iteration;
-      fuel = inside.fuel;
-      pieces = inside.pieces;
-      core = core_of inside.progress;
-    } in
+    let seen = seen_of inside.program.now inside.world inside.iteration inside.fuel inside.pieces inside.progress in
     let legal = ap (λ (s : Seen). allows s c.args.event) c.self.view_is ∙ sym c.if-not-allows.ensures in
     let next = after (round_in seen) inside.pieces (core_of inside.progress) c.args.event in
     let fits : SFits w32 inside.iteration = search rules in
@@ -78,14 +49,7 @@ invariant_of-self-2 c =
 pub returns-in_err-happen-clause-err : goal.returns-in_err-happen-clause-err
 returns-in_err-happen-clause-err c =
     let inside = c.self.inside in
-    let seen : Seen = record {
-      source = inside.program.now;
-      world = inside.world;
-      iteration = inside.iteration;
-      fuel = inside.fuel;
-      pieces = inside.pieces;
-      core = core_of inside.progress;
-    } in
+    let seen = seen_of inside.program.now inside.world inside.iteration inside.fuel inside.pieces inside.progress in
     let kept : Came inside.program.now.model (core_of inside.progress) c.happen.new.progress c.happen.new.counts =
     c.in_err-happen.ensures.err in
     no_memory_is c.from_residual.result
@@ -98,14 +62,7 @@ returns-in_err-happen-clause-err c =
 pub returns-clause-ok : goal.returns-clause-ok
 returns-clause-ok c =
     let inside = c.self.inside in
-    let seen : Seen = record {
-      source = inside.program.now;
-      world = inside.world;
-      iteration = inside.iteration;
-      fuel = inside.fuel;
-      pieces = inside.pieces;
-      core = core_of inside.progress;
-    } in
+    let seen = seen_of inside.program.now inside.world inside.iteration inside.fuel inside.pieces inside.progress in
     let next = after (round_in seen) inside.pieces (core_of inside.progress) c.args.event in
     let fits : SFits w32 inside.iteration = search rules in
     let P : ℤ → Type 0 = λ j. Came inside.program.now.model
