@@ -10,7 +10,7 @@ use Rattle.flame_code.specs.Feeds.{Fed, not_begun}
 use Rattle.flame_code.specs.InputRows.{HaveWidths, rows_of}
 use Rattle.flame_code.specs.Meanings.{FitsEntry}
 use Rattle.flame_code.specs.Routines.{Routine}
-use Rattle.flame_sense.specs.Outcomes.{place_of, outcome_over}
+use Rattle.flame_meaning.specs.Outcomes.{place_of, outcome_over}
 use Rattle.flame_world.specs.declared.settings.Setting.{Setting}
 use Rattle.flame_world.specs.Meaning.{readings_from, outcome_under}
 use Rattle.flame_world.specs.Settings.{boards_of}

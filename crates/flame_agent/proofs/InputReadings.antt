@@ -11,7 +11,7 @@ use Rattle.flame_spec.specs.Functions.{Place}
 use Rattle.flame_cond.specs.declared.forms.Test.{Test}
 use Rattle.flame_cond.specs.declared.keys.SortBy.{SortBy}
 use Rattle.flame_code.specs.Feeds.{Fed, not_begun}
-use Rattle.flame_sense.specs.Outcomes.{place_of, message_named}
+use Rattle.flame_meaning.specs.Outcomes.{place_of, message_named}
 use Rattle.flame_view.specs.Compiled.{view_by, ViewIsAsWritten}
 use Rattle.flame_program.specs.AcceptanceLaws.{IsRunnable}
 use Rattle.flame_program.specs.SourceInputs.{Reads, FiltersInput, SortsInput}

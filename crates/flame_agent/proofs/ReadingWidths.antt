@@ -13,8 +13,8 @@ use Rattle.flame_spec.specs.Views.{is_read, key_of, view_order}
 use Rattle.flame_body.specs.FunctionBodies.{input_width}
 use Rattle.flame_code.specs.Feeds.{not_begun}
 use Rattle.flame_code.specs.InputRows.{HaveWidths, rows_of}
-use Rattle.flame_sense.specs.Outcomes.{message_named}
-use Rattle.flame_sense.specs.RangeLaws.{Each}
+use Rattle.flame_meaning.specs.Outcomes.{message_named}
+use Rattle.flame_meaning.specs.RangeLaws.{Each}
 use Rattle.flame_program.proofs.Zips.{zip-at, zip-back}
 use Rattle.flame_world.specs.Meaning.{view_from, readings_from}
 use Rattle.flame_world.proofs.Eachs.{each_filter, each_sorted}

@@ -3,7 +3,7 @@ use Rattle.std.specs.Prelude.{◌≡◌, ℕ, ℤ, List, Some, slice_get}
 use Rattle.flame_spec.specs.declared.models.Input.{Input}
 use Rattle.flame_spec.specs.declared.outcomes.Source.{Source}
 use Rattle.flame_spec.specs.Functions.{Place}
-use Rattle.flame_sense.specs.Outcomes.{place_of, message_named}
+use Rattle.flame_meaning.specs.Outcomes.{place_of, message_named}
 use Rattle.flame_world.specs.Meaning.{view_from}
 
 -- where the function of this number has an input of this number, the view is what an agent with this memory reads by it

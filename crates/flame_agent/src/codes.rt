@@ -4,7 +4,7 @@ ghost use Rattle.std.specs.Prelude.{◌≡◌, Some, slice_get, true};
 ghost use Rattle.flame_body.specs.FunctionBodies.{widths_in};
 ghost use Rattle.flame_code.specs.HelperCodes.{fits};
 ghost use Rattle.flame_program.specs.SourceCodes.{function_codes, helper_codes};
-ghost use Rattle.flame_sense.specs.Outcomes.{place_of};
+ghost use Rattle.flame_meaning.specs.Outcomes.{place_of};
 ghost use Rattle.flame_agent.specs.FunctionFits.{FitsFunction};
 
 use flame_code::Code;

@@ -2,7 +2,7 @@
 
 ghost use Rattle.std.specs.Prelude.{◌≡◌, IfOk, map};
 ghost use Rattle.flame_code.specs.Feeds.{not_begun};
-ghost use Rattle.flame_sense.specs.Outcomes.{place_of};
+ghost use Rattle.flame_meaning.specs.Outcomes.{place_of};
 ghost use Rattle.flame_world.specs.Meaning.{readings_from};
 ghost use Rattle.flame_world.specs.Settings.{boards_of};
 ghost use Rattle.flame_agent.specs.FunctionFits.{FitsFunction};

@@ -10,7 +10,7 @@ mod grids;
 mod steps;
 mod texts;
 
-use flame_case::Case;
+use flame_case_files::Case;
 use flame_case_programs::{Sourced, program_of, source_in};
 use flame_program::Program;
 use grids::Grid;

@@ -4,7 +4,7 @@ ghost use Rattle.std.specs.Prelude.{◌≤◌};
 ghost use Rattle.flame_world.specs.WorldFits.{FitsModel};
 
 use crate::grids::Grid;
-use flame_case::Case;
+use flame_case_files::Case;
 use flame_case_runs::{fits, world_in};
 use flame_core::{Core, StepFault};
 use flame_events::Event;

@@ -1,7 +1,7 @@
 //! The cases that models are read from.
 
 use crate::grids::Grid;
-use flame_case::{Case, Section};
+use flame_case_files::{Case, Section};
 use std::alloc::{AllocError, Global};
 
 /// Adds a comma before each but the first.

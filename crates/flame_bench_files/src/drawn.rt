@@ -3,7 +3,7 @@
 ghost use Rattle.std.specs.Prelude.{IsTrue};
 ghost use Rattle.flame_spec.specs.WellFormed.{is_well_formed};
 
-use flame_case::{Case, read_cases};
+use flame_case_files::{Case, read_cases};
 use flame_case_programs::{Sourced, program_of, source_in};
 use flame_program::Program;
 use flame_rows::{Bag, NoMemory, Row, Seq};

@@ -5,8 +5,6 @@ mod bodies;
 pub mod laws;
 mod same_slots;
 mod slots;
-#[cfg(test)]
-mod tests;
 
 pub use bodies::Body;
 pub use slots::{

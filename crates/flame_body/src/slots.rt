@@ -2,7 +2,7 @@
 //! and of their lines those that a fault of a run may have: of operators, signs, brackets, loops and calls of helpers.
 
 use flame_ops::Op;
-use flame_rows::{Part, Seq};
+use flame_rows::{Boxed, Seq};
 use flame_spec::Sign;
 
 /// Where a variable stands in a row.
@@ -54,9 +54,9 @@ pub enum SlotExpr {
     /// An element of an array of a message: the number of the function's input, and where the array stands.
     FieldAt(u32, Cells, SlotSubscript),
     /// Signs, at least one, before what they stand for.
-    Unary(Seq<Sign>, Part<SlotExpr>),
+    Unary(Seq<Sign>, Boxed<SlotExpr>),
     /// Binary operators of one level, from left to right, at least one.
-    Chain(Part<SlotExpr>, Seq<SlotLink>),
+    Chain(Boxed<SlotExpr>, Seq<SlotLink>),
     /// At least two parts with `&&` between them.
     All(Seq<SlotExpr>),
     /// At least two parts with `||` between them.
@@ -70,7 +70,7 @@ pub struct SlotSubscript {
     /// The line of the `[`.
     pub line: u32,
     /// The element's number, from 0.
-    pub index: Part<SlotExpr>,
+    pub index: Boxed<SlotExpr>,
 }
 
 /// A binary operator and the operand after it.
@@ -159,7 +159,7 @@ pub enum SlotStmt {
     /// `while (test) body`
     While(u32, SlotExpr, Seq<SlotStmt>),
     /// `for (first; test; step) body`
-    For(u32, Part<SlotHead>, Seq<SlotStmt>),
+    For(u32, Boxed<SlotHead>, Seq<SlotStmt>),
     /// `do body while (test);`
     Do(u32, Seq<SlotStmt>, SlotExpr),
     /// A message loop: the line of its START, the number of the function's input, and its body.

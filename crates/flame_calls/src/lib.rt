@@ -5,7 +5,5 @@ mod checking;
 mod faults;
 mod judging;
 mod marking;
-#[cfg(test)]
-mod tests;
 
 pub use checking::call_faults;

@@ -1,7 +1,7 @@
 //! Cases of `check`: the section `model` is a model in JSON, each section `text` a function file, in the order of the
 //! model. The answer is `fine`, or the first fault of the function files, as `UnknownName b in file 0 line 1`.
 
-use flame_case::Case;
+use flame_case_files::Case;
 use flame_case_models::{Found, model_in};
 use flame_case_texts::units_in;
 use flame_check::check;

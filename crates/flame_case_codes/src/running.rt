@@ -5,7 +5,7 @@
 
 use crate::listing::code_in;
 use crate::printing::print_outcome;
-use flame_case::{Case, numbers_in};
+use flame_case_files::{Case, numbers_in};
 use flame_code::{Code, Helpers};
 use flame_machine::{Lists, fits_entry, helpers_of, run};
 use flame_rows::{Row, Seq};

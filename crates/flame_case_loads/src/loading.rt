@@ -5,7 +5,7 @@
 
 use crate::lines::text_of;
 use crate::starting::started;
-use flame_case::Case;
+use flame_case_files::Case;
 use flame_load::{LoadFail, LoadFault, load};
 use flame_outside::MemDepot;
 use flame_program::Program;

@@ -6,7 +6,7 @@ ghost use Rattle.std.specs.Prelude.{IfOk, IsTrue};
 ghost use Rattle.flame_spec.specs.WellFormed.{is_well_formed};
 ghost use Rattle.flame_case_models.specs.FoundModels.{IsFormed};
 
-use flame_case::Case;
+use flame_case_files::Case;
 use flame_rows::{Fail, Text};
 use flame_spec::{
     AgentType, Condition, Function, Input, Model, Operand, TimeUnit, Variable, Wide, WideAgent,

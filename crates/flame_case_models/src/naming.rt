@@ -2,7 +2,7 @@
 //! `Duplicate x at /xmodel/environment/constants/1/name`.
 
 use crate::modeling::{Found, model_in};
-use flame_case::Case;
+use flame_case_files::Case;
 use flame_names::names;
 use flame_rows::Fail;
 use std::alloc::{AllocError, Global};

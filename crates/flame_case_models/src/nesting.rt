@@ -3,7 +3,7 @@
 //! is no model file by itself, it is the fault of its shape.
 
 use crate::modeling::{FoundWide, print_model, wide_from};
-use flame_case::Case;
+use flame_case_files::Case;
 use flame_nest::{NestFault, flatten};
 use flame_rows::{Fail, Seq, Text};
 use flame_spec::Wide;

@@ -3,7 +3,7 @@
 //! `starts 0 [a b]`. Functions and agent types are numbered from 0.
 
 use crate::modeling::{Found, model_in};
-use flame_case::Case;
+use flame_case_files::Case;
 use flame_depend::{DependFault, Edge, edges, plan};
 use flame_rows::Fail;
 use flame_spec::Model;

@@ -9,7 +9,7 @@ ghost use Rattle.std.specs.Prelude.{IsTrue};
 ghost use Rattle.flame_spec.specs.WellFormed.{is_well_formed};
 
 use crate::boards::boards_in;
-use flame_case::Case;
+use flame_case_files::Case;
 use flame_case_programs::{Sourced, program_of, source_in};
 use flame_popfile::{Format, PopFault, Start, line, population, text};
 use flame_program::Program;

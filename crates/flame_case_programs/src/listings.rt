@@ -7,7 +7,7 @@ ghost use Rattle.flame_spec.specs.WellFormed.{is_well_formed};
 
 use crate::accepting::program_of;
 use crate::sources::{Sourced, source_in};
-use flame_case::Case;
+use flame_case_files::Case;
 use flame_depend::edges;
 use flame_program::Program;
 use flame_report::{code_text, graph_text};

@@ -9,7 +9,7 @@ ghost use Rattle.flame_spec.specs.WellFormed.{is_well_formed};
 use crate::accepting::program_of;
 use crate::coding::by_code;
 use crate::sources::{Sourced, source_in};
-use flame_case::{Case, boards_in};
+use flame_case_files::{Case, boards_in};
 use flame_case_codes::{Scene, print_outcome, scene_in};
 use flame_program::Program;
 use flame_rows::{Bag, NoMemory, Seq};

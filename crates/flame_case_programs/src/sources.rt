@@ -4,7 +4,7 @@
 ghost use Rattle.std.specs.Prelude.{IfOk};
 ghost use Rattle.flame_case_programs.specs.CaseSources.{IsFormed};
 
-use flame_case::Case;
+use flame_case_files::Case;
 use flame_case_models::{Found, model_in};
 use flame_case_texts::units_in;
 use flame_spec::Source;

@@ -6,12 +6,11 @@ use Rattle.flame_spec.specs.declared.models.Input.{Input}
 use Rattle.flame_spec.specs.declared.models.MessageType.{MessageType}
 use Rattle.flame_spec.specs.declared.models.Model.{Model}
 use Rattle.flame_spec.specs.Functions.{Place, functions}
-use Rattle.flame_sense.specs.Outcomes.{message_named}
+use Rattle.flame_meaning.specs.Outcomes.{message_named, outputs_at}
 use Rattle.flame_route.specs.declared.routes.Route.{Route}
 use Rattle.flame_route.specs.declared.routes.Routes.{Routes}
 use Rattle.flame_route.specs.ModelRoutes.{AreRoutesOf, IsRouteOf}
 use Rattle.flame_world.specs.InputBoards.{board_of, boards_named}
-use Rattle.flame_world.specs.Meaning.{outputs_at}
 
 -- ---- two lists, place by place
 

@@ -1,7 +1,7 @@
 //! What the words behind a line of events change: `fuel 7`, `iteration 4`, `constants [3]`, `pieces 3`, `agents [5] [6]`, those
 //! of a piece, `agent 0 [5] [6]`, those of a type, and `board 0 [5] [6]`, the messages that an input reads.
 
-use flame_case::numbers_in;
+use flame_case_files::numbers_in;
 use flame_rows::{Bag, NoMemory, Row};
 use std::alloc::Global;
 

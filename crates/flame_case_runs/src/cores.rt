@@ -25,7 +25,7 @@ use crate::events::event_in;
 use crate::fitting::fits;
 use crate::terms::{Terms, terms_in, world_copied};
 use crate::worlds::{print_turn, world_in};
-use flame_case::Case;
+use flame_case_files::Case;
 use flame_case_programs::{Sourced, program_of, source_in};
 use flame_core::{Core, StepFault};
 use flame_events::Event;

@@ -9,7 +9,7 @@ ghost use Rattle.flame_world.specs.WorldFits.{FitsModel};
 use crate::fitting::fits;
 use crate::terms::terms_in;
 use crate::worlds::{print_turn, world_in};
-use flame_case::Case;
+use flame_case_files::Case;
 use flame_case_programs::{Sourced, program_of, source_in};
 use flame_core::{PlainRunner, Runner};
 use flame_program::Program;

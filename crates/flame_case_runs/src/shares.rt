@@ -6,10 +6,10 @@ ghost use Rattle.std.specs.List.{cons_option, filter_map};
 ghost use Rattle.flame_rows.specs.Bags.{ascending};
 ghost use Rattle.flame_spec.specs.declared.outcomes.Outcome.TheVariants.{Faulted};
 ghost use Rattle.flame_spec.specs.Lists.{first};
-ghost use Rattle.flame_sense.specs.Outcomes.{place_of};
+ghost use Rattle.flame_meaning.specs.Outcomes.{place_of, outputs_at};
 ghost use Rattle.flame_world.specs.AgentRuns.{born_by, born_from, fault_by, kept, messages_of, sent_by, sent_from};
 ghost use Rattle.flame_world.specs.InputBoards.{boards_named};
-ghost use Rattle.flame_world.specs.Meaning.{outcome_under, outputs_at, part_for};
+ghost use Rattle.flame_world.specs.Meaning.{outcome_under, part_for};
 ghost use Rattle.flame_world.specs.Settings.{boards_of};
 ghost use Rattle.flame_world.specs.Shares.{piece_of, setting_of};
 

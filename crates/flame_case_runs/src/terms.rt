@@ -2,7 +2,7 @@
 
 ghost use Rattle.std.specs.Prelude.{◌≡◌, IfOk};
 
-use flame_case::Case;
+use flame_case_files::Case;
 use flame_rows::{Bag, NoMemory, Seq};
 use flame_world::World;
 use std::alloc::Global;

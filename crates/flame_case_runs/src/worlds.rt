@@ -1,6 +1,6 @@
 //! Worlds, from cases and as texts.
 
-use flame_case::{Case, numbers_in};
+use flame_case_files::{Case, numbers_in};
 use flame_rows::{Bag, NoMemory, Row, Seq};
 use flame_spec::Model;
 use flame_world::{Boards, SimFault, Turn, World};

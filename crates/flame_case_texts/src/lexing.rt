@@ -1,7 +1,7 @@
 //! Cases of `lex`: the section `text`; a token a line, as `Word x at 0 line 1`, or the fault, as `BadByte at byte 0`.
 
 use crate::sources::LONGEST;
-use flame_case::Case;
+use flame_case_files::Case;
 use flame_lex::{Kind, Token, lex};
 use flame_rows::Fail;
 use std::alloc::{AllocError, Global};

@@ -1,7 +1,7 @@
 //! Cases of `order`: the section `words` has a word a line; the order, a part of it a line, or the fault of usage, as
 //! `BadNumber at word 5` or `Missing POP`.
 
-use flame_case::Case;
+use flame_case_files::Case;
 use flame_rows::Fail;
 use flame_words::{How, Order, Usage, Way, order};
 use std::alloc::{AllocError, Global};

@@ -5,7 +5,7 @@
 
 use crate::sources::LONGEST;
 use crate::trees::{print_definitions, print_expression, print_names};
-use flame_case::Case;
+use flame_case_files::Case;
 use flame_expr::{ParseFault, is_counted, nests, parse_expr};
 use flame_lex::{Token, lex};
 use flame_parse::parse;

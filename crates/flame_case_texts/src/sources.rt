@@ -1,6 +1,6 @@
 //! The function files of cases.
 
-use flame_case::Case;
+use flame_case_files::Case;
 use flame_expr::is_counted;
 use flame_lex::lex;
 use flame_parse::parse;

@@ -8,7 +8,7 @@ ghost use Rattle.std.specs.Prelude.{◌≡◌, ◌<◌, ◌^◌, length, All, Is
 use crate::deciding::row_in;
 use crate::readable::is_readable;
 use crate::viewing::print_row;
-use flame_case::Case;
+use flame_case_files::Case;
 use flame_case_models::{Found, model_in};
 use flame_cond::Cond;
 use flame_pool::{choose, choose_here, take, turn_over};

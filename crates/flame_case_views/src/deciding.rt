@@ -4,7 +4,7 @@
 //! the column and the direction of its key, as `sort 0 1 2 descend`.
 
 use crate::readable::{is_narrow, is_readable, is_readable_filter};
-use flame_case::Case;
+use flame_case_files::Case;
 use flame_case_models::{Found, model_in};
 use flame_cond::{Cond, Filter, SortBy};
 use flame_rows::Row;

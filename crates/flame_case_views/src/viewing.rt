@@ -4,7 +4,7 @@
 
 use crate::deciding::{message_of, row_in};
 use crate::readable::{is_narrow, is_readable_filter};
-use flame_case::Case;
+use flame_case_files::Case;
 use flame_case_models::{Found, model_in};
 use flame_cond::{Filter, SortBy};
 use flame_index::Frozen;

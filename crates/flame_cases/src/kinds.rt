@@ -1,7 +1,7 @@
 //! The calls that cases are of.
 
 use crate::running;
-use flame_case::Case;
+use flame_case_files::Case;
 use flame_case_checks::answer_check;
 use flame_case_codes::answer_machine;
 use flame_case_loads::answer_load;

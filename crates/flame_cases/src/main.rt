@@ -8,7 +8,7 @@ mod kinds;
 mod running;
 mod watched;
 
-use flame_case::{Case, read_cases};
+use flame_case_files::{Case, read_cases};
 use kinds::{Kind, answer, kind_of};
 use std::alloc::Global;
 use std::process::ExitCode;

@@ -4,7 +4,7 @@
 //! what was printed, and each file that a call put as it stands at last.
 
 use crate::watched::Watched;
-use flame_case::Case;
+use flame_case_files::Case;
 use flame_outside::{MemDepot, MemSink, OpenGate};
 use flame_top::flame;
 use std::alloc::{AllocError, Global};

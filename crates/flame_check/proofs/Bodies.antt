@@ -14,7 +14,7 @@ use Rattle.flame_lookup.specs.Sources.{Standing, context_at}
 use Rattle.flame_body.specs.declared.slots.SlotStmt.{SlotStmt}
 use Rattle.flame_body.specs.FunctionBodies.{NumberedBody, function_body, widths_in, words_of}
 use Rattle.flame_body.specs.NumberedTrees.{numbered_statements}
-use Rattle.flame_walk.specs.WordPlaces.{words_at}
+use Rattle.flame_numbering.specs.WordPlaces.{words_at}
 use Rattle.flame_check.proofs.Clean.{Runs, bare, clean_run}
 
 -- where its words stand

@@ -12,7 +12,7 @@ ghost use Rattle.flame_lookup.specs.WordsFound.{definition_found, place_found};
 ghost use Rattle.flame_body.specs.FunctionBodies.{widths_in, function_body, function_bodies};
 ghost use Rattle.flame_body.specs.FunctionBodies.{helper_body, helper_bodies};
 ghost use Rattle.flame_body.specs.NumberedTrees.{numbered_statements};
-ghost use Rattle.flame_walk.specs.WordPlaces.{words_at};
+ghost use Rattle.flame_numbering.specs.WordPlaces.{words_at};
 
 use crate::rows::Rows;
 use flame_body::Body;
@@ -20,7 +20,7 @@ use flame_body::laws::definitions_fit;
 use flame_lookup::{CFunction, Tables, Transition, Words, number};
 use flame_rows::{Fail, Seq};
 use flame_spec::{CheckFault, Function, Widths};
-use flame_walk::definition;
+use flame_numbering::definition;
 use std::alloc::Global;
 
 /// The body of the C function with numbers in place of names, under this number; or its first fault.

@@ -11,7 +11,7 @@ ghost use Rattle.flame_lookup.specs.WordsFound.{definition_found};
 use flame_lookup::{CFunction, Tables};
 use flame_rows::Fail;
 use flame_spec::CheckFault;
-use flame_walk::definition;
+use flame_numbering::definition;
 use std::alloc::Global;
 
 /// The body of the C function has no fault for any function of the model that it is one for.

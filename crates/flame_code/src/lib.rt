@@ -7,8 +7,6 @@ mod helpers;
 mod instrs;
 mod labels;
 pub mod laws;
-#[cfg(test)]
-mod tests;
 
 pub use codes::Code;
 pub use feeds::Feed;

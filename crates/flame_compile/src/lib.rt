@@ -10,7 +10,5 @@ mod places;
 mod size;
 mod statement;
 mod stored;
-#[cfg(test)]
-mod tests;
 
 pub use compiler::compile;

@@ -8,7 +8,7 @@ ghost use Rattle.flame_cond.specs.Tests.{moment, term_value, answer};
 use crate::numbers::number_at;
 use crate::periods::Period;
 use flame_ops::Op;
-use flame_rows::Part;
+use flame_rows::Boxed;
 
 /// What a test compares.
 #[derive(Clone, Copy, Debug)]
@@ -27,11 +27,11 @@ pub enum Test {
     /// A comparison.
     Compare(Op, Term, Term),
     /// Both hold.
-    And(Part<Test>, Part<Test>),
+    And(Boxed<Test>, Boxed<Test>),
     /// One of the two holds, or both.
-    Or(Part<Test>, Part<Test>),
+    Or(Boxed<Test>, Boxed<Test>),
     /// The other does not hold.
-    Not(Part<Test>),
+    Not(Boxed<Test>),
     /// A time condition: the length of its unit, the phase, and the duration.
     Time(Period, Term, i32),
 }

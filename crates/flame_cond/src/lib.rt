@@ -9,8 +9,6 @@ mod names;
 mod numbers;
 mod periods;
 mod reading;
-#[cfg(test)]
-mod tests;
 
 pub use conditions::Cond;
 pub use filters::Filter;

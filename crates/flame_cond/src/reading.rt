@@ -7,7 +7,7 @@ ghost use Rattle.flame_cond.specs.Tests.{names, SaysOperand, SaysTruth};
 
 use crate::forms::{Term, Test};
 use crate::names::{column, period};
-use flame_rows::{NoMemory, Part};
+use flame_rows::{NoMemory, Boxed};
 use flame_spec::{Condition, Operand, TimeUnit, Variable};
 use std::alloc::Global;
 
@@ -44,16 +44,16 @@ pub fn test(
         Condition::And(a, b) => {
             let left = test(alloc, a, memory, message, units)?;
             let right = test(alloc, b, memory, message, units)?;
-            Ok(Test::And(Part::of(alloc, left)?, Part::of(alloc, right)?))
+            Ok(Test::And(Boxed::of(alloc, left)?, Boxed::of(alloc, right)?))
         }
         Condition::Or(a, b) => {
             let left = test(alloc, a, memory, message, units)?;
             let right = test(alloc, b, memory, message, units)?;
-            Ok(Test::Or(Part::of(alloc, left)?, Part::of(alloc, right)?))
+            Ok(Test::Or(Boxed::of(alloc, left)?, Boxed::of(alloc, right)?))
         }
         Condition::Not(a) => {
             let inner = test(alloc, a, memory, message, units)?;
-            Ok(Test::Not(Part::of(alloc, inner)?))
+            Ok(Test::Not(Boxed::of(alloc, inner)?))
         }
         Condition::Time(unit, phase, duration) => Ok(Test::Time(
             period(units, unit),

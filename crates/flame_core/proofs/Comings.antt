@@ -14,9 +14,10 @@ use Rattle.flame_spec.specs.Choice.{takers}
 use Rattle.flame_spec.specs.Functions.{Place, functions}
 use Rattle.flame_world.specs.declared.turns.Turn.{Turn}
 use Rattle.flame_world.specs.AgentRuns.{born_by, births_of, kept}
-use Rattle.flame_world.specs.Fields.{changed_pool, joined, pool_in, state_place}
+use Rattle.flame_spec.specs.States.{state_place}
+use Rattle.flame_world.specs.Fields.{changed_pool, joined, pool_in}
 use Rattle.flame_world.specs.Iterations.{Round, iteration, outcome_in, staying}
-use Rattle.flame_world.specs.Meaning.{outputs_at}
+use Rattle.flame_meaning.specs.Outcomes.{outputs_at}
 use Rattle.flame_events.specs.declared.events.Event.{Event}
 use Rattle.flame_events.specs.declared.events.Event.TheVariants as event
 use Rattle.flame_events.specs.Cuts.{cut}

@@ -5,7 +5,7 @@ use Rattle.std.specs.List.{All, list_all}
 use Rattle.std.proofs.lemmas.Bool.{and_parts, false≢true, ltb-true}
 use Rattle.flame_spec.specs.declared.outcomes.Outcome.{Outcome}
 use Rattle.flame_spec.specs.declared.outcomes.Source.{Source}
-use Rattle.flame_sense.specs.Outcomes.{outcome, place_of}
+use Rattle.flame_meaning.specs.Outcomes.{outcome, place_of}
 use Rattle.flame_world.specs.declared.settings.Setting.{Setting}
 use Rattle.flame_world.specs.InputBoards.{boards_named}
 use Rattle.flame_world.specs.Meaning.{outcome_under}

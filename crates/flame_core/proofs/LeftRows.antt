@@ -8,10 +8,10 @@ use Rattle.flame_spec.specs.declared.outcomes.Outcome.{Outcome}
 use Rattle.flame_spec.specs.declared.outcomes.Outcome.TheVariants.{Ended, Faulted}
 use Rattle.flame_spec.specs.declared.outcomes.Sent.{Sent}
 use Rattle.flame_spec.specs.declared.outcomes.Source.{Source}
-use Rattle.flame_sense.specs.OutcomeLaws.{HasWidths}
-use Rattle.flame_sense.specs.Outcomes.{outcome, readings_of}
-use Rattle.flame_sense.specs.RangeLaws.{Each}
-use Rattle.flame_sense.proofs.Leavings.{rows_have_widths}
+use Rattle.flame_meaning.specs.OutcomeLaws.{HasWidths}
+use Rattle.flame_meaning.specs.Outcomes.{outcome, readings_of}
+use Rattle.flame_meaning.specs.RangeLaws.{Each}
+use Rattle.flame_meaning.proofs.Leavings.{rows_have_widths}
 use Rattle.flame_world.specs.AgentRuns.{born_by, born_from, sent_by, sent_from}
 use Rattle.flame_world.proofs.Eachs.{all_each, each_flat_map}
 

@@ -8,7 +8,7 @@ use Rattle.flame_spec.specs.declared.models.Input.{Input}
 use Rattle.flame_spec.specs.declared.models.MessageType.{MessageType}
 use Rattle.flame_spec.specs.declared.models.Model.{Model}
 use Rattle.flame_spec.specs.Columns.{width}
-use Rattle.flame_sense.specs.Outcomes.{message_named}
+use Rattle.flame_meaning.specs.Outcomes.{message_named}
 use Rattle.flame_body.proofs.Columned.{numbered-at}
 use Rattle.flame_world.specs.InputBoards.{board_of}
 use Rattle.flame_world.specs.WorldFits.{AreWide, FitMessages}

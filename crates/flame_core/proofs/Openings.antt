@@ -12,7 +12,7 @@ use Rattle.flame_spec.specs.Functions.{Place, functions}
 use Rattle.flame_spec.proofs.FirstBelow.{is_in-all_below}
 use Rattle.flame_depend.specs.declared.pairs.Edge.{Edge}
 use Rattle.flame_depend.specs.Edges.{edge, edges_below, edges_of, edges_to}
-use Rattle.flame_world.specs.Meaning.{outputs_at}
+use Rattle.flame_meaning.specs.Outcomes.{outputs_at}
 use Rattle.flame_events.specs.CoreStates.{Waiting}
 use Rattle.flame_events.specs.LegalEvents.{inputs_at, inputs_of, outputs_of}
 use Rattle.flame_events.proofs.Spots.{get_below, get_there, output_named}

@@ -11,10 +11,9 @@ use Rattle.flame_spec.specs.declared.outcomes.Source.{Source}
 use Rattle.flame_spec.specs.Accepted.{IsAccepted}
 use Rattle.flame_spec.specs.Below.{times, HasNoTwice}
 use Rattle.flame_spec.specs.Functions.{Place, functions}
-use Rattle.flame_sense.specs.Outcomes.{message_named}
-use Rattle.flame_laws.specs.DistinctNames.{AreDistinct}
-use Rattle.flame_laws.proofs.Members.{outputs_distinct}
-use Rattle.flame_world.specs.Meaning.{outputs_at}
+use Rattle.flame_meaning.specs.Outcomes.{message_named, outputs_at}
+use Rattle.flame_spec_laws.specs.DistinctNames.{AreDistinct}
+use Rattle.flame_spec_laws.proofs.Members.{outputs_distinct}
 use Rattle.flame_world.proofs.NextStates.{function_at}
 use Rattle.flame_world.proofs.RowsKept.{place_type}
 use Rattle.flame_events.specs.LegalEvents.{outputs_of}

@@ -12,7 +12,8 @@ use Rattle.flame_spec.specs.Functions.{Place}
 use Rattle.flame_world.specs.declared.pieces.Part.{Part}
 use Rattle.flame_world.specs.declared.pieces.Piece.{Piece}
 use Rattle.flame_world.specs.AgentRuns.{born_from, births_of, least_fault, messages_of, sent_from, survivors}
-use Rattle.flame_world.specs.Fields.{changed_pool, joined, state_place}
+use Rattle.flame_spec.specs.States.{state_place}
+use Rattle.flame_world.specs.Fields.{changed_pool, joined}
 use Rattle.flame_world.specs.Iterations.{Round, outcome_in}
 use Rattle.flame_world.specs.Meaning.{part_for}
 use Rattle.flame_events.specs.AbsorbedPieces.{ran_agents, with_agents}

@@ -3,8 +3,7 @@ use Rattle.std.proofs.Common.{◌≡◌, ℕ, ◌<◌, length, Some}
 use Rattle.std.specs.Prelude.{slice_get}
 use Rattle.flame_spec.specs.declared.models.Model.{Model}
 use Rattle.flame_spec.specs.Functions.{Place, functions}
-use Rattle.flame_spec.specs.States.{states}
-use Rattle.flame_world.specs.Fields.{state_place}
+use Rattle.flame_spec.specs.States.{states, state_place}
 use Rattle.flame_world.proofs.NextStates.{current_state, next_state, function_at}
 
 pub from_place : (model : Model) (f : ℕ) (place : Place)

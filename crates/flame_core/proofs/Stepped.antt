@@ -9,11 +9,11 @@ use Rattle.flame_spec.specs.declared.models.Input.{Input}
 use Rattle.flame_spec.specs.declared.models.MessageType.{MessageType}
 use Rattle.flame_spec.specs.Columns.{width}
 use Rattle.flame_spec.specs.Functions.{Place, functions}
-use Rattle.flame_spec.specs.States.{states}
-use Rattle.flame_sense.specs.RangeLaws.{Each}
+use Rattle.flame_spec.specs.States.{states, state_place}
+use Rattle.flame_meaning.specs.RangeLaws.{Each}
 use Rattle.flame_world.specs.declared.faults.SimFault.{SimFault}
 use Rattle.flame_world.specs.AgentRuns.{births_of, born_from, kept, least_fault, messages_of, sent_from}
-use Rattle.flame_world.specs.Fields.{Field, changed_pool, joined, state_place}
+use Rattle.flame_world.specs.Fields.{Field, changed_pool, joined}
 use Rattle.flame_world.specs.Iterations.{Round, moved, outcome_in, resting, staying, step, step_at, taking, unless_faulted}
 use Rattle.flame_world.specs.WorldFits.{AreWide, FitMessages, FitsField}
 use Rattle.flame_body.specs.FunctionBodies.{input_width}
@@ -37,7 +37,7 @@ use Rattle.flame_core.specs.TakerRuns.{Leaves}
 use Rattle.flame_core.proofs.Gets.{get-there, has-at, mapped-get, position-passes}
 use Rattle.flame_spec.specs.declared.outcomes.Outcome.{Outcome}
 use Rattle.flame_spec.specs.declared.outcomes.Source.{Source}
-use Rattle.flame_sense.specs.Outcomes.{message_named, outcome, place_of}
+use Rattle.flame_meaning.specs.Outcomes.{message_named, outcome, place_of}
 use Rattle.flame_world.specs.declared.settings.Setting.{Setting}
 use Rattle.flame_world.specs.InputBoards.{boards_named}
 use Rattle.flame_world.specs.Meaning.{outcome_under}

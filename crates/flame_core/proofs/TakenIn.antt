@@ -9,7 +9,7 @@ use Rattle.flame_spec.specs.declared.outcomes.Outcome.{Outcome}
 use Rattle.flame_spec.specs.declared.outcomes.Source.{Source}
 use Rattle.flame_spec.specs.Before.{function_count}
 use Rattle.flame_spec.specs.Functions.{functions}
-use Rattle.flame_sense.specs.Outcomes.{outcome, place_of}
+use Rattle.flame_meaning.specs.Outcomes.{outcome, place_of, outputs_at}
 use Rattle.flame_world.specs.declared.pieces.Part.{Part}
 use Rattle.flame_world.specs.declared.pieces.Rest.{Rest}
 use Rattle.flame_world.specs.declared.settings.Setting.{Setting}
@@ -18,7 +18,7 @@ use Rattle.flame_world.specs.AgentRuns.{born_from, births_of, least_fault, messa
 use Rattle.flame_world.specs.Fields.{Field, changed_pool, joined}
 use Rattle.flame_world.specs.InputBoards.{boards_named}
 use Rattle.flame_world.specs.Iterations.{outcome_in}
-use Rattle.flame_world.specs.Meaning.{IsMeaning, outcome_under, outputs_at, part_for}
+use Rattle.flame_world.specs.Meaning.{IsMeaning, outcome_under, part_for}
 use Rattle.flame_world.specs.Settings.{boards_of}
 use Rattle.flame_world.specs.Shares.{piece_of, setting_of}
 use Rattle.flame_world.proofs.NamedBoards.{named_boards_are_enough}

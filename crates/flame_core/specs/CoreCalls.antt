@@ -1,7 +1,7 @@
 -- What the calls of a core answer.
 use Rattle.std.specs.Prelude.{◌≡◌, ℕ, ℤ, Bool, true, false, [], ◌∷◌, Some, IsTrue}
 use Rattle.flame_spec.specs.declared.outcomes.Source.{Source}
-use Rattle.flame_sense.specs.Outcomes.{place_of}
+use Rattle.flame_meaning.specs.Outcomes.{place_of}
 use Rattle.flame_world.specs.declared.pieces.Piece.{Piece}
 use Rattle.flame_world.specs.declared.settings.Setting.{Setting}
 use Rattle.flame_world.specs.declared.shares.Share.{Share}

@@ -4,7 +4,7 @@ use Rattle.std.specs.List.{list_all}
 use Rattle.flame_spec.specs.declared.models.Model.{Model}
 use Rattle.flame_spec.specs.declared.outcomes.Sent.{Sent}
 use Rattle.flame_spec.specs.Before.{function_count}
-use Rattle.flame_sense.specs.Outcomes.{place_of}
+use Rattle.flame_meaning.specs.Outcomes.{place_of}
 use Rattle.flame_world.specs.declared.settings.Setting.{Setting}
 use Rattle.flame_world.specs.declared.shares.Share.{Share}
 use Rattle.flame_world.specs.InputBoards.{boards_named}

@@ -3,7 +3,7 @@
 ghost use Rattle.std.specs.Prelude.{◌≡◌, ℕ, ℤ, List, true, IfOk, OnOk, OnErr, IsTrue, map};
 ghost use Rattle.std.specs.Arc.{arc_value};
 ghost use Rattle.flame_spec.specs.declared.outcomes.Outcome.TheVariants.{Ended, Faulted};
-ghost use Rattle.flame_sense.specs.Outcomes.{outcome, place_of};
+ghost use Rattle.flame_meaning.specs.Outcomes.{outcome, place_of};
 ghost use Rattle.flame_agent.specs.FunctionFits.{FitsFunction};
 ghost use Rattle.flame_world.specs.InputBoards.{boards_named};
 ghost use Rattle.flame_world.specs.Settings.{boards_of};

@@ -3,7 +3,7 @@
 ghost use Rattle.std.specs.Prelude.{◌≡◌, Some, false, IfOk, map, slice_get};
 ghost use Rattle.std.specs.Arc.{arc_value};
 ghost use Rattle.flame_spec.specs.Functions.{Place, functions};
-ghost use Rattle.flame_sense.specs.Outcomes.{place_of};
+ghost use Rattle.flame_meaning.specs.Outcomes.{place_of};
 ghost use Rattle.flame_world.specs.InputBoards.{boards_named};
 ghost use Rattle.flame_world.specs.WorldFits.{FitMessages};
 ghost use Rattle.flame_agent.specs.FunctionFits.{AreBoardsFor};

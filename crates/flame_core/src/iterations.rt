@@ -15,7 +15,7 @@ use crate::boards::Board;
 use crate::fields::{Field, exchanged};
 use crate::rounds::Round;
 use crate::steps::{Stepped, step};
-use flame_laws::orders;
+use flame_spec_laws::orders;
 use flame_pool::turn_over;
 use flame_program::Program;
 use flame_progress::Gathering;

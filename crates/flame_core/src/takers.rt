@@ -5,7 +5,7 @@ ghost use Rattle.std.specs.List.{All, cons_option};
 ghost use Rattle.flame_spec.specs.declared.outcomes.Outcome.TheVariants.{Faulted};
 ghost use Rattle.flame_agent.specs.FunctionFits.{FitsFunction};
 ghost use Rattle.flame_world.specs.AgentRuns.{fault_by};
-ghost use Rattle.flame_sense.specs.Outcomes.{outcome, place_of};
+ghost use Rattle.flame_meaning.specs.Outcomes.{outcome, place_of};
 ghost use Rattle.flame_world.specs.InputBoards.{boards_named};
 ghost use Rattle.flame_world.specs.Meaning.{outcome_under};
 ghost use Rattle.flame_world.specs.Settings.{boards_of};

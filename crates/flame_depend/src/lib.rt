@@ -10,8 +10,6 @@ mod planner;
 pub mod plans;
 mod starts;
 mod table;
-#[cfg(test)]
-mod tests;
 
 pub use faults::{CycleFault, DependFault, ManyStarts};
 pub use pairs::{Edge, edges};

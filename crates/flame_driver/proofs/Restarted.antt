@@ -7,7 +7,7 @@ use Rattle.std.proofs.lemmas.List.{map-append}
 use Rattle.std.proofs.lemmas.List.Concat.{flat_map-append}
 use Rattle.flame_spec.specs.declared.outcomes.Source.{Source}
 use Rattle.flame_spec.specs.Definitions.{definitions}
-use Rattle.flame_sense.specs.RangeLaws.{IsInt, AllWriteInts}
+use Rattle.flame_meaning.specs.RangeLaws.{IsInt, AllWriteInts}
 use Rattle.flame_world.specs.declared.turns.Turn.{Turn}
 use Rattle.flame_world.specs.declared.turns.Turn.TheVariants.{Done, Faulted}
 use Rattle.flame_world.specs.WorldLaws.{IsWorldOf, AreBoardsOf, WorldsStayWorlds}

@@ -5,7 +5,7 @@ use Rattle.flame_outside.specs.WhatIsTold.{files_by, printed_by}
 use Rattle.flame_spec.specs.declared.outcomes.Source.{Source}
 use Rattle.flame_spec.specs.Accepted.{IsAccepted}
 use Rattle.flame_spec.specs.Definitions.{definitions}
-use Rattle.flame_sense.specs.RangeLaws.{AllWriteInts}
+use Rattle.flame_meaning.specs.RangeLaws.{AllWriteInts}
 use Rattle.flame_world.specs.WorldLaws.{IsWorldOf}
 use Rattle.flame_popfile.specs.declared.formats.Format.{Format}
 use Rattle.flame_popfile.specs.declared.starts.Start.{Start}

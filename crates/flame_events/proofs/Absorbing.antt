@@ -13,7 +13,8 @@ use Rattle.flame_spec.specs.Functions.{Place, functions}
 use Rattle.flame_spec.specs.Lists.{first}
 use Rattle.flame_world.specs.declared.faults.SimFault.{SimFault}
 use Rattle.flame_world.specs.AgentRuns.{kept, sent_by, born_by, survivors, sent_from, born_from, fault_by, least_fault, messages_of, births_of}
-use Rattle.flame_world.specs.Fields.{Field, state_place, changed, changed_pool, joined_from, joined}
+use Rattle.flame_spec.specs.States.{state_place}
+use Rattle.flame_world.specs.Fields.{Field, changed, changed_pool, joined_from, joined}
 use Rattle.flame_world.specs.Iterations.{Round, outcome_in}
 use Rattle.flame_events.specs.declared.events.Event.TheVariants as event
 use Rattle.flame_events.specs.CoreStates.{Work, Waiting, Open, works_of, Core, status_of, work_of}

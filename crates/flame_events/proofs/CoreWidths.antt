@@ -15,10 +15,11 @@ use Rattle.flame_spec.specs.declared.outcomes.Born.{Born}
 use Rattle.flame_spec.specs.Before.{function_count}
 use Rattle.flame_spec.specs.Columns.{width}
 use Rattle.flame_spec.specs.Functions.{Place, functions}
-use Rattle.flame_sense.specs.RangeLaws.{Each, IfAny}
+use Rattle.flame_meaning.specs.RangeLaws.{Each, IfAny}
 use Rattle.flame_world.specs.declared.faults.SimFault.{SimFault}
 use Rattle.flame_world.specs.AgentRuns.{kept, sent_by, born_by, survivors, born_from, messages_of, births_of}
-use Rattle.flame_world.specs.Fields.{Field, state_place, changed, changed_pool, joined_from}
+use Rattle.flame_spec.specs.States.{state_place}
+use Rattle.flame_world.specs.Fields.{Field, changed, changed_pool, joined_from}
 use Rattle.flame_world.specs.Iterations.{Round, resting, taking, staying, outcome_in}
 use Rattle.flame_world.specs.WorldFits.{AreWide}
 use Rattle.flame_world.proofs.Eachs.{each_append, each_map, each_filter, each_passing, each_filter_map, each_flat_map, each_sorted, zip_at, zip_changed, each_index, each_changed}

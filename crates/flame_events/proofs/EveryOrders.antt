@@ -15,8 +15,8 @@ use Rattle.flame_spec.specs.Below.{is_in}
 use Rattle.flame_spec.specs.Functions.{functions}
 use Rattle.flame_spec.specs.ModelOrder.{model_order}
 use Rattle.flame_spec.specs.States.{states, is_entered}
-use Rattle.flame_sense.specs.RangeLaws.{Each}
-use Rattle.flame_laws.specs.NameLaws.{MessagesDiffer}
+use Rattle.flame_meaning.specs.RangeLaws.{Each}
+use Rattle.flame_spec_laws.specs.NameLaws.{MessagesDiffer}
 use Rattle.flame_world.specs.Fields.{begun, opening}
 use Rattle.flame_world.specs.Iterations.{Round, unless_faulted, turn_of, steps, round_of}
 use Rattle.flame_world.proofs.Changing.{pool-IsAscending}

@@ -10,7 +10,7 @@ use Rattle.flame_spec.specs.Below.{is_in}
 use Rattle.flame_spec.specs.Functions.{functions}
 use Rattle.flame_world.specs.Fields.{Field, changed}
 use Rattle.flame_world.specs.Iterations.{Round}
-use Rattle.flame_world.specs.Meaning.{outputs_at}
+use Rattle.flame_meaning.specs.Outcomes.{outputs_at}
 use Rattle.flame_events.specs.CoreStates.{Work, Status, Open, is_waiting, is_shut, works_of, has_left, part_in, Core, status_of, work_of}
 use Rattle.flame_events.specs.LegalEvents.{outputs_of, may_hand_in}
 use Rattle.flame_events.specs.EventSteps.{joined_board, handed_in as after_hand_in}

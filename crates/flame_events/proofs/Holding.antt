@@ -17,7 +17,7 @@ use Rattle.flame_spec.specs.declared.outcomes.Born.{Born}
 use Rattle.flame_spec.specs.Before.{function_count}
 use Rattle.flame_spec.specs.Below.{is_in}
 use Rattle.flame_spec.specs.Choice.{is_chosen}
-use Rattle.flame_sense.specs.Outcomes.{outcome}
+use Rattle.flame_meaning.specs.Outcomes.{outcome}
 use Rattle.flame_world.specs.AgentRuns.{kept, sent_by, born_by, sent_from, born_from, messages_of, births_of}
 use Rattle.flame_world.specs.Fields.{Field, HasPools}
 use Rattle.flame_world.specs.Iterations.{Round}

@@ -10,12 +10,12 @@ use Rattle.flame_spec.specs.declared.outcomes.Sent.{Sent}
 use Rattle.flame_spec.specs.Before.{function_count}
 use Rattle.flame_spec.specs.Below.{is_in}
 use Rattle.flame_spec.specs.Functions.{Place, functions}
-use Rattle.flame_sense.specs.RangeLaws.{Each}
+use Rattle.flame_meaning.specs.RangeLaws.{Each}
 use Rattle.flame_world.specs.declared.faults.SimFault.{SimFault}
 use Rattle.flame_world.specs.AgentRuns.{sent_by}
 use Rattle.flame_world.specs.Fields.{Field}
 use Rattle.flame_world.specs.Iterations.{Round, taking, outcome_in}
-use Rattle.flame_world.specs.Meaning.{outputs_at}
+use Rattle.flame_meaning.specs.Outcomes.{outputs_at}
 use Rattle.flame_events.specs.declared.events.Event.{Event}
 use Rattle.flame_events.specs.declared.events.Event.TheVariants as event
 use Rattle.flame_events.specs.Cuts.{cut}

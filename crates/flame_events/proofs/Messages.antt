@@ -14,15 +14,14 @@ use Rattle.flame_spec.specs.Below.{is_in}
 use Rattle.flame_spec.specs.Functions.{Place, functions}
 use Rattle.flame_spec.specs.KnownNames.{is_among, message_names}
 use Rattle.flame_spec.specs.Lists.{numbered_from}
-use Rattle.flame_sense.specs.Outcomes.{message_named, readings_of}
-use Rattle.flame_sense.specs.OutputLaws.{AreOfOutputs, SentAre}
-use Rattle.flame_sense.proofs.Sending.{messages_are_of_outputs}
-use Rattle.flame_laws.specs.DistinctNames.{AreDistinct}
-use Rattle.flame_laws.specs.NameLaws.{MessagesDiffer}
+use Rattle.flame_meaning.specs.Outcomes.{message_named, readings_of, outputs_at}
+use Rattle.flame_meaning.specs.OutputLaws.{AreOfOutputs, SentAre}
+use Rattle.flame_meaning.proofs.Sending.{messages_are_of_outputs}
+use Rattle.flame_spec_laws.specs.DistinctNames.{AreDistinct}
+use Rattle.flame_spec_laws.specs.NameLaws.{MessagesDiffer}
 use Rattle.flame_world.specs.AgentRuns.{sent_by, messages_of}
 use Rattle.flame_world.specs.Fields.{Field}
 use Rattle.flame_world.specs.Iterations.{Round, outcome_in}
-use Rattle.flame_world.specs.Meaning.{outputs_at}
 use Rattle.flame_events.proofs.Spots.{get_there, get_below, same_text, text_same, named}
 use Rattle.flame_events.proofs.Serial.{is_in-self, is_in-later, ideal, met, Sends}
 

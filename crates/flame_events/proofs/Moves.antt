@@ -13,8 +13,8 @@ use Rattle.flame_spec.specs.Before.{function_count}
 use Rattle.flame_spec.specs.Below.{is_in}
 use Rattle.flame_spec.specs.Choice.{is_chosen}
 use Rattle.flame_spec.specs.Functions.{Place, functions}
-use Rattle.flame_spec.specs.States.{states}
-use Rattle.flame_world.specs.Fields.{Field, HasPools, state_place, changed, changed_pool}
+use Rattle.flame_spec.specs.States.{states, state_place}
+use Rattle.flame_world.specs.Fields.{Field, HasPools, changed, changed_pool}
 use Rattle.flame_world.specs.Iterations.{Round, staying}
 use Rattle.flame_world.proofs.Eachs.{zip_changed}
 use Rattle.flame_events.specs.LegalEvents.{outputs_of}

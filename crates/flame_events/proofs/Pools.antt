@@ -11,8 +11,8 @@ use Rattle.flame_spec.specs.declared.models.Model.{Model}
 use Rattle.flame_spec.specs.declared.models.AgentType.{AgentType}
 use Rattle.flame_spec.specs.declared.models.Function.{Function}
 use Rattle.flame_spec.specs.KnownNames.{is_among}
-use Rattle.flame_spec.specs.States.{distinct_after, states, ends}
-use Rattle.flame_world.specs.Fields.{Field, HasPools, state_place, pool_in, changed, changed_pool, joined_from, joined}
+use Rattle.flame_spec.specs.States.{distinct_after, states, ends, state_place}
+use Rattle.flame_world.specs.Fields.{Field, HasPools, pool_in, changed, changed_pool, joined_from, joined}
 use Rattle.flame_world.proofs.Eachs.{zip_at}
 use Rattle.flame_events.proofs.Weights.{Rows}
 use Rattle.flame_events.proofs.Spots.{Spot, state_at, pool_at, same_text, text_same, get_there}

@@ -19,12 +19,13 @@ use Rattle.flame_spec.specs.Functions.{Place, functions}
 use Rattle.flame_spec.specs.ModelOrder.{model_order, left_over}
 use Rattle.flame_spec.proofs.Orders.{order_keeps, ready_taken}
 use Rattle.flame_spec.proofs.FirstBelow.{none_fails}
-use Rattle.flame_sense.specs.Outcomes.{message_named}
-use Rattle.flame_sense.proofs.Boards.{input_boards_count}
-use Rattle.flame_sense.proofs.Sending.{found_get}
+use Rattle.flame_meaning.specs.Outcomes.{message_named}
+use Rattle.flame_meaning.proofs.Boards.{input_boards_count}
+use Rattle.flame_meaning.proofs.Sending.{found_get}
 use Rattle.flame_world.specs.declared.faults.SimFault.{SimFault}
 use Rattle.flame_world.specs.AgentRuns.{sent_by, sent_from, born_from, messages_of, births_of, survivors, least_fault}
-use Rattle.flame_world.specs.Fields.{Field, state_place, pool_in, changed_pool, joined}
+use Rattle.flame_spec.specs.States.{state_place}
+use Rattle.flame_world.specs.Fields.{Field, pool_in, changed_pool, joined}
 use Rattle.flame_world.specs.Iterations.{Round, taking, outcome_in, moved}
 use Rattle.flame_events.specs.LegalEvents.{inputs_at, inputs_of, outputs_of}
 use Rattle.flame_events.proofs.Weights.{Row, Rows, Weight, only, weigh-same}

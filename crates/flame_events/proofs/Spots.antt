@@ -13,13 +13,12 @@ use Rattle.flame_spec.specs.Before.{adds, feeds, leads_to, stands_before, both_s
 use Rattle.flame_spec.specs.Below.{is_in}
 use Rattle.flame_spec.specs.Choice.{may_take, choice}
 use Rattle.flame_spec.specs.Functions.{Place, functions}
-use Rattle.flame_spec.specs.States.{states}
+use Rattle.flame_spec.specs.States.{states, state_place}
 use Rattle.flame_spec.specs.Lists.{numbered_from}
-use Rattle.flame_sense.specs.Outcomes.{message_named}
-use Rattle.flame_sense.proofs.Sending.{found_get}
-use Rattle.flame_world.specs.Fields.{state_place, pool_in}
+use Rattle.flame_meaning.specs.Outcomes.{message_named, outputs_at}
+use Rattle.flame_meaning.proofs.Sending.{found_get}
+use Rattle.flame_world.specs.Fields.{pool_in}
 use Rattle.flame_world.specs.Iterations.{Round}
-use Rattle.flame_world.specs.Meaning.{outputs_at}
 use Rattle.flame_world.proofs.RowsKept.{place_type}
 use Rattle.flame_world.proofs.NextStates.{current_state, next_state, function_at}
 use Rattle.flame_events.specs.LegalEvents.{inputs_at, inputs_of, outputs_of}

@@ -11,7 +11,7 @@ use Rattle.flame_rows.proofs.BagLaws.{IsAscending-ascending, weigh-append, weigh
 use Rattle.flame_spec.specs.declared.outcomes.Sent.{Sent}
 use Rattle.flame_spec.specs.Below.{is_in}
 use Rattle.flame_spec.specs.Lists.{first}
-use Rattle.flame_sense.specs.RangeLaws.{Each}
+use Rattle.flame_meaning.specs.RangeLaws.{Each}
 use Rattle.flame_world.specs.declared.faults.SimFault.{SimFault}
 use Rattle.flame_world.specs.AgentRuns.{sent_by, fault_by, messages_of, least_fault}
 use Rattle.flame_world.specs.Iterations.{Round}

@@ -4,7 +4,8 @@ use Rattle.std.specs.Option.{option_or}
 use Rattle.flame_rows.specs.Bags.{merge}
 use Rattle.flame_spec.specs.Functions.{Place, functions}
 use Rattle.flame_world.specs.AgentRuns.{survivors, sent_from, born_from, least_fault, births_of}
-use Rattle.flame_world.specs.Fields.{state_place, changed_pool, joined}
+use Rattle.flame_spec.specs.States.{state_place}
+use Rattle.flame_world.specs.Fields.{changed_pool, joined}
 use Rattle.flame_world.specs.Iterations.{Round, outcome_in}
 use Rattle.flame_events.specs.declared.events.Event.{Event}
 use Rattle.flame_events.specs.declared.events.Event.TheVariants as event

@@ -6,7 +6,7 @@ use Rattle.flame_spec.specs.declared.models.Model.{Model}
 use Rattle.flame_spec.specs.Before.{function_count}
 use Rattle.flame_spec.specs.Columns.{width}
 use Rattle.flame_spec.specs.Functions.{Place, functions}
-use Rattle.flame_sense.specs.RangeLaws.{Each}
+use Rattle.flame_meaning.specs.RangeLaws.{Each}
 use Rattle.flame_world.specs.declared.worlds.World.{World}
 use Rattle.flame_world.specs.Iterations.{Round}
 use Rattle.flame_world.specs.WorldFits.{AreWide, FitsModel, FitsField}

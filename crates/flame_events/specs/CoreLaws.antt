@@ -1,7 +1,7 @@
 -- Laws of a core that legal events led to: what holds of its functions, their pieces, and boards.
 use Rattle.std.specs.Prelude.{◌≡◌, ℕ, ◌<◌, ◌≤◌, ℤ, List, length, true, false, IsTrue, Some, is_some}
 use Rattle.std.specs.List.{list_all}
-use Rattle.flame_sense.specs.RangeLaws.{Each}
+use Rattle.flame_meaning.specs.RangeLaws.{Each}
 use Rattle.flame_world.specs.Iterations.{Round}
 use Rattle.flame_events.specs.declared.events.Event.{Event}
 use Rattle.flame_events.specs.declared.events.Event.TheVariants as event

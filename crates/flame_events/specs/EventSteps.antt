@@ -9,7 +9,8 @@ use Rattle.flame_spec.specs.declared.outcomes.Sent.{Sent}
 use Rattle.flame_spec.specs.Functions.{Place, functions}
 use Rattle.flame_world.specs.declared.faults.SimFault.{SimFault}
 use Rattle.flame_world.specs.AgentRuns.{survivors, sent_by, born_from, fault_by, messages_of, births_of}
-use Rattle.flame_world.specs.Fields.{Field, state_place, changed, changed_pool, joined}
+use Rattle.flame_spec.specs.States.{state_place}
+use Rattle.flame_world.specs.Fields.{Field, changed, changed_pool, joined}
 use Rattle.flame_world.specs.Iterations.{Round, taking, staying, outcome_in}
 use Rattle.flame_events.specs.declared.events.Event.{Event}
 use Rattle.flame_events.specs.declared.events.Event.TheVariants as event

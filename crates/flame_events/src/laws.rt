@@ -13,7 +13,7 @@ ghost use Rattle.flame_events.specs.FaultRanks.{LowerRanksAreWanted, LeastRankHa
 ghost use Rattle.flame_events.specs.HandedPieces.{PartsAreHandedInAtOnce};
 ghost use Rattle.flame_events.specs.Histories.{HistoriesGrow, HistoriesFit};
 
-use flame_laws::names_differ;
+use flame_spec_laws::names_differ;
 
 /// Whatever the order of the events, as long as each is legal when it comes: where the core is complete, its end is the
 /// iteration, faults included; where it is not, there is a legal event of a wanted function, or one that freezes a

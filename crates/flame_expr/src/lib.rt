@@ -9,8 +9,6 @@ mod levels;
 mod lexemes;
 mod parse;
 mod reader;
-#[cfg(test)]
-mod tests;
 
 pub use cursor::{expect, lexeme_at, line_at, syntax, text_at};
 pub use depth::{first_too_deep, is_counted, nests};

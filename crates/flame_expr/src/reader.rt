@@ -21,7 +21,7 @@ use crate::faults::ParseFault;
 use crate::levels::{op_between, sign};
 use crate::lexemes::Lexeme;
 use flame_lex::Token;
-use flame_rows::{Fail, NoMemory, Part, Seq, Text};
+use flame_rows::{Fail, NoMemory, Boxed, Seq, Text};
 use flame_spec::{Expr, Link, Sign, Subscript};
 use std::alloc::Global;
 
@@ -330,7 +330,7 @@ pub fn subscript(
     };
     let (which, close) = form_at(alloc, tokens, at + 1, 6)?;
     let end = expect(tokens, close, Lexeme::CloseBracket)?;
-    let index = Part::of(alloc, which)?;
+    let index = Boxed::of(alloc, which)?;
     let line = line_at(tokens, at);
     Ok((Some(Subscript { line, index }), end))
 }
@@ -363,7 +363,7 @@ fn with_signs(alloc: Global, signs: Vec<Sign>, part: Expr) -> Result<Expr, NoMem
     if signs.is_empty() {
         return Ok(part);
     }
-    let part = Part::of(alloc, part)?;
+    let part = Boxed::of(alloc, part)?;
     Ok(Expr::Unary(Seq::of(signs), part))
 }
 
@@ -374,7 +374,7 @@ fn chained(alloc: Global, first: Expr, more: Vec<Link>) -> Result<Expr, NoMemory
     if more.is_empty() {
         return Ok(first);
     }
-    let first = Part::of(alloc, first)?;
+    let first = Boxed::of(alloc, first)?;
     let links = Seq::of(more);
     Ok(Expr::Chain(first, links))
 }

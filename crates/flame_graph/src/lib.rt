@@ -6,8 +6,6 @@ mod heights;
 mod lists;
 mod order;
 mod ready;
-#[cfg(test)]
-mod tests;
 
 pub use cycle::{begin_with_least, first_waiting, walk_back};
 pub use heights::layers;

@@ -2,7 +2,5 @@
 #![tactic(auto)]
 
 mod boards;
-#[cfg(test)]
-mod tests;
 
 pub use boards::Frozen;

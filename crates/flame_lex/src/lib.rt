@@ -15,8 +15,6 @@ mod number;
 mod place;
 mod scan;
 mod tables;
-#[cfg(test)]
-mod tests;
 mod token;
 mod word;
 

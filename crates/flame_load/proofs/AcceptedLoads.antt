@@ -17,7 +17,7 @@ use Rattle.flame_spec.specs.NameFaults.{name_faults}
 use Rattle.flame_spec.specs.States.{start_states, many_from, many_starts}
 use Rattle.flame_spec.specs.WellFormed.{is_well_formed}
 use Rattle.flame_spec.specs.WideModels.{is_well_formed_wide}
-use Rattle.flame_laws.specs.StateLaws.{PlansHaveOneStart}
+use Rattle.flame_spec_laws.specs.StateLaws.{PlansHaveOneStart}
 use Rattle.flame_xmml.specs.ShapeFaults.{wide_faults}
 use Rattle.flame_xmml.specs.ShapeLaws.{FaultlessIsWellFormedWide}
 use Rattle.flame_xmml.specs.WideValues.{wide_of}

@@ -6,7 +6,7 @@ use Rattle.flame_spec.specs.declared.trees.Unit as file
 use Rattle.flame_spec.specs.declared.trees.Def.{Def}
 use Rattle.flame_spec.specs.declared.trees.Stmt.{Stmt}
 use Rattle.flame_spec.specs.Seen.{statement, statements}
-use Rattle.flame_laws.specs.TreeLaws.{StatementsAreTold, StatementsAreSeen}
+use Rattle.flame_spec_laws.specs.TreeLaws.{StatementsAreTold, StatementsAreSeen}
 use Rattle.flame_lex.specs.declared.token.Token.{Token}
 use Rattle.flame_lex.specs.declared.fault.LexFault.{LexFault}
 use Rattle.flame_lex.specs.Lexing.{Lexes, Faults}

@@ -7,7 +7,7 @@ use Rattle.flame_spec.specs.declared.trees.Unit as file
 use Rattle.flame_spec.specs.CheckFaults.{check_faults}
 use Rattle.flame_spec.specs.Definitions.{Definition, definition, definitions_of, definitions}
 use Rattle.flame_spec.specs.Lists.{first, each_from}
-use Rattle.flame_sense.specs.RangeLaws.{Each, BodyWritesInts, AllWriteInts}
+use Rattle.flame_meaning.specs.RangeLaws.{Each, BodyWritesInts, AllWriteInts}
 use Rattle.flame_parse.specs.Parsing.{defined}
 use Rattle.flame_parse.specs.StatementGrammar.{Defined}
 use Rattle.flame_load.specs.declared.faults.LoadFault.TheVariants.{Check, Depend}

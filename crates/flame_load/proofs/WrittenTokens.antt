@@ -14,7 +14,7 @@ use Rattle.flame_lex.specs.LexPieces.{Form, blank, comment, line_comment, includ
 use Rattle.flame_lex.specs.Lexing.{Piece, Before, nothing, past, here, IsCut, found_of, known_after, token_at, tokens_of, Lexes}
 use Rattle.flame_lex.specs.Numerals.{number_value}
 use Rattle.flame_expr.specs.Lexemes.{value_of}
-use Rattle.flame_sense.specs.RangeLaws.{IsInt, IfAny, Each}
+use Rattle.flame_meaning.specs.RangeLaws.{IsInt, IfAny, Each}
 
 -- each number of these tokens
 abbrev pub AreIntTokens : List Token → Type 0

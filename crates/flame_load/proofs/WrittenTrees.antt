@@ -8,7 +8,7 @@ use Rattle.flame_expr.specs.Lexemes.{text, value, line, behind}
 use Rattle.flame_expr.specs.ExpressionGrammar.{named, field_of, with_signs, chained, all_parts, any_parts, Reads, a_unary, a_chain, a_conjunction, a_disjunction, Tail, no_link, a_link, Conjuncts, no_conjunct, a_conjunct, Disjuncts, no_disjunct, a_disjunct, Signs, no_sign, a_sign, Primary, a_number, a_name, a_field, a_get, in_brackets, Index, no_index, an_index, Bracketed, bracketed, Closed, closed}
 use Rattle.flame_parse.specs.StatementGrammar.{Stores, an_expression, a_call, Initial, no_initial, an_initial, Place, placed, OneParameter, a_parameter, MoreParameters, no_parameter, parameter_more, SomeParameters, listed, Parameters, none_given, void_given, some_given, Item, an_item, MoreItems, no_item, item_more, Items, items, Declaration, declaration, Assignment, sets, steps_behind, steps_before, MoreArgs, no_arg, arg_more, Args, args, Called, no_args, some_args, AssignedTo, assigned_to, Simple, nothing, assigning, calling, returning, breaking, continuing, First, no_first, first_assign, first_decl, Test, no_test, a_test, Step, no_step, a_step, Heading, heading, Block, braces, Stmts, no_stmt, stmt_more, Stmt, declaring, blocking, branching, whiling, repeating, doing, looping, simply, Elses, no_else, else_if, an_else, Body, in_braces, one_simple, Defined, Definition, definition, Definitions, no_definition, definition_more}
 use Rattle.flame_parse.specs.Parsing.{IsUnit}
-use Rattle.flame_sense.specs.RangeLaws.{IsInt, Each, IfAny, WritesInts, PartsWriteInts, LinksWriteInts, StoredWritesInts, AssignedWritesInts, StatementWritesInts, BodyWritesInts, ArmsWriteInts}
+use Rattle.flame_meaning.specs.RangeLaws.{IsInt, Each, IfAny, WritesInts, PartsWriteInts, LinksWriteInts, StoredWritesInts, AssignedWritesInts, StatementWritesInts, BodyWritesInts, ArmsWriteInts}
 use Rattle.flame_load.proofs.WrittenTokens.{AreIntTokens}
 
 -- ---- tokens

@@ -7,7 +7,7 @@ use Rattle.flame_spec.specs.declared.outcomes.Source.{Source}
 use Rattle.flame_spec.specs.declared.trees.Unit as file
 use Rattle.flame_spec.specs.Accepted.{IsAccepted}
 use Rattle.flame_spec.specs.Definitions.{definitions}
-use Rattle.flame_sense.specs.RangeLaws.{AllWriteInts}
+use Rattle.flame_meaning.specs.RangeLaws.{AllWriteInts}
 use Rattle.flame_xmml.specs.Models.{model_of}
 use Rattle.flame_xmml.specs.ShapeFaults.{shape_faults}
 use Rattle.flame_nest.specs.FlatModels.{flat}

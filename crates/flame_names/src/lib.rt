@@ -10,8 +10,6 @@ mod messages;
 mod naming;
 mod path;
 mod table;
-#[cfg(test)]
-mod tests;
 mod variables;
 
 pub use naming::names;

@@ -2,7 +2,7 @@
 
 ghost use Rattle.std.specs.Prelude.{◌≡◌, ◌++◌, IfOk, OnOk};
 
-use flame_rows::{Copied, NoMemory, Part, Seq, Text};
+use flame_rows::{Copied, NoMemory, Boxed, Seq, Text};
 use flame_spec::{Condition, Function, Input, Operand, Sort, TimeUnit};
 use std::alloc::Global;
 
@@ -27,17 +27,17 @@ fn copied_condition(alloc: Global, condition: &Condition) -> Result<Condition, N
             Ok(Condition::Compare(*op, left, right))
         }
         Condition::And(left, right) => {
-            let left = Part::of(alloc, copied_condition(alloc, left.get())?)?;
-            let right = Part::of(alloc, copied_condition(alloc, right.get())?)?;
+            let left = Boxed::of(alloc, copied_condition(alloc, left.get())?)?;
+            let right = Boxed::of(alloc, copied_condition(alloc, right.get())?)?;
             Ok(Condition::And(left, right))
         }
         Condition::Or(left, right) => {
-            let left = Part::of(alloc, copied_condition(alloc, left.get())?)?;
-            let right = Part::of(alloc, copied_condition(alloc, right.get())?)?;
+            let left = Boxed::of(alloc, copied_condition(alloc, left.get())?)?;
+            let right = Boxed::of(alloc, copied_condition(alloc, right.get())?)?;
             Ok(Condition::Or(left, right))
         }
         Condition::Not(part) => {
-            let part = Part::of(alloc, copied_condition(alloc, part.get())?)?;
+            let part = Boxed::of(alloc, copied_condition(alloc, part.get())?)?;
             Ok(Condition::Not(part))
         }
         Condition::Time(period, phase, duration) => {

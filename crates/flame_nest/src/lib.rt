@@ -12,8 +12,6 @@ pub mod laws;
 mod messages;
 mod names;
 mod refusing;
-#[cfg(test)]
-mod tests;
 mod types;
 mod variables;
 mod walking;

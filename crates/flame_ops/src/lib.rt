@@ -6,8 +6,6 @@ mod integers;
 pub mod laws;
 mod spelling;
 mod table;
-#[cfg(test)]
-mod tests;
 mod words;
 
 pub use integers::{Cause, Op, apply, negate};

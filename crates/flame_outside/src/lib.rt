@@ -11,8 +11,6 @@ mod mem_depot;
 mod mem_sink;
 mod named_files;
 mod sink;
-#[cfg(test)]
-mod tests;
 mod transfer;
 
 pub use depot::{Depot, Got, PutFail, ReadFail};

@@ -12,7 +12,7 @@ use crate::operators::starts_statement;
 use crate::simple::{head, items, one, simple};
 use flame_expr::{Lexeme, ParseFault, bracketed, expect, lexeme_at, line_at, text_at};
 use flame_lex::Token;
-use flame_rows::{Fail, Part, Seq};
+use flame_rows::{Fail, Boxed, Seq};
 use flame_spec::{Arm, Stmt};
 use std::alloc::Global;
 
@@ -207,7 +207,7 @@ fn for_loop(alloc: Global, tokens: &[Token], at: usize) -> Result<(Stmt, usize),
 {
     let (head, mid) = head(alloc, tokens, at + 1)?;
     let (found, end) = body(alloc, tokens, mid)?;
-    let head = Part::of(alloc, head)?;
+    let head = Boxed::of(alloc, head)?;
     Ok((Stmt::For(line_at(tokens, at), head, Seq::of(found)), end))
 }
 

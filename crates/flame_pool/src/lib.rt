@@ -4,8 +4,6 @@
 mod choices;
 pub mod laws;
 mod pools;
-#[cfg(test)]
-mod tests;
 
 pub use choices::{choose, choose_here};
 pub use pools::{take, turn_over};

@@ -13,7 +13,7 @@ use Rattle.flame_spec.specs.KnownNames.{is_among}
 use Rattle.flame_spec.specs.Lists.{each_from}
 use Rattle.flame_spec.specs.Paths.{at_key, at_number}
 use Rattle.flame_xmml.specs.ValueParts.{is_object}
-use Rattle.flame_sense.specs.RangeLaws.{Each}
+use Rattle.flame_meaning.specs.RangeLaws.{Each}
 use Rattle.flame_world.specs.WorldLaws.{IsRowOf, IsBagOf}
 use Rattle.flame_popfile.specs.declared.formats.Format.{Format}
 use Rattle.flame_popfile.specs.declared.formats.Format.TheVariants.{One, Two}

@@ -13,10 +13,10 @@ use Rattle.flame_spec.specs.Names.{is_name, is_filled}
 use Rattle.flame_spec.specs.NameFaults.{type_names, name_faults}
 use Rattle.flame_spec.specs.WellFormed.{is_well_formed, is_well_formed_unit, is_well_formed_variable, is_array_length, is_well_formed_message}
 use Rattle.flame_spec.specs.WellFormed.{is_well_formed_agent, is_well_formed_function}
-use Rattle.flame_laws.specs.DistinctNames.{AreDistinct}
-use Rattle.flame_laws.proofs.Distinct.{distinct, constants_differ, types_differ}
-use Rattle.flame_laws.proofs.Members.{types_apart}
-use Rattle.flame_sense.specs.RangeLaws.{Each}
+use Rattle.flame_spec_laws.specs.DistinctNames.{AreDistinct}
+use Rattle.flame_spec_laws.proofs.Distinct.{distinct, constants_differ, types_differ}
+use Rattle.flame_spec_laws.proofs.Members.{types_apart}
+use Rattle.flame_meaning.specs.RangeLaws.{Each}
 use Rattle.flame_popfile.proofs.PutMembers.{IsNoneOf, AllDiffer}
 use Rattle.flame_popfile.proofs.WrittenNames.{IsPlain, name_plain}
 use Rattle.flame_popfile.proofs.WrittenRows.{ArePlain}

@@ -13,7 +13,7 @@ use Rattle.flame_spec.specs.declared.models.AgentType.{AgentType}
 use Rattle.flame_spec.specs.declared.models.Variable.{Variable}
 use Rattle.flame_spec.specs.Columns.{width_by, width_of, width}
 use Rattle.flame_spec.specs.Paths.{at_key, at_number}
-use Rattle.flame_sense.specs.RangeLaws.{IsInt, AreInts, Each}
+use Rattle.flame_meaning.specs.RangeLaws.{IsInt, AreInts, Each}
 use Rattle.flame_world.specs.WorldLaws.{IsRowOf}
 use Rattle.flame_world.proofs.Eachs.{each_append, each_map}
 use Rattle.flame_xmml.specs.ValueParts.{part, members}

@@ -8,7 +8,7 @@ use Rattle.serde_json.specs.Data.{Data, null, boolean, number, string, array, ob
 use Rattle.flame_ops.specs.Integers.{is_int}
 use Rattle.flame_spec.specs.Lists.{each, each_from}
 use Rattle.flame_spec.specs.Steps.{◌>>=◌}
-use Rattle.flame_sense.specs.RangeLaws.{IsInt, AreInts, Each}
+use Rattle.flame_meaning.specs.RangeLaws.{IsInt, AreInts, Each}
 use Rattle.flame_world.specs.WorldLaws.{IsRowOf}
 use Rattle.flame_world.proofs.Eachs.{mapped}
 use Rattle.flame_xmml.specs.ValueParts.{members}

@@ -20,7 +20,7 @@ use Rattle.flame_spec.specs.Columns.{width}
 use Rattle.flame_spec.specs.Lists.{each_from}
 use Rattle.flame_spec.specs.Paths.{root, at_key, at_number}
 use Rattle.flame_spec.specs.Steps.{◌>>=◌}
-use Rattle.flame_sense.specs.RangeLaws.{AreInts, Each}
+use Rattle.flame_meaning.specs.RangeLaws.{AreInts, Each}
 use Rattle.flame_world.specs.declared.worlds.World.{World}
 use Rattle.flame_world.specs.WorldFits.{AreWide, FitsModel}
 use Rattle.flame_world.specs.WorldLaws.{IsRowOf, IsBagOf, IsWorldOf}

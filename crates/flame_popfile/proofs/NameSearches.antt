@@ -5,7 +5,7 @@ use Rattle.std.specs.Str.{bytes_eq}
 use Rattle.std.proofs.lemmas.Slice.Eq.{bytes_eq-Decides}
 use Rattle.flame_spec.specs.declared.models.AgentType.{AgentType}
 use Rattle.flame_spec.specs.Lists.{numbered_from}
-use Rattle.flame_sense.specs.RangeLaws.{Each}
+use Rattle.flame_meaning.specs.RangeLaws.{Each}
 use Rattle.flame_popfile.specs.PopulationParts.{called}
 use Rattle.flame_popfile.specs.PopulationFaults.{type_named}
 use Rattle.flame_popfile.proofs.PutMembers.{IsNoneOf, AllDiffer}

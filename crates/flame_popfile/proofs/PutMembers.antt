@@ -9,7 +9,7 @@ use Rattle.serde_json.specs.Data.{Data, Members, no_members, member, put}
 use Rattle.serde_json.specs.Find.{get_member}
 use Rattle.serde_json.proofs.Views.{get_member-put, get_member-put_other}
 use Rattle.flame_popfile.specs.PopulationParts.{entries}
-use Rattle.flame_sense.specs.RangeLaws.{Each}
+use Rattle.flame_meaning.specs.RangeLaws.{Each}
 
 -- the members with these put in, each at its name
 abbrev pub put_all : List (List ℕ × Data) → Members → Members

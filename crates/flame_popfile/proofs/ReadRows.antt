@@ -16,7 +16,7 @@ use Rattle.flame_spec.specs.Paths.{at_key, at_number}
 use Rattle.flame_spec.specs.Steps.{◌>>=◌}
 use Rattle.flame_xmml.specs.ValueParts.{part}
 use Rattle.flame_xmml.specs.Wants.{whole_of, held}
-use Rattle.flame_sense.specs.RangeLaws.{IsInt, AreInts, Each}
+use Rattle.flame_meaning.specs.RangeLaws.{IsInt, AreInts, Each}
 use Rattle.flame_popfile.specs.declared.faults.PopKind.TheVariants.{Shape, OutOfInt, UnknownVariable, UnknownConstant}
 use Rattle.flame_popfile.specs.PopulationParts.{Faults, number_of, numbers_of, variable_numbers, called, refused, each_member, counted_faults, entries_faults, known_faults, number_faults, int_faults, ints_faults, variable_faults}
 use Rattle.flame_popfile.specs.PopulationFaults.{constant_asked, variable_asked, memory_faults}

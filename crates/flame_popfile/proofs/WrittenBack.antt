@@ -6,7 +6,7 @@ use Rattle.serde_json.specs.Read.{read}
 use Rattle.flame_ops.specs.Integers.{is_int}
 use Rattle.flame_spec.specs.declared.models.Model.{Model}
 use Rattle.flame_spec.specs.Paths.{root, at_key}
-use Rattle.flame_sense.specs.RangeLaws.{IsInt}
+use Rattle.flame_meaning.specs.RangeLaws.{IsInt}
 use Rattle.flame_world.specs.WorldLaws.{IsWorldOf}
 use Rattle.flame_world.specs.declared.worlds.World.{World}
 use Rattle.flame_world.specs.declared.worlds.Boards.{Boards}

@@ -8,7 +8,7 @@ use Rattle.flame_spec.specs.declared.models.Model.{Model}
 use Rattle.flame_spec.specs.declared.models.AgentType.{AgentType}
 use Rattle.flame_spec.specs.declared.models.MessageType.{MessageType}
 use Rattle.flame_spec.specs.Columns.{width}
-use Rattle.flame_sense.specs.RangeLaws.{AreInts, Each}
+use Rattle.flame_meaning.specs.RangeLaws.{AreInts, Each}
 use Rattle.flame_world.specs.WorldLaws.{IsRowOf, IsBagOf}
 use Rattle.flame_popfile.specs.declared.formats.Format.{Format}
 use Rattle.flame_popfile.specs.declared.formats.Format.TheVariants.{One, Two}

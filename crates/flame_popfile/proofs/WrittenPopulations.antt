@@ -11,7 +11,7 @@ use Rattle.serde_json.specs.Read.{read}
 use Rattle.flame_spec.specs.declared.models.Model.{Model}
 use Rattle.flame_world.specs.declared.worlds.World.{World}
 use Rattle.flame_world.specs.declared.worlds.Boards.{Boards}
-use Rattle.flame_sense.specs.RangeLaws.{IsInt}
+use Rattle.flame_meaning.specs.RangeLaws.{IsInt}
 use Rattle.flame_world.specs.WorldLaws.{IsWorldOf, AreBoardsOf}
 use Rattle.flame_popfile.specs.declared.formats.Format.{Format}
 use Rattle.flame_popfile.specs.declared.formats.Format.TheVariants.{One, Two}

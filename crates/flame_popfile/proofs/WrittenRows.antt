@@ -9,7 +9,7 @@ use Rattle.serde_json.specs.Data.{Data}
 use Rattle.flame_ops.specs.Integers.{least, greatest}
 use Rattle.flame_spec.specs.declared.models.Variable.{Variable}
 use Rattle.flame_spec.specs.Columns.{width, width_by, width_of}
-use Rattle.flame_sense.specs.RangeLaws.{IsInt, AreInts, Each}
+use Rattle.flame_meaning.specs.RangeLaws.{IsInt, AreInts, Each}
 use Rattle.flame_popfile.specs.RowTexts.{row_text, named_text, value_text, variable_texts, object_text, constant_texts}
 use Rattle.flame_popfile.proofs.PopulationValues.{int_value, row_value, variable_value, variable_pairs, memory_value, constant_pairs}
 use Rattle.flame_popfile.proofs.WrittenNames.{IsPlain}

@@ -20,8 +20,8 @@ use Rattle.flame_body.proofs.Columned.{never}
 use Rattle.flame_code.specs.HelperCodes.{calls_fit, fits}
 use Rattle.flame_code.specs.Routines.{Routine}
 use Rattle.flame_depend.specs.Plans.{lone, starts_of}
-use Rattle.flame_faithful.specs.CodeOutcomes.{code_of}
-use Rattle.flame_laws.proofs.UsedKnown.{used_declared}
+use Rattle.flame_code_laws.specs.CodeOutcomes.{code_of}
+use Rattle.flame_spec_laws.proofs.UsedKnown.{used_declared}
 use Rattle.flame_route.specs.ModelRoutes.{ReadMessages}
 use Rattle.flame_program.specs.SourceCodes.{function_codes, helper_codes}
 use Rattle.flame_program.specs.AcceptanceLaws.{PlannedAreAccepted, IsRunnable, AcceptedAreRunnable}

@@ -8,9 +8,9 @@ use Rattle.flame_body.proofs.NumberedBodies.{bodies-by-number}
 use Rattle.flame_code.specs.InputRows.{rows_of}
 use Rattle.flame_code.specs.Meanings.{FitsEntry, Means}
 use Rattle.flame_code.specs.Routines.{Routine}
-use Rattle.flame_faithful.specs.CodeOutcomes.{code_of}
-use Rattle.flame_faithful.proofs.Outcomes.{outcomes-run}
-use Rattle.flame_numbered.proofs.SameOutcomes.{outcomes-are-numbered}
+use Rattle.flame_code_laws.specs.CodeOutcomes.{code_of}
+use Rattle.flame_code_laws.proofs.Outcomes.{outcomes-run}
+use Rattle.flame_number_laws.proofs.SameOutcomes.{outcomes-are-numbered}
 use Rattle.flame_program.specs.SourceCodes.{function_codes, helper_codes}
 use Rattle.flame_program.specs.ProgramMeaning.{ProgramsMean}
 use Rattle.flame_program.proofs.SourceBodies.{mapped, was-mapped, helper-bodies, function-is, function-fits, function-numbered, function-calls}

@@ -9,8 +9,8 @@ use Rattle.flame_spec.specs.Accepted.{IsAccepted}
 use Rattle.flame_spec.specs.Counted.{is_counted}
 use Rattle.flame_spec.specs.Functions.{functions}
 use Rattle.flame_body.proofs.Columned.{NumberedAt, numbered-at}
-use Rattle.flame_laws.proofs.Narrow.{message_narrow, counted_condition_readable, counted_filter_readable}
-use Rattle.flame_sense.specs.Outcomes.{message_named}
+use Rattle.flame_spec_laws.proofs.Narrow.{message_narrow, counted_condition_readable, counted_filter_readable}
+use Rattle.flame_meaning.specs.Outcomes.{message_named}
 use Rattle.flame_program.specs.Readable.{AreReadableFunctions}
 use Rattle.flame_program.proofs.TypePlaces.{stands-in}
 

@@ -15,11 +15,11 @@ use Rattle.flame_spec.specs.Functions.{Place, functions}
 use Rattle.flame_spec.specs.Views.{is_read, key_of}
 use Rattle.flame_body.specs.FunctionBodies.{input_width}
 use Rattle.flame_code.specs.InputRows.{HaveWidths}
-use Rattle.flame_laws.proofs.Readings.{viewed}
+use Rattle.flame_spec_laws.proofs.Readings.{viewed}
 use Rattle.flame_lookup.proofs.Firsts.{slice_get-numbered}
-use Rattle.flame_sense.proofs.Ranges.{each_at}
-use Rattle.flame_sense.specs.Outcomes.{reading_by, reading_of, readings_at}
-use Rattle.flame_sense.specs.RangeLaws.{Each}
+use Rattle.flame_meaning.proofs.Ranges.{each_at}
+use Rattle.flame_meaning.specs.Outcomes.{reading_by, reading_of, readings_at}
+use Rattle.flame_meaning.specs.RangeLaws.{Each}
 use Rattle.flame_program.specs.AcceptanceLaws.{ReadsMessage, IsRunnable}
 use Rattle.flame_program.specs.InputWidths.{ReadingsFitCodes}
 use Rattle.flame_program.proofs.Acceptances.{accepted-are-runnable}

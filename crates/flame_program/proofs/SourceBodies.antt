@@ -26,12 +26,12 @@ use Rattle.flame_code.specs.HelperCodes.{HelperCodes, AreHelpers, calls_below, c
 use Rattle.flame_code.specs.Routines.{Routine}
 use Rattle.flame_compile.specs.Emit.{emitted}
 use Rattle.flame_compile.proofs.CallsKept.{emitted_calls}
-use Rattle.flame_faithful.specs.LocalNumbers.{tree_numbered}
-use Rattle.flame_faithful.specs.CodeOutcomes.{code_of, AreHelperBodies}
-use Rattle.flame_faithful.proofs.NumberedTrees.{definitions-numbered}
-use Rattle.flame_laws.proofs.CallRounds.{low, rises}
-use Rattle.flame_sense.specs.AcceptedMeaning.{place_in}
-use Rattle.flame_sense.proofs.Checked.{function_checked, helper_checked}
+use Rattle.flame_code_laws.specs.LocalNumbers.{tree_numbered}
+use Rattle.flame_code_laws.specs.CodeOutcomes.{code_of, AreHelperBodies}
+use Rattle.flame_code_laws.proofs.NumberedTrees.{definitions-numbered}
+use Rattle.flame_spec_laws.proofs.CallRounds.{low, rises}
+use Rattle.flame_meaning.specs.AcceptedMeaning.{place_in}
+use Rattle.flame_meaning.proofs.Checked.{function_checked, helper_checked}
 
 -- what is found is what was named
 pub same-some : {X : Type 0} (x y : X) → Some x ≡ Some y → x ≡ y

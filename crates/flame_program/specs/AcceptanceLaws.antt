@@ -17,7 +17,7 @@ use Rattle.flame_code.specs.HelperCodes.{fits}
 use Rattle.flame_code.specs.Routines.{Routine}
 use Rattle.flame_depend.specs.declared.plans.Plan.{Plan}
 use Rattle.flame_depend.specs.Plans.{IsPlan}
-use Rattle.flame_sense.specs.Outcomes.{message_named}
+use Rattle.flame_meaning.specs.Outcomes.{message_named}
 use Rattle.flame_program.specs.SourceCodes.{function_codes, helper_codes}
 
 -- a source is accepted where its model is well formed and has a plan, and neither its names nor its function files have

@@ -6,8 +6,8 @@ use Rattle.flame_spec.specs.Accepted.{IsAccepted}
 use Rattle.flame_spec.specs.Columns.{width}
 use Rattle.flame_code.specs.InputRows.{HaveWidths}
 use Rattle.flame_code.specs.Routines.{Routine}
-use Rattle.flame_sense.specs.Outcomes.{readings_of}
-use Rattle.flame_sense.specs.RangeLaws.{Each}
+use Rattle.flame_meaning.specs.Outcomes.{readings_of}
+use Rattle.flame_meaning.specs.RangeLaws.{Each}
 use Rattle.flame_program.specs.SourceCodes.{function_codes}
 
 -- what an agent reads by its function's inputs, over boards with rows as wide as their messages declare, is as wide as

@@ -6,7 +6,7 @@ use Rattle.flame_spec.specs.Accepted.{IsAccepted}
 use Rattle.flame_code.specs.InputRows.{rows_of}
 use Rattle.flame_code.specs.Meanings.{Entry, FitsEntry, Means}
 use Rattle.flame_code.specs.Routines.{Routine}
-use Rattle.flame_sense.specs.Outcomes.{outcome_over}
+use Rattle.flame_meaning.specs.Outcomes.{outcome_over}
 use Rattle.flame_program.specs.SourceCodes.{function_codes, helper_codes}
 
 -- in an accepted source the code of each function, with the codes of the helpers, means the outcome that the source

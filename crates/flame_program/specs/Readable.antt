@@ -9,7 +9,7 @@ use Rattle.flame_spec.specs.declared.models.TimeUnit.{TimeUnit}
 use Rattle.flame_spec.specs.Columns.{width}
 use Rattle.flame_spec.specs.Conditions.{agent_scope, input_scope, IsReadable}
 use Rattle.flame_spec.specs.Functions.{Place}
-use Rattle.flame_sense.specs.Outcomes.{message_named}
+use Rattle.flame_meaning.specs.Outcomes.{message_named}
 
 -- a condition of a function of this type, if there is one [own]
 abbrev pub IsReadableCondition : AgentType → List TimeUnit → Option Condition → Type 0

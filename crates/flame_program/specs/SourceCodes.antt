@@ -5,7 +5,7 @@ use Rattle.flame_spec.specs.Definitions.{helpers}
 use Rattle.flame_body.specs.FunctionBodies.{function_bodies, helper_bodies}
 use Rattle.flame_code.specs.HelperCodes.{HelperCodes}
 use Rattle.flame_code.specs.Routines.{Routine}
-use Rattle.flame_faithful.specs.CodeOutcomes.{code_of}
+use Rattle.flame_code_laws.specs.CodeOutcomes.{code_of}
 
 -- the codes of the model's functions, in document order [own]
 abbrev pub function_codes : Source → List Routine

@@ -9,7 +9,7 @@ use Rattle.flame_spec.specs.Functions.{Place, functions}
 use Rattle.flame_cond.specs.declared.forms.Test.{Test}
 use Rattle.flame_cond.specs.declared.keys.SortBy.{SortBy}
 use Rattle.flame_cond.specs.Said.{IsFilterOf, IsKeyOf}
-use Rattle.flame_sense.specs.Outcomes.{message_named}
+use Rattle.flame_meaning.specs.Outcomes.{message_named}
 use Rattle.flame_program.specs.declared.reading.Selector.{Selector}
 
 -- the filter and the key of an input of this type's function were read from what is written, over the message that was

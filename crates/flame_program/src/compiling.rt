@@ -2,7 +2,7 @@
 
 ghost use Rattle.std.specs.Prelude.{◌≡◌, IfOk, length, map};
 ghost use Rattle.flame_spec.specs.Definitions.{helpers};
-ghost use Rattle.flame_faithful.specs.CodeOutcomes.{code_of};
+ghost use Rattle.flame_code_laws.specs.CodeOutcomes.{code_of};
 ghost use Rattle.flame_lookup.specs.WordsFound.{definition_found};
 
 use flame_body::Body;

@@ -7,7 +7,7 @@ ghost use Rattle.flame_spec.specs.Columns.{width};
 ghost use Rattle.flame_spec.specs.Functions.{functions};
 ghost use Rattle.flame_cond.specs.Said.{IsConditionOf, IsFilterOf, IsKeyOf, AreConditionsOf};
 ghost use Rattle.flame_lookup.specs.WordsFound.{item_found, place_found};
-ghost use Rattle.flame_sense.specs.Outcomes.{message_named};
+ghost use Rattle.flame_meaning.specs.Outcomes.{message_named};
 ghost use Rattle.flame_program.specs.Readable.{IsReadableCondition, IsReadableFilter, IsReadableInput, AreReadableInputs};
 ghost use Rattle.flame_program.specs.Readable.{AreReadableFunctions};
 ghost use Rattle.flame_program.specs.SourceInputs.{IsSelectorOf, AreSelectors};

@@ -9,7 +9,7 @@ use Rattle.flame_body.specs.FunctionBodies.{function_body, helper_body, function
 use Rattle.flame_body.proofs.NumberedBodies.{bodies-by-number}
 use Rattle.flame_code.specs.Routines.{Routine}
 use Rattle.flame_compile.specs.Emit.{emitted}
-use Rattle.flame_faithful.specs.CodeOutcomes.{code_of}
+use Rattle.flame_code_laws.specs.CodeOutcomes.{code_of}
 use Rattle.flame_program.specs.SourceCodes.{function_codes, helper_codes}
 
 -- the instructions of a function's code

@@ -12,8 +12,6 @@ mod models;
 mod named;
 mod populations;
 mod sources;
-#[cfg(test)]
-mod tests;
 mod words;
 
 pub use codes::code_text;

@@ -8,10 +8,8 @@ use Rattle.flame_spec.specs.declared.models.MessageType.{MessageType}
 use Rattle.flame_spec.specs.declared.models.Model.{Model}
 use Rattle.flame_spec.specs.Choice.{functions_out}
 use Rattle.flame_spec.specs.Functions.{Place, functions}
-use Rattle.flame_spec.specs.States.{is_entered, states}
-use Rattle.flame_sense.specs.Outcomes.{message_named}
-use Rattle.flame_world.specs.Fields.{state_place}
-use Rattle.flame_world.specs.Meaning.{outputs_at}
+use Rattle.flame_spec.specs.States.{is_entered, states, state_place}
+use Rattle.flame_meaning.specs.Outcomes.{message_named, outputs_at}
 use Rattle.flame_route.specs.declared.routes.Route.{Route}
 use Rattle.flame_route.specs.declared.routes.Routes.{Routes}
 

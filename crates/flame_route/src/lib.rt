@@ -7,8 +7,6 @@ mod messages;
 mod routes;
 mod starts;
 mod states;
-#[cfg(test)]
-mod tests;
 mod types;
 
 pub use routes::{Route, Routes};

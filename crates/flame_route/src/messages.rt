@@ -3,7 +3,7 @@
 ghost use Rattle.std.specs.Prelude.{◌≡◌, ℕ, Some, IfOk, map, option_map, slice_get};
 ghost use Rattle.std.specs.List.{filter_map};
 ghost use Rattle.flame_spec.specs.declared.models.Input.{Input};
-ghost use Rattle.flame_sense.specs.Outcomes.{message_named};
+ghost use Rattle.flame_meaning.specs.Outcomes.{message_named};
 ghost use Rattle.flame_route.specs.ModelRoutes.{ReadsMessageOf};
 
 use flame_lookup::{Found, Table, messages_by_name};
@@ -26,7 +26,7 @@ impl<'a> Model for Messages<'a> {
     ghost use Rattle.flame_spec.specs.contracts.models.Model as m;
     ghost use Rattle.flame_spec.specs.declared.models.Model.{Model};
     ghost use Rattle.flame_lookup.specs.WordsFound.{item_found};
-    ghost use Rattle.flame_sense.specs.Outcomes.{message_named};
+    ghost use Rattle.flame_meaning.specs.Outcomes.{message_named};
 
     ghost Value = { Model };
 

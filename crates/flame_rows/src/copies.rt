@@ -3,7 +3,7 @@
 ghost use Rattle.std.specs.Prelude.{◌≡◌, IfOk};
 
 use crate::fails::NoMemory;
-use crate::parts::Part;
+use crate::boxes::Boxed;
 use crate::seqs::Seq;
 use crate::texts::Text;
 use std::alloc::Global;
@@ -39,9 +39,9 @@ impl Copied for Text {
     }
 }
 
-impl<T: Copied + Drop> Copied for Part<T> {
-    fn copy(&self, alloc: Global) -> Result<Part<T>, NoMemory> {
-        Part::of(alloc, self.get().copy(alloc)?)
+impl<T: Copied + Drop> Copied for Boxed<T> {
+    fn copy(&self, alloc: Global) -> Result<Boxed<T>, NoMemory> {
+        Boxed::of(alloc, self.get().copy(alloc)?)
     }
 }
 

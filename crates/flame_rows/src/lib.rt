@@ -7,19 +7,17 @@ mod blobs;
 mod copies;
 mod fails;
 pub mod laws;
-mod parts;
+mod boxes;
 mod rows;
 mod sameness;
 mod seqs;
-#[cfg(test)]
-mod tests;
 mod texts;
 
 pub use bags::Bag;
 pub use blobs::Blob;
 pub use copies::Copied;
 pub use fails::{Fail, NoMemory};
-pub use parts::Part;
+pub use boxes::Boxed;
 pub use rows::Row;
 pub use sameness::Same;
 pub use seqs::Seq;

@@ -2,7 +2,7 @@
 
 ghost use Rattle.std.specs.Prelude.{◌≡◌, IsTrue, ◌↔◌};
 
-use crate::parts::Part;
+use crate::boxes::Boxed;
 use crate::rows::Row;
 use crate::seqs::Seq;
 use crate::texts::Text;
@@ -44,8 +44,8 @@ impl Same for Text {
     }
 }
 
-impl<T: Same> Same for Part<T> {
-    fn same(&self, other: &Part<T>) -> bool {
+impl<T: Same> Same for Boxed<T> {
+    fn same(&self, other: &Boxed<T>) -> bool {
         self.get().same(other.get())
     }
 }

@@ -5,10 +5,10 @@ use Rattle.flame_ops.specs.declared.integers.Op.{Op}
 use Rattle.flame_ops.specs.Integers.{applied}
 use Rattle.flame_spec.specs.Conditions.{number_at}
 use Rattle.flame_spec.specs.Trees.{Indexed, Assigned}
-use Rattle.flame_sense.specs.Scenes.{Scene, Progress, array_named, element_column}
-use Rattle.flame_sense.specs.Expressions.{at_line, value_of}
-use Rattle.flame_sense.specs.Ends.{End, went_on, with_value}
-use Rattle.flame_sense.specs.Statements.{by_value, set_column, with_column, element_changed}
+use Rattle.flame_meaning.specs.Scenes.{Scene, Progress, array_named, element_column}
+use Rattle.flame_meaning.specs.Expressions.{at_line, value_of}
+use Rattle.flame_meaning.specs.Ends.{End, went_on, with_value}
+use Rattle.flame_meaning.specs.Statements.{by_value, set_column, with_column, element_changed}
 use Rattle.flame_sense.specs.StandsFor.{within_reach}
 
 -- what follows the value of an operator and an element

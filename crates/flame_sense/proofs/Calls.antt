@@ -3,10 +3,10 @@ use Rattle.std.proofs.Common.{◌≡◌, ◌≢◌, ℕ, zero, suc, ◌-◌, Lis
 use Rattle.std.specs.Prelude.{ℤ}
 use Rattle.flame_spec.specs.declared.models.Model.{Model}
 use Rattle.flame_spec.specs.Definitions.{Definition}
-use Rattle.flame_sense.specs.Scenes.{failed}
-use Rattle.flame_sense.specs.Ends.{no_fuel}
-use Rattle.flame_sense.specs.Statements.{meanings}
-use Rattle.flame_sense.specs.HelperCalls.{gives, entered, helper_scene, calls_within}
+use Rattle.flame_meaning.specs.Scenes.{failed}
+use Rattle.flame_meaning.specs.Ends.{no_fuel}
+use Rattle.flame_meaning.specs.Statements.{meanings}
+use Rattle.flame_meaning.specs.HelperCalls.{gives, entered, helper_scene, calls_within}
 
 -- a call that is paid for
 pub opened :

@@ -4,8 +4,8 @@ use Rattle.std.specs.Prelude.{ℤ, pos}
 use Rattle.std.proofs.lemmas.List.{at_drop_more, get_or-drop}
 use Rattle.flame_spec.specs.declared.trees.Parameter.{Parameter}
 use Rattle.flame_spec.specs.Conditions.{number_at}
-use Rattle.flame_sense.specs.Scenes.{Local}
-use Rattle.flame_sense.specs.HelperCalls.{parameter_locals}
+use Rattle.flame_meaning.specs.Scenes.{Local}
+use Rattle.flame_meaning.specs.HelperCalls.{parameter_locals}
 
 first_taken :
     (p : Parameter) (ps : List Parameter) (values : List ℤ) (locals : List Local)

@@ -7,7 +7,7 @@ use Rattle.flame_sense.specs.declared.words.Span.{Span}
 use Rattle.flame_spec.specs.Scopes.{given_at}
 use Rattle.flame_sense.specs.declared.scene.Open.{Open}
 use Rattle.flame_sense.specs.declared.scene.Scene as code
-use Rattle.flame_sense.specs.Scenes.{Scene, Progress, local_value, value_given, value_found, named}
+use Rattle.flame_meaning.specs.Scenes.{Scene, Progress, local_value, value_given, value_found, named}
 use Rattle.flame_sense.specs.StandsFor.{span_of, context_seen, scene_seen}
 
 pub in_memory_value :

@@ -5,8 +5,8 @@ use Rattle.std.specs.Str.{bytes_eq}
 use Rattle.std.proofs.lemmas.List.{reverse-append, map-append, at_drop_more, take-append-drop, set_split, length-reverse, length-map}
 use Rattle.std.proofs.Math.Seq.{drop-append_seam}
 use Rattle.flame_sense.specs.declared.scene.Local as variable
-use Rattle.flame_sense.specs.Scenes.{Local, local_value}
-use Rattle.flame_sense.specs.Statements.{set_local}
+use Rattle.flame_meaning.specs.Scenes.{Local, local_value}
+use Rattle.flame_meaning.specs.Statements.{set_local}
 use Rattle.flame_sense.specs.StandsFor.{local_of, visible, StandsAt}
 
 pub visible-append : (xs ys : List variable.Local) → visible (xs ++ ys) ≡ visible ys ++ visible xs

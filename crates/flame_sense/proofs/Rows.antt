@@ -3,9 +3,9 @@ use Rattle.std.proofs.Common.{◌≡◌, ℕ, zero, suc, ◌+◌, List, [], ◌�
 use Rattle.std.specs.Prelude.{ℤ, pos, Result, Ok, Err}
 use Rattle.flame_spec.specs.declared.faults.Fault.{Fault}
 use Rattle.flame_spec.specs.Conditions.{number_at}
-use Rattle.flame_sense.specs.Scenes.{numbers_from}
-use Rattle.flame_sense.specs.Expressions.{values_and}
-use Rattle.flame_sense.specs.Statements.{fitted}
+use Rattle.flame_meaning.specs.Scenes.{numbers_from}
+use Rattle.flame_meaning.specs.Expressions.{values_and}
+use Rattle.flame_meaning.specs.Statements.{fitted}
 
 -- the values before, and then these
 abbrev pub behind_values : List ℤ → Result (List ℤ) Fault → Result (List ℤ) Fault

@@ -19,14 +19,14 @@ use Rattle.flame_sense.specs.declared.ending.Ending.TheVariants.{WentOn, Broke, 
 use Rattle.flame_sense.specs.declared.scene.Scene as code
 use Rattle.flame_sense.specs.declared.scene.Open.{Open, the_lemmas}
 use Rattle.flame_sense.specs.declared.scene.Open.TheVariants.{Over}
-use Rattle.flame_sense.specs.Scenes.{Scene, Progress, Current}
-use Rattle.flame_sense.specs.Expressions.{holds, value_of}
-use Rattle.flame_sense.specs.Ends.{End, went_on, faulted, with_value, on_to, outside, leave, as_scope}
-use Rattle.flame_sense.specs.Loops.{turn, each_row}
-use Rattle.flame_sense.specs.Statements.{test_value, step_of, inside, meanings, first_arm}
-use Rattle.flame_sense.specs.Kept.{Leaves}
+use Rattle.flame_meaning.specs.Scenes.{Scene, Progress, Current}
+use Rattle.flame_meaning.specs.Expressions.{holds, value_of}
+use Rattle.flame_meaning.specs.Ends.{End, went_on, faulted, with_value, on_to, outside, leave, as_scope}
+use Rattle.flame_meaning.specs.Loops.{turn, each_row}
+use Rattle.flame_meaning.specs.Statements.{test_value, step_of, inside, meanings, first_arm}
+use Rattle.flame_meaning.specs.Kept.{Leaves}
 use Rattle.flame_sense.specs.StandsFor.{currents, scene_seen, end_of, after}
-use Rattle.flame_sense.proofs.Turns.{Falls, Fall, body_falls, step_falls, whole}
+use Rattle.flame_meaning.proofs.Turns.{Falls, Fall, body_falls, calls_fall, step_falls, whole}
 use Rattle.flame_sense.proofs.Turning.{stands_at}
 
 pub if_ok_more : {T E : Type 0} (r : Result T E) (P Q : T → Type 0) → ((x : T) → P x → Q x) → IfOk r P → IfOk r Q
@@ -226,3 +226,7 @@ pub step_left :
     → t.fuel ≤ s.fuel
 step_left step scene s t e fall h g =
     subst (Leaves Falls s) (h ∙ ap (λ x. end_of x t) g) (step_falls step scene s fall)
+
+-- the calls that the program makes
+pub scene_falls : (scene : code.Scene) (open_loops : Open) → Fall (scene_seen scene open_loops).answers
+scene_falls scene open_loops = calls_fall scene.left _ _ _ _

@@ -4,7 +4,7 @@ use Rattle.std.specs.Prelude.{ℤ, Result, Ok, Err}
 use Rattle.std.proofs.lemmas.List.{take_more}
 use Rattle.flame_spec.specs.declared.faults.Fault.{Fault}
 use Rattle.flame_spec.specs.declared.trees.Sign.{Sign}
-use Rattle.flame_sense.specs.Expressions.{on_value, signed_by, signs_value}
+use Rattle.flame_meaning.specs.Expressions.{on_value, signed_by, signs_value}
 
 signs_push :
     (signs : List Sign) (sign : Sign) (v : ℤ)

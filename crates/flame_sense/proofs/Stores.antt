@@ -4,8 +4,8 @@ use Rattle.std.specs.Prelude.{ℤ, slice_set, is_some}
 use Rattle.flame_spec.specs.LookUps.{memory_named}
 use Rattle.flame_spec.specs.Scopes.{memory_at}
 use Rattle.flame_sense.specs.declared.scene.Local as variable
-use Rattle.flame_sense.specs.Scenes.{Scene, Progress, local_value}
-use Rattle.flame_sense.specs.Statements.{set_local, set_found, set_name}
+use Rattle.flame_meaning.specs.Scenes.{Scene, Progress, local_value}
+use Rattle.flame_meaning.specs.Statements.{set_local, set_found, set_name}
 use Rattle.flame_sense.specs.StandsFor.{local_of, visible, StandsAt}
 use Rattle.flame_sense.proofs.Locals.{value_there, set_there}
 

@@ -7,8 +7,8 @@ use Rattle.flame_spec.specs.declared.models.MessageType.{MessageType}
 use Rattle.flame_spec.specs.Functions.{Place}
 use Rattle.flame_spec.specs.LookUps.{message_looped, input_of}
 use Rattle.flame_spec.specs.Scopes.{messages_at, input_found}
-use Rattle.flame_sense.specs.Scenes.{Scene, Current}
-use Rattle.flame_sense.specs.Statements.{rows_of, currents_of, currents_over, loop_currents}
+use Rattle.flame_meaning.specs.Scenes.{Scene, Current}
+use Rattle.flame_meaning.specs.Statements.{rows_of, currents_of, currents_over, loop_currents}
 use Rattle.flame_sense.specs.declared.scene.Open.{the_lemmas}
 use Rattle.flame_sense.specs.declared.scene.Open.TheVariants.{Nothing}
 use Rattle.flame_sense.specs.StandsFor.{rows_seen, currents}

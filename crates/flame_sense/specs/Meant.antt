@@ -2,7 +2,7 @@
 use Rattle.std.specs.Prelude.{◌≡◌, ℕ, ℤ, List}
 use Rattle.flame_spec.specs.declared.outcomes.Source.{Source}
 use Rattle.flame_spec.specs.declared.outcomes.Outcome.{Outcome}
-use Rattle.flame_sense.specs.Outcomes.{outcome}
+use Rattle.flame_meaning.specs.Outcomes.{outcome}
 
 -- the answer is the outcome of the function over these boards [FLAME User Manual]
 abbrev pub IsMeant :

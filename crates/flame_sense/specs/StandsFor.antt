@@ -26,9 +26,9 @@ use Rattle.flame_spec.specs.declared.models.Variable.{Variable}
 use Rattle.flame_spec.specs.Definitions.{Definition, definition, is_helper, helpers}
 use Rattle.flame_spec.specs.Functions.{Place}
 use Rattle.flame_spec.specs.Scopes.{Context, context_for}
-use Rattle.flame_sense.specs.Scenes.{Current, Scene, Local, Progress, Gave, gave, failed, local_value}
-use Rattle.flame_sense.specs.Ends.{End, went_on, broke, continued, returned, faulted}
-use Rattle.flame_sense.specs.HelperCalls.{calls_within}
+use Rattle.flame_meaning.specs.Scenes.{Current, Scene, Local, Progress, Gave, gave, failed, local_value}
+use Rattle.flame_meaning.specs.Ends.{End, went_on, broke, continued, returned, faulted}
+use Rattle.flame_meaning.specs.HelperCalls.{calls_within}
 
 -- ---- words
 

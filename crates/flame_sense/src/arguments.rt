@@ -5,9 +5,9 @@ ghost use Rattle.flame_spec.specs.declared.models.Variable.{Variable as Declared
 ghost use Rattle.flame_spec.specs.Columns.{width};
 ghost use Rattle.flame_spec.specs.Conditions.{number_at};
 ghost use Rattle.flame_spec.specs.Seen.{expression, expressions};
-ghost use Rattle.flame_sense.specs.Scenes.{numbers_from, numbers_of};
-ghost use Rattle.flame_sense.specs.Expressions.{one_of, argument_values, values_of};
-ghost use Rattle.flame_sense.specs.Statements.{fitted};
+ghost use Rattle.flame_meaning.specs.Scenes.{numbers_from, numbers_of};
+ghost use Rattle.flame_meaning.specs.Expressions.{one_of, argument_values, values_of};
+ghost use Rattle.flame_meaning.specs.Statements.{fitted};
 ghost use Rattle.flame_sense.specs.StandsFor.{within_reach, span_of, scene_seen, progress_seen};
 
 use crate::expression::{field_value, value};

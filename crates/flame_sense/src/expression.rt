@@ -3,8 +3,8 @@
 ghost use Rattle.std.specs.Prelude.{◌≡◌, ℕ, ℤ, Option, option_map};
 ghost use Rattle.flame_spec.specs.declared.models.Variable.{Variable as Declared};
 ghost use Rattle.flame_spec.specs.Seen.{expression, expressions, links as links_seen};
-ghost use Rattle.flame_sense.specs.Scenes.{element_column, field_value};
-ghost use Rattle.flame_sense.specs.Expressions.{at_line, bad_index, element_value, signed_by, signs_value, value_of, chain_value, all_value, any_value};
+ghost use Rattle.flame_meaning.specs.Scenes.{element_column, field_value};
+ghost use Rattle.flame_meaning.specs.Expressions.{at_line, bad_index, element_value, signed_by, signs_value, value_of, chain_value, all_value, any_value};
 ghost use Rattle.flame_sense.specs.StandsFor.{within_reach, span_of, scene_seen, progress_seen};
 
 use crate::scene::{Open, Progress, Scene, number_at, number_of};

@@ -1,14 +1,12 @@
 //! What transition functions mean: the outcome of a function's body for an agent, and a plain program that gives it.
 #![tactic(auto)]
 
-pub mod accepted_laws;
 mod arguments;
 mod deed;
 mod ending;
 mod expression;
 mod filter;
 mod found;
-pub mod laws;
 mod outcome;
 mod reading;
 mod scene;

@@ -3,8 +3,8 @@
 ghost use Rattle.std.specs.Prelude.{◌≡◌, IfOk, map};
 ghost use Rattle.flame_spec.specs.Definitions.{body_of};
 ghost use Rattle.flame_sense.specs.Meant.{IsMeant};
-ghost use Rattle.flame_sense.specs.Outcomes.{start, finished, scene_of};
-ghost use Rattle.flame_sense.specs.Statements.{meanings};
+ghost use Rattle.flame_meaning.specs.Outcomes.{start, finished, scene_of};
+ghost use Rattle.flame_meaning.specs.Statements.{meanings};
 ghost use Rattle.flame_sense.specs.StandsFor.{place_seen, rows_seen, progress_seen, end_of};
 
 use crate::ending::Ending;

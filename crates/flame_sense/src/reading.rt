@@ -3,7 +3,7 @@
 ghost use Rattle.std.specs.Prelude.{◌≡◌, IfOk, [], map, slice_index_or};
 ghost use Rattle.std.specs.List.{filter};
 ghost use Rattle.flame_spec.specs.Views.{is_read, view_of};
-ghost use Rattle.flame_sense.specs.Outcomes.{reading_of};
+ghost use Rattle.flame_meaning.specs.Outcomes.{reading_of};
 ghost use Rattle.flame_sense.specs.StandsFor.{rows_seen};
 
 use crate::filter::{reads, sorted};

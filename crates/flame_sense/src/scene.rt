@@ -9,9 +9,9 @@ ghost use Rattle.flame_spec.specs.ExpressionFaults.{member_read};
 ghost use Rattle.flame_spec.specs.Lists.{numbered_where};
 ghost use Rattle.flame_spec.specs.LookUps.{constant_named};
 ghost use Rattle.flame_spec.specs.Scopes.{memory_at, messages_at, given_at};
-ghost use Rattle.flame_sense.specs.Scenes.{local_value, value_given, value_found, named, array_named, got, row_over, row_read};
-ghost use Rattle.flame_sense.specs.Statements.{loop_currents};
-ghost use Rattle.flame_sense.specs.HelperCalls.{helper_scene, calls_within};
+ghost use Rattle.flame_meaning.specs.Scenes.{local_value, value_given, value_found, named, array_named, got, row_over, row_read};
+ghost use Rattle.flame_meaning.specs.Statements.{loop_currents};
+ghost use Rattle.flame_meaning.specs.HelperCalls.{helper_scene, calls_within};
 ghost use Rattle.flame_sense.specs.StandsFor.{rows_seen, currents_found, within_reach, is_written, span_of, message_of, context_seen, scene_seen, progress_seen, currents, visible, IsNewest};
 
 use crate::words::{Form, Span, span_where};

@@ -5,11 +5,11 @@ ghost use Rattle.flame_spec.specs.CallFaults.{deed_of};
 ghost use Rattle.flame_spec.specs.Definitions.{helper_named};
 ghost use Rattle.flame_spec.specs.Trees.{call as called_there, do_while};
 ghost use Rattle.flame_spec.specs.Seen.{expression, expressions, declared, assigned, indexed, stored as value_seen, statement as seen, statements as all_seen, arms as arms_seen};
-ghost use Rattle.flame_sense.specs.Scenes.{Progress as Left};
-ghost use Rattle.flame_sense.specs.Ends.{End, no_fuel, with_value, on_to, outside, as_scope};
-ghost use Rattle.flame_sense.specs.Loops.{after_turn, turn, loop, each_row};
-ghost use Rattle.flame_sense.specs.Statements.{helped, by_value, by_initial, declarations, name_set, name_changed, element_set, element_changed, assignment, done, test_value, step_of, loop_currents, inside, meaning, meanings, first_arm};
-ghost use Rattle.flame_sense.specs.HelperCalls.{gives};
+ghost use Rattle.flame_meaning.specs.Scenes.{Progress as Left};
+ghost use Rattle.flame_meaning.specs.Ends.{End, no_fuel, with_value, on_to, outside, as_scope};
+ghost use Rattle.flame_meaning.specs.Loops.{after_turn, turn, loop, each_row};
+ghost use Rattle.flame_meaning.specs.Statements.{helped, by_value, by_initial, declarations, name_set, name_changed, element_set, element_changed, assignment, done, test_value, step_of, loop_currents, inside, meaning, meanings, first_arm};
+ghost use Rattle.flame_meaning.specs.HelperCalls.{gives};
 ghost use Rattle.flame_sense.specs.StandsFor.{definition_seen, context_seen, scene_seen, progress_seen, end_of, gave_seen, after};
 ghost use Rattle.flame_sense.specs.Depths.{depth, deepest};
 

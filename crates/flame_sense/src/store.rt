@@ -2,11 +2,11 @@
 
 ghost use Rattle.std.specs.Prelude.{◌≡◌, ℕ, Option, option_map, IfOk, OnOk};
 ghost use Rattle.flame_spec.specs.declared.models.Variable.{Variable as Declared};
-ghost use Rattle.flame_sense.specs.Statements.{with_local, set_column, set_found, set_name, with_message, with_birth};
+ghost use Rattle.flame_meaning.specs.Statements.{with_local, set_column, set_found, set_name, with_message, with_birth};
 ghost use Rattle.flame_ops.specs.Integers.{applied};
-ghost use Rattle.flame_sense.specs.Expressions.{at_line};
-ghost use Rattle.flame_sense.specs.Ends.{went_on, with_value};
-ghost use Rattle.flame_sense.specs.HelperCalls.{entered};
+ghost use Rattle.flame_meaning.specs.Expressions.{at_line};
+ghost use Rattle.flame_meaning.specs.Ends.{went_on, with_value};
+ghost use Rattle.flame_meaning.specs.HelperCalls.{entered};
 ghost use Rattle.flame_sense.specs.StandsFor.{within_reach, span_of, scene_seen, progress_seen, end_of};
 
 use crate::arguments::row_of;

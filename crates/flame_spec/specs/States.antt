@@ -1,6 +1,6 @@
 -- The states of an agent type, and those where its agents start.
 use Rattle.std.specs.Prelude.{ℕ, ◌+◌, List, [], ◌∷◌, ◌++◌, Bool, not, codes, filter, nat_lt, length, Option, Some, None, if◌then◌else◌}
-use Rattle.std.specs.List.{list_any}
+use Rattle.std.specs.List.{list_any, position_or_len}
 use Rattle.std.specs.Str.{bytes_eq}
 use Rattle.flame_spec.specs.declared.models.Model.{Model}
 use Rattle.flame_spec.specs.declared.models.AgentType.{AgentType}
@@ -50,3 +50,7 @@ many_from i (type ∷ types) =
 -- the first type of the model that has two start states or more, with these [own]
 abbrev pub many_starts : Model → Option (ℕ × List (List ℕ))
 many_starts model = many_from 0 model.agents
+
+-- the place of a state among the states of its type [own]
+abbrev pub state_place : AgentType → List ℕ → ℕ
+state_place type state = position_or_len (λ other. bytes_eq other state) (states type.functions)

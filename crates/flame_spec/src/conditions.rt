@@ -1,7 +1,7 @@
 //! Conditions of functions and filters of inputs, as XMML has them.
 
 use flame_ops::Op;
-use flame_rows::{Part, Text};
+use flame_rows::{Boxed, Text};
 
 /// A condition of a function, or a filter of an input.
 #[derive(Debug, Drop)]
@@ -9,11 +9,11 @@ pub enum Condition {
     /// A comparison by `Eq`, `Ne`, `Lt`, `Gt`, `Le` or `Ge`.
     Compare(Op, Operand, Operand),
     /// Both hold.
-    And(Part<Condition>, Part<Condition>),
+    And(Boxed<Condition>, Boxed<Condition>),
     /// One of the two holds, or both.
-    Or(Part<Condition>, Part<Condition>),
+    Or(Boxed<Condition>, Boxed<Condition>),
     /// The other does not hold.
-    Not(Part<Condition>),
+    Not(Boxed<Condition>),
     /// A time condition: the name of its unit, the phase, and the duration, 1 to 2147483647. It stands in no filter.
     Time(Text, Operand, i32),
 }

@@ -2,7 +2,7 @@
 //! written, and lines count from 1. Brackets leave no trace.
 
 use flame_ops::Op;
-use flame_rows::{Part, Seq, Text};
+use flame_rows::{Boxed, Seq, Text};
 
 /// A function file: its function definitions in order.
 #[derive(Debug, Drop)]
@@ -54,7 +54,7 @@ pub enum Stmt {
     /// `while (test) body`
     While(u32, Expr, Seq<Stmt>),
     /// `for (first; test; step) body`
-    For(u32, Part<Head>, Seq<Stmt>),
+    For(u32, Boxed<Head>, Seq<Stmt>),
     /// `do body while (test);`
     Do(u32, Seq<Stmt>, Expr),
     /// A message loop: line and name of its START, its body, line and name of its FINISH.
@@ -144,9 +144,9 @@ pub enum Expr {
     /// `word->variable[e]`, an element of an array of a message.
     FieldAt(u32, Text, Text, Subscript),
     /// Signs as they are written, at least one, before what they stand for.
-    Unary(Seq<Sign>, Part<Expr>),
+    Unary(Seq<Sign>, Boxed<Expr>),
     /// Binary operators of one level, from left to right, at least one.
-    Chain(Part<Expr>, Seq<Link>),
+    Chain(Boxed<Expr>, Seq<Link>),
     /// At least two parts with `&&` between them.
     All(Seq<Expr>),
     /// At least two parts with `||` between them.
@@ -160,7 +160,7 @@ pub struct Subscript {
     /// The line of the `[`.
     pub line: u32,
     /// The element's number, from 0.
-    pub index: Part<Expr>,
+    pub index: Boxed<Expr>,
 }
 
 /// A sign and its line.

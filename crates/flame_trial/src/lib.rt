@@ -4,8 +4,6 @@
 
 mod files;
 mod populations;
-#[cfg(test)]
-mod tests;
 
 pub use files::{meadow_model, meadow_source};
 pub use populations::meadow_population;

@@ -5,8 +5,6 @@ mod inputs;
 pub mod laws;
 mod order;
 mod shown;
-#[cfg(test)]
-mod tests;
 
 pub use inputs::Views;
 pub use shown::View;

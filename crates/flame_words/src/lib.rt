@@ -8,8 +8,6 @@ mod orders;
 mod reader;
 mod reading;
 mod table;
-#[cfg(test)]
-mod tests;
 mod value;
 
 pub use faults::Usage;

@@ -6,7 +6,7 @@ use Rattle.flame_rows.specs.Order.{row_order}
 use Rattle.flame_rows.specs.Sorted.{IsAscending}
 use Rattle.flame_rows.specs.Bags.{merge}
 use Rattle.flame_rows.proofs.BagLaws.{empty_is_unit}
-use Rattle.flame_sense.specs.RangeLaws.{Each}
+use Rattle.flame_meaning.specs.RangeLaws.{Each}
 use Rattle.flame_world.specs.Fields.{changed, changed_pool, pool_in, joined_from, joined}
 
 -- what is changed to itself stays

@@ -14,10 +14,10 @@ use Rattle.flame_spec.specs.declared.models.Model.{Model}
 use Rattle.flame_spec.specs.Accepted.{has_one_start}
 use Rattle.flame_spec.specs.Choice.{choice, is_chosen}
 use Rattle.flame_spec.specs.Functions.{Place, functions}
-use Rattle.flame_spec.specs.States.{states, is_entered, start_states}
+use Rattle.flame_spec.specs.States.{states, is_entered, start_states, state_place}
 use Rattle.flame_world.specs.declared.faults.SimFault.{SimFault}
 use Rattle.flame_world.specs.AgentRuns.{survivors}
-use Rattle.flame_world.specs.Fields.{Field, HasPools, begun, opening, state_place, pool_in, changed, changed_pool, gathered}
+use Rattle.flame_world.specs.Fields.{Field, HasPools, begun, opening, pool_in, changed, changed_pool, gathered}
 use Rattle.flame_world.specs.Iterations.{Round, resting, taking, staying, outcome_in, moved, unless_faulted, step_at, step}
 use Rattle.flame_world.specs.CountLaws.{count_in, resting_in, AllAgentsBegin, SurvivorsReplaceTakers, SurvivorsAndBirthsRemain}
 use Rattle.flame_world.proofs.Eachs.{zip_at, zip_changed}

@@ -5,7 +5,7 @@ use Rattle.std.specs.List.{filter, filter_map, flat_map, cons_option, AllZip}
 use Rattle.std.specs.declared.cmp.Ordering.{Ordering}
 use Rattle.std.specs.Ordering.{is_gt}
 use Rattle.flame_rows.specs.Sorted.{with_one, sorted_by}
-use Rattle.flame_sense.specs.RangeLaws.{Each, IfAny}
+use Rattle.flame_meaning.specs.RangeLaws.{Each, IfAny}
 use Rattle.flame_world.specs.Fields.{changed}
 
 pub all_each : {X : Type 0} (P : X → Type 0) (xs : List X) → All P xs → Each P xs

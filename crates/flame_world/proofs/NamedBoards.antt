@@ -7,7 +7,7 @@ use Rattle.flame_spec.specs.declared.models.AgentType.{AgentType}
 use Rattle.flame_spec.specs.declared.models.MessageType.{MessageType}
 use Rattle.flame_spec.specs.declared.models.Input.{Input}
 use Rattle.flame_spec.specs.Functions.{Place}
-use Rattle.flame_sense.specs.Outcomes.{message_named, place_of, reading_by, reading_of, readings_at, outcome_over}
+use Rattle.flame_meaning.specs.Outcomes.{message_named, place_of, reading_by, reading_of, readings_at, outcome_over}
 use Rattle.flame_world.specs.Meaning.{view_from, readings_from}
 use Rattle.flame_world.specs.InputBoards.{board_of, boards_named, NamedBoardsAreEnough}
 

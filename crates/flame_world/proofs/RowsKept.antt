@@ -16,15 +16,15 @@ use Rattle.flame_spec.specs.declared.outcomes.Outcome.{Outcome}
 use Rattle.flame_spec.specs.declared.outcomes.Outcome.TheVariants.{Ended, Faulted}
 use Rattle.flame_spec.specs.Columns.{width}
 use Rattle.flame_spec.specs.Functions.{Place, functions, functions_from, at_type}
-use Rattle.flame_spec.specs.States.{states, is_entered}
+use Rattle.flame_spec.specs.States.{states, is_entered, state_place}
 use Rattle.flame_spec.specs.ModelOrder.{model_order}
-use Rattle.flame_sense.specs.RangeLaws.{Each, IfAny}
+use Rattle.flame_meaning.specs.RangeLaws.{Each, IfAny}
 use Rattle.flame_world.specs.declared.faults.SimFault.{SimFault}
 use Rattle.flame_world.specs.declared.turns.Turn.TheVariants.{Done}
 use Rattle.flame_world.specs.declared.worlds.World.{World}
 use Rattle.flame_world.specs.declared.worlds.Boards.{Boards}
 use Rattle.flame_world.specs.AgentRuns.{kept, sent_by, born_by, survivors, sent_from, born_from, messages_of, births_of}
-use Rattle.flame_world.specs.Fields.{Field, begun, opening, state_place, changed, changed_pool, joined_from, joined, gathered}
+use Rattle.flame_world.specs.Fields.{Field, begun, opening, changed, changed_pool, joined_from, joined, gathered}
 use Rattle.flame_world.specs.Iterations.{Round, resting, taking, staying, outcome_in, moved, unless_faulted, step_at, step, and_on, steps, turn_of, round_of, iteration}
 use Rattle.flame_world.proofs.Eachs.{mapped, each_append, each_map, each_filter, each_passing, each_filter_map, each_flat_map, each_sorted, zip_at, zip_changed, each_index, each_changed}
 

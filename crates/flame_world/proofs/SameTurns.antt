@@ -12,7 +12,7 @@ use Rattle.flame_spec.specs.declared.models.AgentType.{AgentType}
 use Rattle.flame_spec.specs.Choice.{choice, is_chosen}
 use Rattle.flame_spec.specs.ModelOrder.{model_order}
 use Rattle.flame_spec.specs.States.{is_entered, states}
-use Rattle.flame_sense.specs.Outcomes.{outcome}
+use Rattle.flame_meaning.specs.Outcomes.{outcome}
 use Rattle.flame_world.specs.declared.worlds.World.{World}
 use Rattle.flame_world.specs.Fields.{begun, opening}
 use Rattle.flame_world.specs.Iterations.{resting, taking, outcome_in, steps, turn_of, iteration}

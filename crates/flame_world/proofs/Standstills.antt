@@ -13,11 +13,12 @@ use Rattle.flame_spec.specs.Functions.{Place, functions, functions_from, at_type
 use Rattle.flame_spec.specs.Choice.{choice, is_chosen}
 use Rattle.flame_spec.specs.Before.{before}
 use Rattle.flame_spec.specs.ModelOrder.{order, model_order}
-use Rattle.flame_sense.specs.RangeLaws.{Each}
+use Rattle.flame_meaning.specs.RangeLaws.{Each}
 use Rattle.flame_world.specs.declared.turns.Turn.TheVariants.{Done}
 use Rattle.flame_world.specs.declared.worlds.World.{World}
 use Rattle.flame_world.specs.AgentRuns.{survivors, sent_from, born_from, least_fault, messages_of, births_of}
-use Rattle.flame_world.specs.Fields.{Field, begun, opening, state_place, pool_in, changed_pool, joined, gathered}
+use Rattle.flame_spec.specs.States.{state_place}
+use Rattle.flame_world.specs.Fields.{Field, begun, opening, pool_in, changed_pool, joined, gathered}
 use Rattle.flame_world.specs.Iterations.{Round, resting, taking, staying, outcome_in, moved, step_at, step, steps, unless_faulted, turn_of, round_of, iteration}
 use Rattle.flame_world.specs.IterationLaws.{HasBags, NobodyChangesNothing, NoFunctionsNoChange}
 use Rattle.flame_world.proofs.Changing.{changed_pool-same, pool-IsAscending, joined_from-none, filter-none}

@@ -17,10 +17,10 @@ use Rattle.flame_spec.specs.declared.outcomes.Outcome.{Outcome}
 use Rattle.flame_spec.specs.declared.outcomes.Outcome.TheVariants.{Ended, Faulted}
 use Rattle.flame_spec.specs.Functions.{Place, functions}
 use Rattle.flame_spec.specs.ModelOrder.{model_order}
-use Rattle.flame_sense.specs.Outcomes.{readings_of}
-use Rattle.flame_sense.specs.OutcomeLaws.{IsAgent, HasWidths}
-use Rattle.flame_sense.specs.RangeLaws.{Each}
-use Rattle.flame_sense.proofs.Leavings.{rows_have_widths}
+use Rattle.flame_meaning.specs.Outcomes.{readings_of}
+use Rattle.flame_meaning.specs.OutcomeLaws.{IsAgent, HasWidths}
+use Rattle.flame_meaning.specs.RangeLaws.{Each}
+use Rattle.flame_meaning.proofs.Leavings.{rows_have_widths}
 use Rattle.flame_world.specs.declared.faults.SimFault.{SimFault}
 use Rattle.flame_world.specs.declared.turns.Turn.TheVariants.{Done}
 use Rattle.flame_world.specs.declared.worlds.World.{World}

@@ -9,10 +9,10 @@ use Rattle.flame_spec.specs.declared.outcomes.Effect.{Effect}
 use Rattle.flame_spec.specs.declared.outcomes.Outcome.{Outcome}
 use Rattle.flame_spec.specs.declared.outcomes.Outcome.TheVariants.{Ended, Faulted}
 use Rattle.flame_spec.specs.Columns.{width}
-use Rattle.flame_sense.specs.Outcomes.{readings_of}
-use Rattle.flame_sense.specs.OutcomeLaws.{IsMessage, IsAgent, HasWidths}
-use Rattle.flame_sense.specs.RangeLaws.{IfAny}
-use Rattle.flame_sense.proofs.Leavings.{rows_have_widths}
+use Rattle.flame_meaning.specs.Outcomes.{readings_of}
+use Rattle.flame_meaning.specs.OutcomeLaws.{IsMessage, IsAgent, HasWidths}
+use Rattle.flame_meaning.specs.RangeLaws.{IfAny}
+use Rattle.flame_meaning.proofs.Leavings.{rows_have_widths}
 use Rattle.flame_world.specs.declared.worlds.World.{World}
 use Rattle.flame_world.specs.declared.worlds.Boards.{Boards}
 use Rattle.flame_world.specs.Fields.{Field, HasPools, opening}

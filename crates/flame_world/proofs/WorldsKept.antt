@@ -18,9 +18,9 @@ use Rattle.flame_spec.specs.Columns.{width}
 use Rattle.flame_spec.specs.Definitions.{definitions}
 use Rattle.flame_spec.specs.Functions.{Place, functions}
 use Rattle.flame_spec.specs.Views.{is_read}
-use Rattle.flame_sense.specs.Outcomes.{readings_of, readings_at, reading_of, reading_by, place_of, message_named}
-use Rattle.flame_sense.specs.RangeLaws.{IsInt, AreInts, AllWriteInts, Each, OutcomeIsInts}
-use Rattle.flame_sense.proofs.RangesKept.{outcomes_are_ints}
+use Rattle.flame_meaning.specs.Outcomes.{readings_of, readings_at, reading_of, reading_by, place_of, message_named}
+use Rattle.flame_meaning.specs.RangeLaws.{IsInt, AreInts, AllWriteInts, Each, OutcomeIsInts}
+use Rattle.flame_meaning.proofs.RangesKept.{outcomes_are_ints}
 use Rattle.flame_world.specs.declared.faults.SimFault.{SimFault}
 use Rattle.flame_world.specs.declared.worlds.World.{World}
 use Rattle.flame_world.specs.declared.worlds.Boards.{Boards}

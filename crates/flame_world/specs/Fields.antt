@@ -1,7 +1,6 @@
 -- Fields: where agents, births and messages are between two functions of an iteration.
 use Rattle.std.specs.Prelude.{◌≡◌, ℕ, zero, suc, ◌+◌, ℤ, List, [], ◌∷◌, map, length, slice_index_or, if◌then◌else◌}
-use Rattle.std.specs.List.{AllZip, position_or_len, zip, flat_map}
-use Rattle.std.specs.Str.{bytes_eq}
+use Rattle.std.specs.List.{AllZip, zip, flat_map}
 use Rattle.flame_rows.specs.Bags.{ascending, merge}
 use Rattle.flame_spec.specs.declared.models.Model.{Model}
 use Rattle.flame_spec.specs.declared.models.AgentType.{AgentType}
@@ -36,10 +35,6 @@ opening model agents = record {
 -- each type has a pool for each of its states [own]
 abbrev pub HasPools : Model → Field → Type 0
 HasPools model field = AllZip (λ type pools. length pools ≡ length (states type.functions)) model.agents field.pools
-
--- the place of a state among the states of its type [own]
-abbrev pub state_place : AgentType → List ℕ → ℕ
-state_place type state = position_or_len (λ other. bytes_eq other state) (states type.functions)
 
 -- the agents of a type that rest in a state [FLAME User Manual; no such state: own]
 abbrev pub pool_in : List (List (List (List ℤ))) → ℕ → ℕ → List (List ℤ)

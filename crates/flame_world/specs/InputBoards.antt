@@ -3,7 +3,7 @@ use Rattle.std.specs.Prelude.{◌≡◌, ℕ, ℤ, List, [], map, Option, Some, 
 use Rattle.flame_spec.specs.declared.models.Model.{Model}
 use Rattle.flame_spec.specs.declared.models.MessageType.{MessageType}
 use Rattle.flame_spec.specs.Functions.{Place}
-use Rattle.flame_sense.specs.Outcomes.{place_of, message_named, outcome}
+use Rattle.flame_meaning.specs.Outcomes.{place_of, message_named, outcome}
 use Rattle.flame_world.specs.declared.settings.Setting.{Setting}
 use Rattle.flame_world.specs.Settings.{boards_of}
 use Rattle.flame_world.specs.Meaning.{outcome_under}

@@ -6,7 +6,7 @@ use Rattle.flame_rows.specs.Sorted.{IsAscending}
 use Rattle.flame_rows.specs.Bags.{count_of}
 use Rattle.flame_spec.specs.declared.outcomes.Source.{Source}
 use Rattle.flame_spec.specs.Functions.{Place, functions}
-use Rattle.flame_sense.specs.RangeLaws.{Each}
+use Rattle.flame_meaning.specs.RangeLaws.{Each}
 use Rattle.flame_world.specs.declared.turns.Turn.TheVariants.{Done}
 use Rattle.flame_world.specs.declared.worlds.World.{World}
 use Rattle.flame_world.specs.Fields.{Field}

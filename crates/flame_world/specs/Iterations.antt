@@ -8,13 +8,14 @@ use Rattle.flame_spec.specs.declared.outcomes.Outcome.{Outcome}
 use Rattle.flame_spec.specs.Functions.{Place, functions}
 use Rattle.flame_spec.specs.Choice.{choice, is_chosen, takers}
 use Rattle.flame_spec.specs.ModelOrder.{model_order}
-use Rattle.flame_sense.specs.Outcomes.{outcome}
+use Rattle.flame_meaning.specs.Outcomes.{outcome}
 use Rattle.flame_world.specs.declared.faults.SimFault.{SimFault}
 use Rattle.flame_world.specs.declared.turns.Turn.{Turn}
 use Rattle.flame_world.specs.declared.turns.Turn.TheVariants.{Done, Faulted}
 use Rattle.flame_world.specs.declared.worlds.World.{World}
 use Rattle.flame_world.specs.AgentRuns.{survivors, sent_from, born_from, least_fault, messages_of, births_of}
-use Rattle.flame_world.specs.Fields.{Field, opening, state_place, pool_in, changed_pool, joined, gathered}
+use Rattle.flame_spec.specs.States.{state_place}
+use Rattle.flame_world.specs.Fields.{Field, opening, pool_in, changed_pool, joined, gathered}
 
 -- what stays the same throughout an iteration: the model and its function files, the constants, the iteration's number
 -- and the fuel of each call of a function [own]

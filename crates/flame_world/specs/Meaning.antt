@@ -1,6 +1,6 @@
 -- What a function means for the agents of a piece, over the boards of its inputs.
-use Rattle.std.specs.Prelude.{◌≡◌, ℕ, ℤ, List, [], map, Option, Some, None, option_map}
-use Rattle.std.specs.List.{filter_map, zip}
+use Rattle.std.specs.Prelude.{◌≡◌, ℕ, ℤ, List, [], map, Option, Some, None}
+use Rattle.std.specs.List.{zip}
 use Rattle.flame_rows.specs.Bags.{ascending}
 use Rattle.flame_spec.specs.declared.models.Model.{Model}
 use Rattle.flame_spec.specs.declared.models.AgentType.{AgentType}
@@ -10,7 +10,7 @@ use Rattle.flame_spec.specs.declared.outcomes.Outcome.{Outcome}
 use Rattle.flame_spec.specs.declared.outcomes.Sent.{Sent}
 use Rattle.flame_spec.specs.Functions.{Place}
 use Rattle.flame_spec.specs.Views.{view_of}
-use Rattle.flame_sense.specs.Outcomes.{place_of, message_named, outcome_over}
+use Rattle.flame_meaning.specs.Outcomes.{place_of, message_named, outputs_at, outcome_over}
 use Rattle.flame_world.specs.declared.pieces.Piece.{Piece}
 use Rattle.flame_world.specs.declared.pieces.Part.{Part}
 use Rattle.flame_world.specs.declared.pieces.Rest.{Rest}
@@ -44,12 +44,6 @@ outcome_under setting function memory =
     setting.constants.now setting.iteration setting.fuel
 
 -- ---- over the agents of a piece
-
--- the numbers of the messages that the function of this place outputs [XMML]
-abbrev pub outputs_at : Option Place → Model → List ℕ
-outputs_at None model = []
-outputs_at (Some place) model =
-    filter_map (λ output. option_map (λ found. found.0) (message_named model.messages output)) place.function.outputs
 
 -- the part of a piece for a message [own]
 abbrev pub part_for : Piece → List Sent → ℕ → Part

@@ -7,7 +7,7 @@ use Rattle.flame_spec.specs.declared.models.Model.{Model}
 use Rattle.flame_spec.specs.declared.outcomes.Source.{Source}
 use Rattle.flame_spec.specs.Columns.{width}
 use Rattle.flame_spec.specs.Definitions.{definitions}
-use Rattle.flame_sense.specs.RangeLaws.{IsInt, AreInts, AllWriteInts, Each}
+use Rattle.flame_meaning.specs.RangeLaws.{IsInt, AreInts, AllWriteInts, Each}
 use Rattle.flame_world.specs.declared.turns.Turn.TheVariants.{Done}
 use Rattle.flame_world.specs.declared.worlds.World.{World}
 use Rattle.flame_world.specs.declared.worlds.Boards.{Boards}

@@ -7,8 +7,6 @@ pub mod laws;
 mod pieces;
 mod settings;
 mod shares;
-#[cfg(test)]
-mod tests;
 mod turns;
 mod worlds;
 

@@ -18,7 +18,7 @@ use crate::parts::{fault, has, part, wanted};
 use crate::place::Place;
 use crate::words::{Connective, connective_of, name_of};
 use flame_ops::Op;
-use flame_rows::{Fail, Part, Text};
+use flame_rows::{Fail, Boxed, Text};
 use flame_spec::{Condition, Operand};
 use serde_json::Value;
 use std::alloc::Global;
@@ -46,7 +46,7 @@ pub(crate) fn condition<'p>(
             part(value, "not"),
             in_filter,
         )?;
-        Ok(Condition::Not(Part::of(alloc, inner)?))
+        Ok(Condition::Not(Boxed::of(alloc, inner)?))
     } else if has(value, "time") {
         time(
             alloc,
@@ -78,11 +78,11 @@ fn operation<'p>(
         Connective::Compare(op) => comparison(alloc, place, value, op),
         Connective::And => {
             let (left, right) = sides(alloc, place, value, in_filter)?;
-            Ok(Condition::And(Part::of(alloc, left)?, Part::of(alloc, right)?))
+            Ok(Condition::And(Boxed::of(alloc, left)?, Boxed::of(alloc, right)?))
         }
         Connective::Or => {
             let (left, right) = sides(alloc, place, value, in_filter)?;
-            Ok(Condition::Or(Part::of(alloc, left)?, Part::of(alloc, right)?))
+            Ok(Condition::Or(Boxed::of(alloc, left)?, Boxed::of(alloc, right)?))
         }
     }
 }

@@ -15,8 +15,6 @@ mod parts;
 mod place;
 mod reader;
 mod rows;
-#[cfg(test)]
-mod tests;
 mod wide;
 mod words;
 

@@ -3,7 +3,7 @@
 ghost use Rattle.std.specs.Prelude.{◌≡◌, ◌≤◌, Some, IfOk, IfErr, OnOk, length, map, slice_get};
 ghost use Rattle.std.specs.Arc.{arc_value};
 ghost use Rattle.flame_spec.specs.Functions.{Place, functions};
-ghost use Rattle.flame_sense.specs.Outcomes.{place_of};
+ghost use Rattle.flame_meaning.specs.Outcomes.{place_of};
 ghost use Rattle.flame_agent.specs.FunctionFits.{AreBoardsFor};
 ghost use Rattle.flame_world.specs.InputBoards.{boards_named};
 ghost use Rattle.flame_world.specs.WorldFits.{FitsModel};

@@ -1,6 +1,6 @@
 use Rattle.std.proofs.Common.{◌≡◌, take, map}
 use Rattle.flame_code.specs.Feeds.{not_begun}
-use Rattle.flame_sense.specs.Outcomes.{place_of}
+use Rattle.flame_meaning.specs.Outcomes.{place_of}
 use Rattle.flame_world.specs.Meaning.{readings_from}
 use Rattle.flame_world.specs.Settings.{boards_of}
 use Rattle.flame_agent.proofs.views.views_of.Given as goal

@@ -4,7 +4,7 @@ use Rattle.std.specs.List.{cons_option, filter_map}
 use Rattle.std.proofs.lemmas.Int.{to_z-of_z}
 use Rattle.std.proofs.lemmas.List.{take_all}
 use Rattle.flame_spec.specs.declared.outcomes.Outcome.{Outcome}
-use Rattle.flame_sense.specs.Outcomes.{outcome}
+use Rattle.flame_meaning.specs.Outcomes.{outcome}
 use Rattle.flame_world.specs.AgentRuns.{born_by, fault_by, kept, sent_by}
 use Rattle.flame_world.specs.Meaning.{outcome_under}
 use Rattle.flame_world.proofs.NamedBoards.{named_boards_are_enough}

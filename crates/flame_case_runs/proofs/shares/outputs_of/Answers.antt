@@ -3,7 +3,7 @@ use Rattle.std.specs.Prelude.{slice_get}
 use Rattle.std.proofs.lemmas.Option.{slice_get_past, slice_get_read}
 use Rattle.flame_spec.specs.Functions.{Place}
 use Rattle.flame_route.specs.declared.routes.Route.{Route}
-use Rattle.flame_world.specs.Meaning.{outputs_at}
+use Rattle.flame_meaning.specs.Outcomes.{outputs_at}
 use Rattle.flame_case_runs.proofs.Routed.{outputs-there, nowhere}
 use Rattle.flame_case_runs.proofs.shares.outputs_of.Goals as goal
 

@@ -5,9 +5,9 @@ use Rattle.flame_rows.specs.Bags.{ascending}
 use Rattle.flame_spec.specs.Lists.{first}
 use Rattle.flame_spec.specs.declared.outcomes.Outcome.{Outcome}
 use Rattle.flame_spec.specs.declared.outcomes.Source.{Source}
-use Rattle.flame_sense.specs.Outcomes.{place_of}
+use Rattle.flame_meaning.specs.Outcomes.{place_of, outputs_at}
 use Rattle.flame_world.specs.AgentRuns.{born_from, fault_by, kept, sent_from}
-use Rattle.flame_world.specs.Meaning.{outcome_under, outputs_at, part_for}
+use Rattle.flame_world.specs.Meaning.{outcome_under, part_for}
 use Rattle.flame_case_runs.proofs.shares.share_of.Goals as goal
 
 pub new-requires : goal.new-requires

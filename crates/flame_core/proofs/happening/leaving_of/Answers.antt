@@ -2,7 +2,7 @@ use Rattle.std.proofs.Common.{subst, w32, rules, SFits}
 use Rattle.std.specs.Prelude.{ℤ}
 use Rattle.std.proofs.lemmas.Int.{to_z-of_z}
 use Rattle.std.proofs.lemmas.Result.{IfOk-weaker}
-use Rattle.flame_sense.specs.Outcomes.{outcome}
+use Rattle.flame_meaning.specs.Outcomes.{outcome}
 use Rattle.flame_core.specs.AgentLeavings.{IsLeft}
 use Rattle.flame_core.proofs.happening.leaving_of.Goals as goal
 

@@ -3,8 +3,9 @@ use Rattle.std.proofs.Common.{◌≡◌, ◌<◌, List, length, map, refl, sym, 
 use Rattle.std.specs.Prelude.{ℕ, slice_index_or, slice_set}
 use Rattle.std.specs.List.{All}
 use Rattle.std.proofs.lemmas.List.{length-map}
-use Rattle.flame_world.specs.Fields.{changed_pool, pool_in, state_place}
-use Rattle.flame_world.specs.Meaning.{outputs_at}
+use Rattle.flame_spec.specs.States.{state_place}
+use Rattle.flame_world.specs.Fields.{changed_pool, pool_in}
+use Rattle.flame_meaning.specs.Outcomes.{outputs_at}
 use Rattle.flame_events.specs.Cuts.{cut}
 use Rattle.flame_events.specs.CoreStates.{Open}
 use Rattle.flame_events.specs.EventSteps.{fresh_work}

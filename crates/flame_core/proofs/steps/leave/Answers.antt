@@ -2,7 +2,8 @@ use Rattle.std.proofs.Common.{◌≡◌, ◌∙◌, ap, arith, length, sym, subs
 use Rattle.std.specs.Prelude.{ℤ, slice_index_or}
 use Rattle.flame_spec.specs.Choice.{takers}
 use Rattle.flame_spec.specs.Functions.{Place}
-use Rattle.flame_world.specs.Fields.{changed_pool, pool_in, state_place}
+use Rattle.flame_spec.specs.States.{state_place}
+use Rattle.flame_world.specs.Fields.{changed_pool, pool_in}
 use Rattle.flame_world.specs.Iterations.{staying, taking}
 use Rattle.flame_progress.specs.RunPools.{bag_of, pools_of}
 use Rattle.flame_core.specs.RunSteps.{round_of}

@@ -3,12 +3,13 @@ use Rattle.std.specs.Prelude.{ℤ, slice_index_or}
 use Rattle.std.specs.List.{All}
 use Rattle.std.proofs.lemmas.List.{length-map}
 use Rattle.flame_spec.specs.Columns.{width}
-use Rattle.flame_sense.specs.Outcomes.{outcome}
+use Rattle.flame_meaning.specs.Outcomes.{outcome}
 use Rattle.flame_spec.specs.declared.outcomes.Born.{Born}
 use Rattle.flame_spec.specs.declared.outcomes.Outcome.{Outcome}
 use Rattle.flame_spec.specs.declared.outcomes.Sent.{Sent}
 use Rattle.flame_world.specs.AgentRuns.{born_from, least_fault, messages_of, sent_from}
-use Rattle.flame_world.specs.Fields.{joined, state_place}
+use Rattle.flame_spec.specs.States.{state_place}
+use Rattle.flame_world.specs.Fields.{joined}
 use Rattle.flame_world.specs.Iterations.{outcome_in, staying, taking}
 use Rattle.flame_world.specs.WorldFits.{AreWide}
 use Rattle.flame_core.specs.declared.takers.Ran.{Ran}

@@ -1,5 +1,5 @@
 use Rattle.std.proofs.Common.{◌≡◌, map, take}
-use Rattle.flame_faithful.specs.CodeOutcomes.{code_of}
+use Rattle.flame_code_laws.specs.CodeOutcomes.{code_of}
 use Rattle.flame_program.proofs.compiling.codes_of.Given as goal
 
 abbrev pub invariant-loop-body : goal.invariant-loop-body

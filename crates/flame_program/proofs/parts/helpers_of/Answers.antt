@@ -3,7 +3,7 @@ use Rattle.std.proofs.Common.{◌≡◌, ℕ, List, map, length, ap, sym, ◌∙
 use Rattle.flame_spec.specs.Definitions.{Definition}
 use Rattle.flame_code.specs.HelperCodes.{AreHelpers}
 use Rattle.flame_code.specs.Routines.{Routine}
-use Rattle.flame_faithful.specs.CodeOutcomes.{code_of}
+use Rattle.flame_code_laws.specs.CodeOutcomes.{code_of}
 use Rattle.flame_program.specs.SourceCodes.{helper_codes}
 use Rattle.flame_program.proofs.SourceBodies.{helper-bodies}
 use Rattle.flame_program.proofs.parts.helpers_of.Goals as goal

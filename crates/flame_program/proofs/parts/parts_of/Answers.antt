@@ -1,7 +1,7 @@
 -- An accepted source that can be numbered can be read by columns, and its inputs read messages.
 use Rattle.std.proofs.Common.{◌∙◌, map, ap, sym, subst}
 use Rattle.flame_cond.specs.Said.{AreConditionsOf}
-use Rattle.flame_faithful.specs.CodeOutcomes.{code_of}
+use Rattle.flame_code_laws.specs.CodeOutcomes.{code_of}
 use Rattle.flame_program.specs.SourceInputs.{AreSelectors}
 use Rattle.flame_program.proofs.Acceptances.{messages-read}
 use Rattle.flame_program.proofs.Readables.{readable}

@@ -1,7 +1,7 @@
 -- The message that the input's name finds.
 use Rattle.std.proofs.Common.{◌≡◌, Some, option_map, sym, ap, ◌∙◌, subst}
 use Rattle.flame_lookup.specs.WordsFound.{item_found}
-use Rattle.flame_sense.specs.Outcomes.{message_named}
+use Rattle.flame_meaning.specs.Outcomes.{message_named}
 use Rattle.flame_program.specs.SourceInputs.{IsReadFrom}
 use Rattle.flame_program.proofs.reading.selector_of.Goals as goal
 

@@ -4,7 +4,7 @@ use Rattle.std.specs.Prelude.{slice_get}
 use Rattle.std.specs.List.{position_or_len, filter_map}
 use Rattle.std.specs.Str.{bytes_eq}
 use Rattle.flame_spec.specs.declared.models.Input.{Input}
-use Rattle.flame_sense.specs.Outcomes.{message_named}
+use Rattle.flame_meaning.specs.Outcomes.{message_named}
 use Rattle.flame_route.proofs.types.route_of.Goals as goal
 
 pub read_by_each-requires : goal.read_by_each-requires

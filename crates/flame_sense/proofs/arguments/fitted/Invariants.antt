@@ -1,5 +1,5 @@
 use Rattle.std.proofs.Common.{◌≡◌}
-use Rattle.flame_sense.specs.Statements.{fitted}
+use Rattle.flame_meaning.specs.Statements.{fitted}
 use Rattle.flame_sense.proofs.arguments.fitted.Given as goal
 
 abbrev pub invariant-loop-column : goal.invariant-loop-column

@@ -1,5 +1,5 @@
 use Rattle.std.proofs.Common.{◌≡◌, ℕ}
-use Rattle.flame_sense.specs.Scenes.{numbers_from}
+use Rattle.flame_meaning.specs.Scenes.{numbers_from}
 use Rattle.flame_sense.specs.StandsFor.{within_reach}
 use Rattle.flame_sense.proofs.arguments.numbers_from.Given as goal
 

@@ -1,6 +1,6 @@
 use Rattle.std.proofs.Common.{◌≡◌, drop}
 use Rattle.flame_spec.specs.Seen.{expressions}
-use Rattle.flame_sense.specs.Expressions.{values_of}
+use Rattle.flame_meaning.specs.Expressions.{values_of}
 use Rattle.flame_sense.specs.StandsFor.{scene_seen, progress_seen}
 use Rattle.flame_sense.proofs.Rows.{behind_values}
 use Rattle.flame_sense.proofs.arguments.values_of.Given as goal

@@ -1,6 +1,6 @@
 use Rattle.std.proofs.Common.{◌≡◌, drop}
 use Rattle.flame_spec.specs.Seen.{links, expressions}
-use Rattle.flame_sense.specs.Expressions.{chain_value, all_value, any_value}
+use Rattle.flame_meaning.specs.Expressions.{chain_value, all_value, any_value}
 use Rattle.flame_sense.specs.StandsFor.{scene_seen, progress_seen}
 use Rattle.flame_sense.proofs.expression.+value.Given as goal
 

@@ -4,7 +4,7 @@ use Rattle.std.proofs.Common.{arith, ◌≡◌, ◌+◌, ◌-◌, sym, ◌∙◌
 use Rattle.std.specs.Prelude.{Err}
 use Rattle.std.proofs.lemmas.Int.{to_z-of_z}
 use Rattle.std.proofs.lemmas.Result.{err_from_is_err_and}
-use Rattle.flame_sense.specs.Expressions.{on_value, signs_value}
+use Rattle.flame_meaning.specs.Expressions.{on_value, signs_value}
 use Rattle.flame_sense.proofs.Signs.{signs_more}
 use Rattle.flame_sense.proofs.expression.signs_value.Goals as goal
 

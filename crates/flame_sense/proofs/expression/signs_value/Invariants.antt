@@ -1,5 +1,5 @@
 use Rattle.std.proofs.Common.{◌≡◌, ◌≤◌, length, take}
-use Rattle.flame_sense.specs.Expressions.{signs_value}
+use Rattle.flame_meaning.specs.Expressions.{signs_value}
 use Rattle.flame_sense.proofs.expression.signs_value.Given as goal
 
 abbrev pub invariant-loop-at : goal.invariant-loop-at

@@ -1,5 +1,5 @@
 use Rattle.std.proofs.Common.{◌≡◌, map, take}
-use Rattle.flame_sense.specs.Outcomes.{reading_of}
+use Rattle.flame_meaning.specs.Outcomes.{reading_of}
 use Rattle.flame_sense.specs.StandsFor.{rows_seen}
 use Rattle.flame_sense.proofs.reading.readings.Given as goal
 

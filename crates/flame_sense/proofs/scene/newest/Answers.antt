@@ -1,5 +1,5 @@
 use Rattle.std.proofs.Common.{arith, ◌≡◌, ◌+◌, ◌-◌, ℕ, None, sym, ◌∙◌, subst, drop}
-use Rattle.flame_sense.specs.Scenes.{local_value}
+use Rattle.flame_meaning.specs.Scenes.{local_value}
 use Rattle.flame_sense.specs.StandsFor.{visible}
 use Rattle.flame_sense.proofs.Locals.{looked_past}
 use Rattle.flame_sense.proofs.scene.newest.Goals as goal

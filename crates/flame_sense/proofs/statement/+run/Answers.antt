@@ -15,12 +15,12 @@ use Rattle.flame_sense.specs.declared.ending.Ending.{Ending}
 use Rattle.flame_sense.specs.declared.scene.Open.TheVariants.{Nothing}
 use Rattle.flame_sense.specs.Acts.{IsNoDeeper}
 use Rattle.flame_sense.specs.Depths.{depth, deepest}
-use Rattle.flame_sense.specs.Scenes.{Progress, Scene, named, array_named, element_column}
-use Rattle.flame_sense.specs.Expressions.{at_line, value_of}
-use Rattle.flame_sense.specs.Ends.{End, went_on, with_value, on_to, as_scope}
-use Rattle.flame_sense.specs.Loops.{each_row, after_turn}
-use Rattle.flame_sense.specs.Statements.{set_column, set_name, test_value, loop_currents, meaning, meanings, first_arm}
-use Rattle.flame_sense.specs.HelperCalls.{gives, entered, helper_scene, calls_within}
+use Rattle.flame_meaning.specs.Scenes.{Progress, Scene, named, array_named, element_column}
+use Rattle.flame_meaning.specs.Expressions.{at_line, value_of}
+use Rattle.flame_meaning.specs.Ends.{End, went_on, with_value, on_to, as_scope}
+use Rattle.flame_meaning.specs.Loops.{each_row, after_turn}
+use Rattle.flame_meaning.specs.Statements.{set_column, set_name, test_value, loop_currents, meaning, meanings, first_arm}
+use Rattle.flame_meaning.specs.HelperCalls.{gives, entered, helper_scene, calls_within}
 use Rattle.flame_sense.specs.StandsFor.{within_reach, definition_seen, scene_seen, progress_seen, end_of, after}
 use Rattle.flame_sense.proofs.Assignments.{changing, element_changes}
 use Rattle.flame_sense.proofs.Calls.{opened}
@@ -28,8 +28,8 @@ use Rattle.flame_sense.proofs.Givens.{named_anywhere}
 use Rattle.flame_sense.proofs.Levels.{body_below}
 use Rattle.flame_sense.proofs.Locals.{length-visible}
 use Rattle.flame_sense.proofs.Turning.{stands_at}
-use Rattle.flame_sense.proofs.Turns.{whole, stepped, scene_falls, paid, test_faults, test_ends, test_holds}
-use Rattle.flame_sense.proofs.Runs.{if_ok_more, if_none_more, scope_end, stopped, block_falls, step_left, nonzero_holds, zero_fails, begun, copied_test, over_row, row_turn}
+use Rattle.flame_meaning.proofs.Turns.{whole, stepped, paid, test_faults, test_ends, test_holds}
+use Rattle.flame_sense.proofs.Runs.{if_ok_more, if_none_more, scope_end, stopped, block_falls, step_left, nonzero_holds, zero_fails, begun, copied_test, over_row, row_turn, scene_falls}
 use Rattle.flame_sense.proofs.statement.+run.Goals as goal
 
 pub call-statements-requires : goal.call-statements-requires

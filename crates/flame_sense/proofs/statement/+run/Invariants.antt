@@ -3,16 +3,16 @@ use Rattle.std.proofs.Common.{◌≡◌, ◌+◌, ◌*◌, max, drop, map, optio
 use Rattle.flame_spec.specs.declared.trees.Arm.{size-Arm}
 use Rattle.flame_spec.specs.declared.trees.Stmt.{size-Stmt}
 use Rattle.flame_spec.specs.Seen.{expression, declared, assigned, statements, arms}
-use Rattle.flame_sense.specs.Ends.{End}
-use Rattle.flame_sense.specs.Scenes.{Progress}
-use Rattle.flame_sense.specs.Loops.{each_row}
-use Rattle.flame_sense.specs.Statements.{test_value, declarations, loop_currents, meanings, first_arm}
+use Rattle.flame_meaning.specs.Ends.{End}
+use Rattle.flame_meaning.specs.Scenes.{Progress}
+use Rattle.flame_meaning.specs.Loops.{each_row}
+use Rattle.flame_meaning.specs.Statements.{test_value, declarations, loop_currents, meanings, first_arm}
 use Rattle.flame_sense.proofs.Runs.{over_row}
 use Rattle.flame_sense.proofs.Turning.{stands_at}
 use Rattle.flame_sense.specs.StandsFor.{scene_seen, progress_seen}
 use Rattle.flame_sense.specs.Depths.{depth}
 use Rattle.flame_sense.proofs.Levels.{levels}
-use Rattle.flame_sense.proofs.Turns.{whole}
+use Rattle.flame_meaning.proofs.Turns.{whole}
 use Rattle.flame_sense.proofs.statement.+run.Given as goal
 
 abbrev pub invariant-statements-loop-one : goal.invariant-statements-loop-one

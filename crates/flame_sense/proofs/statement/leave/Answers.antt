@@ -1,6 +1,6 @@
 use Rattle.std.proofs.Common.{ap, ◌∙◌, List}
 use Rattle.flame_sense.specs.declared.scene.Local as variable
-use Rattle.flame_sense.specs.Scenes.{Progress}
+use Rattle.flame_meaning.specs.Scenes.{Progress}
 use Rattle.flame_sense.specs.StandsFor.{progress_seen, visible}
 use Rattle.flame_sense.proofs.Locals.{visible-take}
 use Rattle.flame_sense.proofs.statement.leave.Goals as goal

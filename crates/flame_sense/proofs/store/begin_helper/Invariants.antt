@@ -1,5 +1,5 @@
 use Rattle.std.proofs.Common.{◌≡◌, [], drop}
-use Rattle.flame_sense.specs.HelperCalls.{parameter_locals}
+use Rattle.flame_meaning.specs.HelperCalls.{parameter_locals}
 use Rattle.flame_sense.specs.StandsFor.{visible}
 use Rattle.flame_sense.proofs.store.begin_helper.Given as goal
 

@@ -4,7 +4,7 @@ use Rattle.std.specs.Prelude.{ℤ}
 use Rattle.std.proofs.lemmas.Int.{to_z-of_z}
 use Rattle.flame_sense.specs.declared.scene.Local as variable
 use Rattle.flame_sense.specs.declared.scene.Open.TheVariants.{Nothing}
-use Rattle.flame_sense.specs.Scenes.{Local}
+use Rattle.flame_meaning.specs.Scenes.{Local}
 use Rattle.flame_sense.specs.StandsFor.{scene_seen, progress_seen}
 use Rattle.flame_sense.proofs.Stores.{stored_there}
 use Rattle.flame_sense.proofs.store.set_name.Goals as goal

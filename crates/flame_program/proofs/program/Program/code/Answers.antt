@@ -7,7 +7,7 @@ use Rattle.flame_spec.specs.Before.{function_count}
 use Rattle.flame_body.specs.FunctionBodies.{function_bodies}
 use Rattle.flame_body.proofs.NumberedBodies.{bodies-by-number}
 use Rattle.flame_code.specs.Routines.{Routine}
-use Rattle.flame_faithful.specs.CodeOutcomes.{code_of}
+use Rattle.flame_code_laws.specs.CodeOutcomes.{code_of}
 use Rattle.flame_program.specs.SourceCodes.{function_codes}
 use Rattle.flame_program.proofs.program.Program.code.Goals as goal
 

@@ -3,7 +3,7 @@ use Rattle.std.proofs.Common.{length, ap, ◌∙◌}
 use Rattle.std.proofs.lemmas.List.{length-map}
 use Rattle.flame_body.specs.FunctionBodies.{function_bodies}
 use Rattle.flame_body.proofs.NumberedBodies.{bodies-by-number}
-use Rattle.flame_faithful.specs.CodeOutcomes.{code_of}
+use Rattle.flame_code_laws.specs.CodeOutcomes.{code_of}
 use Rattle.flame_program.specs.SourceCodes.{function_codes}
 use Rattle.flame_program.proofs.program.Program.functions.Goals as goal
 

@@ -1,6 +1,6 @@
 use Rattle.std.proofs.Common.{◌≡◌, ◌++◌, option_map, drop}
 use Rattle.std.specs.List.{filter_map}
-use Rattle.flame_sense.specs.Outcomes.{message_named}
+use Rattle.flame_meaning.specs.Outcomes.{message_named}
 use Rattle.flame_route.proofs.messages.Messages.numbers_of.Given as goal
 
 abbrev pub invariant-loop-name : goal.invariant-loop-name

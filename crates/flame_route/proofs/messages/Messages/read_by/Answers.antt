@@ -1,7 +1,7 @@
 -- The message that is found by the name.
 use Rattle.std.proofs.Common.{◌≡◌, ◌∙◌, Some, option_map, ap, sym}
 use Rattle.flame_lookup.specs.WordsFound.{item_found}
-use Rattle.flame_sense.specs.Outcomes.{message_named}
+use Rattle.flame_meaning.specs.Outcomes.{message_named}
 use Rattle.flame_spec.specs.declared.models.Model.{Model}
 use Rattle.flame_route.proofs.messages.Messages.read_by.Goals as goal
 

@@ -1,5 +1,5 @@
 use Rattle.std.proofs.Common.{◌≡◌, ◌++◌, Some, map, option_map, drop}
-use Rattle.flame_sense.specs.Outcomes.{message_named}
+use Rattle.flame_meaning.specs.Outcomes.{message_named}
 use Rattle.flame_route.proofs.messages.Messages.read_by_each.Given as goal
 
 abbrev pub invariant-loop-input : goal.invariant-loop-input

@@ -1,5 +1,5 @@
 use Rattle.std.proofs.Common.{◌≡◌}
-use Rattle.flame_sense.specs.Scenes.{row_over}
+use Rattle.flame_meaning.specs.Scenes.{row_over}
 use Rattle.flame_sense.specs.StandsFor.{currents}
 use Rattle.flame_sense.proofs.scene.Open.row_over.Given as goal
 

@@ -4,7 +4,7 @@ use Rattle.std.proofs.Common.{rules, ◌∙◌, ap}
 use Rattle.std.proofs.lemmas.Int.{to_z-of_z}
 use Rattle.flame_spec.specs.Columns.{columned_where}
 use Rattle.flame_sense.specs.declared.words.Form.TheVariants.{Get}
-use Rattle.flame_sense.specs.Scenes.{value_found}
+use Rattle.flame_meaning.specs.Scenes.{value_found}
 use Rattle.flame_sense.specs.StandsFor.{is_written}
 use Rattle.flame_sense.proofs.scene.Scene.got.Goals as goal
 

@@ -4,8 +4,8 @@ use Rattle.std.proofs.Common.{rules, ap, ◌∙◌, ◌-◌, List}
 use Rattle.std.specs.Prelude.{ℤ}
 use Rattle.flame_spec.specs.Definitions.{helpers}
 use Rattle.flame_sense.specs.declared.scene.Open.TheVariants.{Nothing}
-use Rattle.flame_sense.specs.HelperCalls.{helper_scene, calls_within}
-use Rattle.flame_sense.specs.Scenes.{Scene, Current}
+use Rattle.flame_meaning.specs.HelperCalls.{helper_scene, calls_within}
+use Rattle.flame_meaning.specs.Scenes.{Scene, Current}
 use Rattle.flame_sense.specs.StandsFor.{currents}
 use Rattle.flame_sense.proofs.Turning.{currents_nothing}
 use Rattle.std.proofs.lemmas.Int.{to_z-of_z}

@@ -4,7 +4,7 @@ use Rattle.std.proofs.Common.{rules, ◌∙◌, ap, sym}
 use Rattle.std.proofs.lemmas.Int.{to_z-of_z}
 use Rattle.flame_spec.specs.LookUps.{given, memory_named}
 use Rattle.flame_sense.specs.declared.scene.Open.TheVariants.{Nothing}
-use Rattle.flame_sense.specs.Scenes.{value_found, value_given}
+use Rattle.flame_meaning.specs.Scenes.{value_found, value_given}
 use Rattle.flame_sense.specs.StandsFor.{scene_seen, progress_seen}
 use Rattle.flame_sense.proofs.Givens.{in_memory_value}
 use Rattle.flame_sense.proofs.scene.Scene.value_given.Goals as goal

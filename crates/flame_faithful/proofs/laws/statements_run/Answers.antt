@@ -1,6 +1,0 @@
--- The code of statements comes to what they come to.
-use Rattle.flame_faithful.proofs.FaithfulStatements.{statements-run}
-use Rattle.flame_faithful.proofs.laws.statements_run.Goals as goal
-
-pub returns : goal.returns
-returns c = statements-run

@@ -1,0 +1,98 @@
+use Rattle.std.proofs.Common.{◌++◌, ◌∙◌, ap, sym}
+use Rattle.std.proofs.lemmas.Result.{err_from_is_err_and}
+use Rattle.flame_spec.proofs.SeenForms.{statement-If, statement-For}
+use Rattle.flame_spec.specs.Scopes.{after, after_all, in_loop, in_scope, over_none}
+use Rattle.flame_spec.specs.Seen.{arms, statement, statements}
+use Rattle.flame_spec.specs.StatementFaults.{arms_faults, statement_faults, statements_faults}
+use Rattle.flame_lookup.specs.Sources.{context_at}
+use Rattle.flame_numbering.specs.Heads.{head_faults, head_seen}
+use Rattle.flame_numbering.specs.SightTables.{loop_of}
+use Rattle.flame_numbering.proofs.Firsts.{first_more_as, first_behind_as}
+use Rattle.flame_numbering.proofs.Scoping.{scope-round, scope-left, loop-round, loop-left}
+use Rattle.flame_numbering.proofs.statement.+walk_statement.Goals as goal
+
+pub block-returns-clause-kept : goal.block-returns-clause-kept
+block-returns-clause-kept t c =
+    let s = c.args.spot.now in
+    let body = statements c.args.body.now in
+    let is = c.in_ok-body.ensures.after ∙ ap (λ x. after_all x body) c.in_ok-enter.ensures in
+    scope-left s body _ _ is (c.leave.ensures s.scope s.outer (scope-round s body _ is))
+
+pub turn-returns-clause-kept : goal.turn-returns-clause-kept
+turn-returns-clause-kept t c =
+    let s = c.args.spot.now in
+    let over = loop_of c.args.over in
+    let body = statements c.args.body.now in
+    let is = c.in_ok-body.ensures.after ∙ ap (λ x. after_all x body) c.in_ok-enter_loop.ensures in
+    let round = loop-round s over body _ is in
+    loop-left s over body _ _ is (c.leave_loop.ensures s.scope s.outer over s.loops round.0 round.1)
+
+pub statement-returns-in_err-tests-in-If-clause-first : goal.statement-returns-in_err-tests-in-If-clause-first
+statement-returns-in_err-tests-in-If-clause-first t c =
+    let fail = c.from_residual-in_err-tests-in-If in
+    let p = err_from_is_err_and fail.result fail.ensures.1 in
+    let context = context_at c.args.words.now in
+    let sight = c.args.spot.now in
+    let rest = statements_faults context (in_scope sight) (statements c.in-If.otherwise) in
+    rw (p.1, p.2)
+    (first_more_as (statement_faults context sight (statement c.args.s.now))
+    (arms_faults context sight (arms c.items-in-If.result.now)) rest _
+    (ap (λ s. statement_faults context sight (statement s)) c.in-If.is
+    ∙ ap (statement_faults context sight) (statement-If c.in-If.tests c.in-If.otherwise)
+    ∙ ap (λ l. arms_faults context sight (arms l) ++ rest) (sym c.items-in-If.ensures))
+    c.in_err-tests-in-If.ensures.first)
+
+pub statement-returns-in_err-otherwise-in-If-clause-first :
+    goal.statement-returns-in_err-otherwise-in-If-clause-first
+statement-returns-in_err-otherwise-in-If-clause-first t c =
+    let fail = c.from_residual-in_err-otherwise-in-If in
+    let p = err_from_is_err_and fail.result fail.ensures.1 in
+    let context = context_at c.args.words.now in
+    let sight = c.args.spot.now in
+    let tests = arms_faults context sight (arms c.items-in-If.result.now) in
+    let body = c.items-in-If-2.result.now in
+    let last = c.arms.new.spot in
+    let rest = statements_faults context (in_scope sight) (statements c.in-If.otherwise) in
+    rw (p.1, p.2)
+    (first_behind_as (statement_faults context sight (statement c.args.s.now))
+    tests (statements_faults context (in_scope last) (statements body)) _
+    (ap (λ s. statement_faults context sight (statement s)) c.in-If.is
+    ∙ ap (statement_faults context sight) (statement-If c.in-If.tests c.in-If.otherwise)
+    ∙ ap (λ l. arms_faults context sight (arms l) ++ rest) (sym c.items-in-If.ensures)
+    ∙ ap (λ l. tests ++ statements_faults context (in_scope sight) (statements l)) (sym c.items-in-If-2.ensures)
+    ∙ ap (λ x. tests ++ statements_faults context (in_scope x) (statements body))
+    (sym c.in_ok-tests-in-If.ensures.kept))
+    c.in_ok-tests-in-If.ensures.clean
+    c.in_err-otherwise-in-If.ensures.first)
+
+pub statement-returns-in_err-head-in-For-clause-first : goal.statement-returns-in_err-head-in-For-clause-first
+statement-returns-in_err-head-in-For-clause-first t c =
+    let fail = c.from_residual-in_err-head-in-For in
+    let p = err_from_is_err_and fail.result fail.ensures.1 in
+    let context = context_at c.args.words.now in
+    let sight = c.args.spot.now in
+    let head = c.get.result.now in
+    let inside = c.enter.new.self in
+    let first = statements c.in-For.head.first in
+    let last = in_loop over_none (after_all (in_scope sight) first) in
+    let rest = statements_faults context last (statements c.in-For.body) in
+    rw (p.1, p.2)
+    (first_more_as (statement_faults context sight (statement c.args.s.now))
+    (head_faults context inside (head_seen head)) rest _
+    (ap (λ s. statement_faults context sight (statement s)) c.in-For.is
+    ∙ ap (statement_faults context sight) (statement-For c.in-For.line c.in-For.head c.in-For.body)
+    ∙ ap (λ h. head_faults context (in_scope sight) (head_seen h) ++ rest) (sym c.get.ensures)
+    ∙ ap (λ x. head_faults context x (head_seen head) ++ rest) (sym c.in_ok-enter-in-For.ensures))
+    c.in_err-head-in-For.ensures.first)
+
+pub statement-returns-in_ok-body-in-For-clause-after : goal.statement-returns-in_ok-body-in-For-clause-after
+statement-returns-in_ok-body-in-For-clause-after t c =
+    let s = c.args.spot.now in
+    let first = statements c.get.result.now.first in
+    let is = c.in_ok-body-in-For.ensures.kept
+    ∙ c.in_ok-head-in-For.ensures.after
+    ∙ ap (λ x. after_all x first) c.in_ok-enter-in-For.ensures in
+    scope-left s first _ _ is (c.leave.ensures s.scope s.outer (scope-round s first _ is))
+    ∙ sym
+    (ap (λ x. after s (statement x)) c.in-For.is
+    ∙ ap (after s) (statement-For c.in-For.line c.in-For.head c.in-For.body))
