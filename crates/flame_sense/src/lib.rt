@@ -1,4 +1,4 @@
-//! What transition functions mean: the outcome of a function's body for an agent, and a plain program that gives it.
+//! A plain program that gives what a transition function means: its outcome for an agent.
 #![tactic(auto)]
 
 mod arguments;
