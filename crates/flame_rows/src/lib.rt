@@ -4,10 +4,11 @@
 
 mod bags;
 mod blobs;
+mod boxes;
 mod copies;
 mod fails;
 pub mod laws;
-mod boxes;
+mod numbers;
 mod rows;
 mod sameness;
 mod seqs;
@@ -15,10 +16,11 @@ mod texts;
 
 pub use bags::Bag;
 pub use blobs::Blob;
+pub use boxes::Boxed;
 pub use copies::Copied;
 pub use fails::{Fail, NoMemory};
-pub use boxes::Boxed;
-pub use rows::Row;
+pub use numbers::number;
+pub use rows::{Row, SHORT_ROW};
 pub use sameness::Same;
 pub use seqs::Seq;
 pub use texts::Text;
