@@ -2,8 +2,10 @@
 
 ghost use Rattle.std.specs.Prelude.{◌≡◌, IfOk};
 
-use crate::fails::NoMemory;
+use crate::bags::Bag;
 use crate::boxes::Boxed;
+use crate::fails::NoMemory;
+use crate::rows::Row;
 use crate::seqs::Seq;
 use crate::texts::Text;
 use std::alloc::Global;
@@ -30,6 +32,18 @@ impl Copied for i32 {
 impl Copied for bool {
     fn copy(&self, _alloc: Global) -> Result<bool, NoMemory> {
         Ok(*self)
+    }
+}
+
+impl Copied for Row {
+    fn copy(&self, alloc: Global) -> Result<Row, NoMemory> {
+        Row::of_slice(alloc, self.values())
+    }
+}
+
+impl Copied for Bag {
+    fn copy(&self, _alloc: Global) -> Result<Bag, NoMemory> {
+        self.copy()
     }
 }
 

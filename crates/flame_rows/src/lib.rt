@@ -4,21 +4,26 @@
 
 mod bags;
 mod blobs;
+mod boxes;
 mod copies;
 mod fails;
 pub mod laws;
-mod boxes;
+mod numbers;
+mod parts;
 mod rows;
+mod runs;
 mod sameness;
 mod seqs;
 mod texts;
 
 pub use bags::Bag;
 pub use blobs::Blob;
+pub use boxes::Boxed;
 pub use copies::Copied;
 pub use fails::{Fail, NoMemory};
-pub use boxes::Boxed;
-pub use rows::Row;
+pub use numbers::number;
+pub use rows::{Row, SHORT_ROW};
+pub use runs::Runs;
 pub use sameness::Same;
 pub use seqs::Seq;
 pub use texts::Text;

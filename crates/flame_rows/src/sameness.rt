@@ -2,6 +2,7 @@
 
 ghost use Rattle.std.specs.Prelude.{◌≡◌, IsTrue, ◌↔◌};
 
+use crate::bags::Bag;
 use crate::boxes::Boxed;
 use crate::rows::Row;
 use crate::seqs::Seq;
@@ -35,6 +36,12 @@ impl Same for bool {
 impl Same for Row {
     fn same(&self, other: &Row) -> bool {
         same_items(self.values(), other.values())
+    }
+}
+
+impl Same for Bag {
+    fn same(&self, other: &Bag) -> bool {
+        same_items(self.rows(), other.rows())
     }
 }
 

@@ -1,0 +1,11 @@
+use Rattle.std.proofs.Common.{◌≡◌, ◌-◌, ◌++◌}
+use Rattle.std.specs.Vec.Iter.{into_iter_items}
+use Rattle.flame_rows.specs.Order.{row_order}
+use Rattle.flame_rows.specs.Sorted.{IsAscending}
+use Rattle.flame_rows.specs.Cuts.{runs, cut}
+use Rattle.flame_rows.proofs.bags.Bag.cut_into.Given as goal
+
+abbrev pub invariant-loop-piece : goal.invariant-loop-piece
+invariant-loop-piece l =
+    (l.bags.items ++ runs (l.pieces - l._piece) l.size (into_iter_items l.rest) ≡ cut l.fn.pieces l.fn.self)
+    × IsAscending row_order (into_iter_items l.rest)
