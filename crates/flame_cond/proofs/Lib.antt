@@ -1,1 +1,3 @@
 pub mod PeriodLemmas
+pub mod FormTruths
+pub mod Lengths

@@ -1,4 +1,5 @@
--- The promise: what was read says what is written.
+-- The promise: what was read is what is written, with columns for names, and says the same.
+pub mod TestForms
 pub mod Said
 -- The words that only bodies and proofs use.
 pub mod Tests

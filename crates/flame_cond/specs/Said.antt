@@ -7,11 +7,12 @@ use Rattle.flame_spec.specs.declared.models.TimeUnit.{TimeUnit}
 use Rattle.flame_spec.specs.declared.models.AgentType.{AgentType}
 use Rattle.flame_spec.specs.declared.models.MessageType.{MessageType}
 use Rattle.flame_spec.specs.declared.models.Sort.{Sort}
-use Rattle.flame_spec.specs.Conditions.{condition_holds, filter_passes}
+use Rattle.flame_spec.specs.Conditions.{agent_scope, input_scope, condition_holds, filter_passes}
 use Rattle.flame_spec.specs.Functions.{functions}
 use Rattle.flame_spec.specs.Views.{Key, key_of}
 use Rattle.flame_cond.specs.declared.forms.Test.{Test}
 use Rattle.flame_cond.specs.declared.keys.SortBy.{SortBy}
+use Rattle.flame_cond.specs.TestForms.{form_of, test_of}
 use Rattle.flame_cond.specs.Tests.{moment, answer}
 
 -- whether the condition that was read holds of a memory in an iteration [FLAME User Manual]
@@ -25,6 +26,14 @@ passes test memory row = answer test (moment memory row (pos 0))
 -- the key that was read: its column and its direction [libmboard]
 abbrev pub key_by : SortBy → Key
 key_by by = record { column = by.variable; descending = by.descending }
+
+-- what was read is the condition of a function as it is written [own]
+abbrev pub IsWrittenCondition : Test → Condition → AgentType → List TimeUnit → Type 0
+IsWrittenCondition test condition agent units = form_of test ≡ test_of (agent_scope agent units) condition
+
+-- what was read is the filter of an input as it is written [own]
+abbrev pub IsWrittenFilter : Test → Condition → AgentType → MessageType → Type 0
+IsWrittenFilter test condition agent message = form_of test ≡ test_of (input_scope agent message) condition
 
 -- what was read says what is written, of every memory in every iteration [own]
 abbrev pub SaysCondition : Test → Condition → AgentType → List TimeUnit → Type 0

@@ -1,10 +1,8 @@
 -- Tests of rows by columns: the forms in which conditions are kept once they are read.
-use Rattle.std.specs.Prelude.{◌≡◌, ℤ, List, Bool, not, ◌&&◌, ◌||◌}
-use Rattle.flame_spec.specs.declared.conditions.Condition.{Condition}
-use Rattle.flame_spec.specs.declared.conditions.Operand.{Operand}
+use Rattle.std.specs.Prelude.{ℤ, List, Bool, not, ◌&&◌, ◌||◌}
 use Rattle.flame_spec.specs.declared.models.TimeUnit.{TimeUnit}
 use Rattle.flame_spec.specs.declared.models.Variable.{Variable}
-use Rattle.flame_spec.specs.Conditions.{Scope, Moment, number_at, operand_value, compares, in_time, truth}
+use Rattle.flame_spec.specs.Conditions.{Scope, Moment, number_at, compares, in_time}
 use Rattle.flame_cond.specs.declared.forms.Term.{Term}
 use Rattle.flame_cond.specs.declared.forms.Term.TheVariants.{Number, Memory, Row}
 use Rattle.flame_cond.specs.declared.forms.Test.{Test, fold-Test}
@@ -36,13 +34,3 @@ answer_step (Test-F.Time period phase duration) now =
 -- whether the test holds [own]
 abbrev pub answer : Test → Moment → Bool
 answer = fold-Test (Moment → Bool) answer_step
-
--- what is compared has the value of what is written [own]
-abbrev pub SaysOperand : Term → Operand → List Variable → List Variable → Type 0
-SaysOperand term operand memory message =
-    (units : List TimeUnit) (now : Moment)
-    → term_value term now ≡ operand_value (names memory message units) operand now
-
--- the test holds where the condition does [own]
-abbrev pub SaysTruth : Test → Condition → Scope → Type 0
-SaysTruth test condition scope = (now : Moment) → answer test now ≡ truth scope condition now

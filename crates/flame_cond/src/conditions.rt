@@ -2,7 +2,7 @@
 
 ghost use Rattle.std.specs.Prelude.{◌≡◌, IfOk};
 ghost use Rattle.flame_spec.specs.Conditions.{IsReadable, agent_scope};
-ghost use Rattle.flame_cond.specs.Said.{holds, SaysCondition};
+ghost use Rattle.flame_cond.specs.Said.{holds, IsWrittenCondition, SaysCondition};
 
 use crate::forms::Test;
 use crate::reading::test;
@@ -12,7 +12,7 @@ use std::alloc::Global;
 use std::marker::Model;
 
 /// A condition of a function (FLAME User Manual), seen as the test that it makes of an agent's memory in an iteration.
-#[derive(Debug, Drop)]
+#[derive(Drop)]
 pub struct Cond {
     test: Test,
 }
@@ -38,7 +38,8 @@ impl Cond {
         units: &Seq<TimeUnit>,
     ) -> Result<Cond, NoMemory>
         requires { IsReadable (agent_scope agent.now units.now) condition.now }
-        ensures { IfOk result (λ cond. SaysCondition cond condition.now agent.now units.now) }
+        ensures written { IfOk result (λ cond. IsWrittenCondition cond condition.now agent.now units.now) }
+        ensures says { IfOk result (λ cond. SaysCondition cond condition.now agent.now units.now) }
     {
         let test = test(alloc, condition, agent.memory.items(), &[], units.items())?;
         Ok(Cond { test })

@@ -2,7 +2,7 @@
 
 ghost use Rattle.std.specs.Prelude.{◌≡◌, IfOk};
 ghost use Rattle.flame_spec.specs.Conditions.{IsReadable, input_scope};
-ghost use Rattle.flame_cond.specs.Said.{passes, SaysFilter};
+ghost use Rattle.flame_cond.specs.Said.{passes, IsWrittenFilter, SaysFilter};
 
 use crate::forms::Test;
 use crate::reading::test;
@@ -12,7 +12,7 @@ use std::alloc::Global;
 use std::marker::Model;
 
 /// A filter of an input (FLAME User Manual), seen as the test that it makes of an agent's memory and a message's row.
-#[derive(Debug, Drop)]
+#[derive(Drop)]
 pub struct Filter {
     test: Test,
 }
@@ -38,7 +38,8 @@ impl Filter {
         message: &MessageType,
     ) -> Result<Filter, NoMemory>
         requires { IsReadable (input_scope agent.now message.now) condition.now }
-        ensures { IfOk result (λ filter. SaysFilter filter condition.now agent.now message.now) }
+        ensures written { IfOk result (λ filter. IsWrittenFilter filter condition.now agent.now message.now) }
+        ensures says { IfOk result (λ filter. SaysFilter filter condition.now agent.now message.now) }
     {
         let test = test(
             alloc,

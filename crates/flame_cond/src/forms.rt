@@ -11,7 +11,7 @@ use flame_ops::Op;
 use flame_rows::Boxed;
 
 /// What a test compares.
-#[derive(Clone, Copy, Debug)]
+#[derive(Clone, Copy)]
 pub enum Term {
     /// A number.
     Number(i32),
@@ -22,7 +22,7 @@ pub enum Term {
 }
 
 /// A condition with columns for names and lengths for units.
-#[derive(Debug, Drop)]
+#[derive(Drop)]
 pub enum Test {
     /// A comparison.
     Compare(Op, Term, Term),

@@ -1,22 +1,13 @@
 //! What the names of a condition stand for.
 
 ghost use Rattle.std.specs.Prelude.{◌≡◌, ◌<◌, ◌^◌, pos, ◌≤ℤ◌, ◌*ℤ◌, IsTrue, All, Some, int_le};
-ghost use Rattle.flame_spec.specs.Columns.{column, width, width_of};
+ghost use Rattle.flame_spec.specs.Columns.{column, width};
 ghost use Rattle.flame_spec.specs.TimeUnits.{unit_length};
 ghost use Rattle.flame_spec.specs.Conditions.{is_length};
 
 use crate::periods::Period;
 use flame_rows::Text;
 use flame_spec::{TimeUnit, Variable};
-
-fn width_of(variable: &Variable) -> u32
-    ensures { result ≡ width_of variable.now }
-{
-    match variable.length {
-        None => 1,
-        Some(length) => length,
-    }
-}
 
 /// The column of the variable of this name: the widths before it together.
 pub fn column(variables: &[Variable], name: &str) -> u32
@@ -28,7 +19,7 @@ pub fn column(variables: &[Variable], name: &str) -> u32
         if variable.name.as_str() == name {
             return at;
         }
-        at += width_of(variable);
+        at += variable.width();
     }
     at
 }

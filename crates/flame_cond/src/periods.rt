@@ -3,7 +3,7 @@
 ghost use Rattle.std.specs.Prelude.{◌≤ℤ◌, pos};
 
 /// The length of a time unit.
-#[derive(Clone, Copy, Debug)]
+#[derive(Clone, Copy)]
 pub struct Period {
     /// Its iterations, at least 1.
     pub length: i32,

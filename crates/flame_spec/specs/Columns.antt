@@ -1,6 +1,5 @@
 -- Widths of rows, and the columns of their variables.
 use Rattle.std.specs.Prelude.{ℕ, ◌+◌, List, [], ◌∷◌, Bool, Option, Some, None, is_some, if◌then◌else◌}
-use Rattle.std.specs.List.{list_any}
 use Rattle.std.specs.Str.{bytes_eq}
 use Rattle.flame_spec.specs.declared.models.Variable.{Variable}
 
@@ -22,10 +21,6 @@ width_of variable = width_by variable.length
 abbrev pub width : List Variable → ℕ
 width [] = 0
 width (variable ∷ variables) = width_of variable + width variables
-
--- one of the variables has this name [own]
-abbrev pub has_variable : List ℕ → List Variable → Bool
-has_variable name variables = list_any (λ variable. bytes_eq variable.name name) variables
 
 -- the column of the variable of this name: the widths before it together [own]
 abbrev pub column : List ℕ → List Variable → ℕ

@@ -1,4 +1,5 @@
--- The files stand in the order in which they are read. Each definition's comment ends with its source in brackets:
+-- The files stand in the order in which they are read. The comment of a definition ends with its source in brackets, or
+-- the first line of its file where that is the source of all of it:
 -- FLAME User Manual: states, functions, messages, time, and the words by which functions read and write
 -- XMML: what a model file names, and what its parts are
 -- libmboard: boards, and filtered and sorted iterators over them
@@ -44,7 +45,6 @@ pub mod StatementFaults
 pub mod HelperFaults
 pub mod CheckFaults
 pub mod Accepted
-pub mod AcceptedOnce
 -- words of readers of values and texts
 pub mod Steps
 pub mod Json

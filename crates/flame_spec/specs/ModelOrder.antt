@@ -87,10 +87,6 @@ cycle n before = from_there (first_left n before) (cycle_from n before)
 abbrev pub model_order : Model → List ℕ
 model_order model = order (function_count model) (before model)
 
--- the rank of function f of the model: its place in model order [own]
-abbrev pub model_rank : Model → ℕ → ℕ
-model_rank model f = rank (function_count model) (before model) f
-
 -- the first function of the model that is left over [own]
 abbrev pub left_over : Model → Option ℕ
 left_over model = first_left (function_count model) (before model)

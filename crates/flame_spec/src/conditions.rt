@@ -4,7 +4,7 @@ use flame_ops::Op;
 use flame_rows::{Boxed, Text};
 
 /// A condition of a function, or a filter of an input.
-#[derive(Debug, Drop)]
+#[derive(Drop)]
 pub enum Condition {
     /// A comparison by `Eq`, `Ne`, `Lt`, `Gt`, `Le` or `Ge`.
     Compare(Op, Operand, Operand),
@@ -19,7 +19,7 @@ pub enum Condition {
 }
 
 /// What a condition compares.
-#[derive(Debug, Drop)]
+#[derive(Drop)]
 pub enum Operand {
     /// A number.
     Number(i32),

@@ -2,7 +2,7 @@
 
 ghost use Rattle.std.specs.Prelude.{◌≡◌};
 ghost use Rattle.std.specs.List.{list_all};
-ghost use Rattle.flame_spec.specs.Columns.{width_of, width};
+ghost use Rattle.flame_spec.specs.Columns.{width};
 ghost use Rattle.flame_spec.specs.Counted.{is_numbered, is_counted_row, is_counted_message, is_counted_function};
 ghost use Rattle.flame_spec.specs.Counted.{is_counted_agent, is_counted};
 ghost use Rattle.flame_spec.specs.Functions.{functions};
@@ -20,21 +20,12 @@ fn is_numbered<T>(members: &Seq<T>) -> bool
     members.len() < 4294967296
 }
 
-fn width_of(variable: &Variable) -> u32
-    ensures { result ≡ width_of variable.now }
-{
-    match variable.length {
-        None => 1,
-        Some(length) => length,
-    }
-}
-
 fn width(variables: &[Variable]) -> u128
     ensures { result ≡ width variables.now }
 {
     let mut total: u128 = 0;
     for (_i, variable) in variables.iter().enumerate() {
-        total += u128::from(width_of(variable));
+        total += u128::from(variable.width());
     }
     total
 }

@@ -1,11 +1,14 @@
 //! Models, as XMML describes them.
 
+ghost use Rattle.std.specs.Prelude.{◌≡◌};
+ghost use Rattle.flame_spec.specs.Columns.{width_of};
+
 use crate::conditions::Condition;
 use flame_rows::{Seq, Text};
 
 /// A model. Constants, messages and agent types are numbered from 0 in these orders, functions from 0 in document
 /// order: type by type, function by function.
-#[derive(Debug, Drop)]
+#[derive(Drop)]
 pub struct Model {
     /// The names of the constants.
     pub constants: Seq<Text>,
@@ -20,7 +23,7 @@ pub struct Model {
 }
 
 /// A unit of time: so many of another unit.
-#[derive(Debug, Drop)]
+#[derive(Drop)]
 pub struct TimeUnit {
     /// Its name.
     pub name: Text,
@@ -31,7 +34,7 @@ pub struct TimeUnit {
 }
 
 /// A variable of a memory or of a message, of type `int`, or an array of them.
-#[derive(Debug, Drop)]
+#[derive(Drop)]
 pub struct Variable {
     /// Its name.
     pub name: Text,
@@ -39,8 +42,20 @@ pub struct Variable {
     pub length: Option<u32>,
 }
 
+impl Variable {
+    /// How many numbers of a row the variable takes: 1, or the length of an array.
+    pub fn width(&self) -> u32
+        ensures { result ≡ width_of self.now }
+    {
+        match self.length {
+            None => 1,
+            Some(length) => length,
+        }
+    }
+}
+
 /// A message type.
-#[derive(Debug, Drop)]
+#[derive(Drop)]
 pub struct MessageType {
     /// Its name.
     pub name: Text,
@@ -49,7 +64,7 @@ pub struct MessageType {
 }
 
 /// An agent type.
-#[derive(Debug, Drop)]
+#[derive(Drop)]
 pub struct AgentType {
     /// Its name.
     pub name: Text,
@@ -60,7 +75,7 @@ pub struct AgentType {
 }
 
 /// A transition function between two states.
-#[derive(Debug, Drop)]
+#[derive(Drop)]
 pub struct Function {
     /// The name of its body in the function files, or `idle`.
     pub name: Text,
@@ -77,7 +92,7 @@ pub struct Function {
 }
 
 /// How a function reads a message.
-#[derive(Debug, Drop)]
+#[derive(Drop)]
 pub struct Input {
     /// The name of the message.
     pub message: Text,
@@ -90,7 +105,7 @@ pub struct Input {
 }
 
 /// The order in which the rows of a message are read.
-#[derive(Debug, Drop)]
+#[derive(Drop)]
 pub struct Sort {
     /// The name of the message's variable that the rows are sorted by.
     pub key: Text,

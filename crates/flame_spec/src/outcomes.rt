@@ -6,7 +6,7 @@ use crate::trees::Unit;
 use flame_rows::{Row, Seq};
 
 /// A model and its function files, one tree for each file that the model names, in that order.
-#[derive(Debug, Drop)]
+#[derive(Drop)]
 pub struct Source {
     /// The model.
     pub model: Model,
@@ -33,7 +33,7 @@ pub struct Born {
 }
 
 /// What an agent's run of its function leaves.
-#[derive(Debug, Drop)]
+#[derive(Drop)]
 pub struct Effect {
     /// The agent's memory, or `None` where the function removed the agent.
     pub memory: Option<Row>,
@@ -46,7 +46,7 @@ pub struct Effect {
 }
 
 /// How an agent's run of its function ends.
-#[derive(Debug, Drop)]
+#[derive(Drop)]
 pub enum Outcome {
     /// It returned, or ran off its end.
     Ended(Effect),

@@ -5,7 +5,7 @@ use flame_ops::Op;
 use flame_rows::{Boxed, Seq, Text};
 
 /// A function file: its function definitions in order.
-#[derive(Debug, Drop)]
+#[derive(Drop)]
 pub struct Unit {
     /// The definitions.
     pub functions: Seq<Def>,
@@ -13,7 +13,7 @@ pub struct Unit {
 
 /// A function definition, `int name(int a, int b) { .. }` (C standard, 6.9.1). One with parameters is a helper, unless
 /// its name is that of a function of the model.
-#[derive(Debug, Drop)]
+#[derive(Drop)]
 pub struct Def {
     /// The function's name.
     pub name: Text,
@@ -26,7 +26,7 @@ pub struct Def {
 }
 
 /// A parameter, `int name`.
-#[derive(Debug, Drop)]
+#[derive(Drop)]
 pub struct Parameter {
     /// The line of its `int`.
     pub line: u32,
@@ -37,7 +37,7 @@ pub struct Parameter {
 /// A statement (C standard, 6.8) or one of FLAME's macros. A `u32` is the line of the word or keyword that begins it,
 /// unless it says otherwise. A body without braces is a list of one statement.
 #[cycle(tree)]
-#[derive(Debug, Drop)]
+#[derive(Drop)]
 pub enum Stmt {
     /// `;`
     Empty,
@@ -68,7 +68,7 @@ pub enum Stmt {
 }
 
 /// A local that a declaration declares.
-#[derive(Debug, Drop)]
+#[derive(Drop)]
 pub struct Item {
     /// The line of its name.
     pub line: u32,
@@ -80,7 +80,7 @@ pub struct Item {
 
 /// An assignment. `x += e` has the operator `Add`; `x++` and `++x` have it with the value 1, and `x--` and `--x` have
 /// `Sub` with the value 1.
-#[derive(Debug, Drop)]
+#[derive(Drop)]
 pub struct Assign {
     /// The line of the name.
     pub line: u32,
@@ -97,7 +97,7 @@ pub struct Assign {
 }
 
 /// The right side of an assignment or of a declaration: what it stores.
-#[derive(Debug, Drop)]
+#[derive(Drop)]
 pub enum Value {
     /// An expression.
     Plain(Expr),
@@ -107,7 +107,7 @@ pub enum Value {
 
 /// A test of an `if` and the body that runs where it is the first that holds.
 #[cycle(tree)]
-#[derive(Debug, Drop)]
+#[derive(Drop)]
 pub struct Arm {
     /// The test.
     pub test: Expr,
@@ -117,7 +117,7 @@ pub struct Arm {
 
 /// The head of a `for`.
 #[cycle(tree)]
-#[derive(Debug, Drop)]
+#[derive(Drop)]
 pub struct Head {
     /// The first statement, a declaration or an assignment; at most one.
     pub first: Seq<Stmt>,
@@ -129,7 +129,7 @@ pub struct Head {
 
 /// An expression (C standard, 6.5). A `u32` is the line of the word that begins it.
 #[cycle(expression)]
-#[derive(Debug, Drop)]
+#[derive(Drop)]
 pub enum Expr {
     /// A number.
     Number(i32),
@@ -155,7 +155,7 @@ pub enum Expr {
 
 /// Which element of an array.
 #[cycle(expression)]
-#[derive(Debug, Drop)]
+#[derive(Drop)]
 pub struct Subscript {
     /// The line of the `[`.
     pub line: u32,
@@ -185,7 +185,7 @@ pub enum SignKind {
 
 /// A binary operator and the operand after it.
 #[cycle(expression)]
-#[derive(Debug, Drop)]
+#[derive(Drop)]
 pub struct Link {
     /// The operator.
     pub op: Op,

@@ -6,7 +6,7 @@ use flame_rows::{Seq, Text};
 /// What one model file says. It means the model that is got by joining it with the files that it names, where a message,
 /// a data type or a function file of a name that an earlier file gave is passed over, and by putting the fields of a data
 /// type in the place of each variable of it.
-#[derive(Debug, Drop)]
+#[derive(Drop)]
 pub struct Wide {
     /// The names of the constants.
     pub constants: Seq<Text>,
@@ -25,7 +25,7 @@ pub struct Wide {
 }
 
 /// A variable of `int` or of a data type, or an array.
-#[derive(Debug, Drop)]
+#[derive(Drop)]
 pub struct WideVariable {
     /// Its name.
     pub name: Text,
@@ -36,7 +36,7 @@ pub struct WideVariable {
 }
 
 /// A data type: variables that stand together.
-#[derive(Debug, Drop)]
+#[derive(Drop)]
 pub struct DataType {
     /// Its name.
     pub name: Text,
@@ -45,7 +45,7 @@ pub struct DataType {
 }
 
 /// A message type.
-#[derive(Debug, Drop)]
+#[derive(Drop)]
 pub struct WideMessage {
     /// Its name.
     pub name: Text,
@@ -54,7 +54,7 @@ pub struct WideMessage {
 }
 
 /// An agent type.
-#[derive(Debug, Drop)]
+#[derive(Drop)]
 pub struct WideAgent {
     /// Its name.
     pub name: Text,

@@ -1,0 +1,2 @@
+-- Tables in which something stands behind a name.
+pub mod NameTables
