@@ -5,6 +5,7 @@ ghost use Rattle.std.specs.Option.{option_copied};
 ghost use Rattle.flame_rows.specs.Sorted.{sorted_by};
 ghost use Rattle.flame_spec.specs.Views.{view_order};
 ghost use Rattle.flame_cond.specs.Said.{key_by};
+ghost use Rattle.flame_index.specs.FrozenBoards.{messages_on};
 ghost use Rattle.flame_view.specs.Compiled.{picked_by, view_by};
 
 use crate::order::compare;
@@ -99,7 +100,8 @@ impl<'a> View<'a> {
         sort: Option<SortBy>,
         memory: &Row,
     ) -> Result<View<'a>, NoMemory>
-        ensures { IfOk result (λ view. view ≡ view_by (option_copied filter.entry) sort memory.now board.now) }
+        ensures { IfOk result (λ view. view
+            ≡ view_by (option_copied filter.entry) sort memory.now (messages_on board.now)) }
     {
         let rows = board.bag().rows();
         if let Some(by) = sort {

@@ -10,6 +10,8 @@ pub mod Iterations
 pub mod Settings
 pub mod Meaning
 pub mod Shares
+-- ---- traces
+pub mod Verdicts
 -- ---- laws
 pub mod IterationLaws
 pub mod WorldLaws

@@ -1,5 +1,5 @@
-//! The world of agents and its iteration: how the agents of a population go through the functions of a model, and what a
-//! share of that work is.
+//! The world of agents and its iteration: how the agents of a population go through the functions of a model, and what
+//! a share of that work is.
 #![tactic(auto)]
 
 mod faults;
@@ -8,6 +8,7 @@ mod pieces;
 mod settings;
 mod shares;
 mod turns;
+mod verdicts;
 mod worlds;
 
 pub use faults::SimFault;
@@ -15,4 +16,5 @@ pub use pieces::{Part, Piece, Rest};
 pub use settings::Setting;
 pub use shares::Share;
 pub use turns::Turn;
+pub use verdicts::Verdict;
 pub use worlds::{Boards, World};

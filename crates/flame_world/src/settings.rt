@@ -1,7 +1,7 @@
 //! What the agents of a piece have before them.
 
 ghost use Rattle.std.specs.Prelude.{IsTrue, ◌↔◌, ◌≡◌, map};
-ghost use Rattle.std.specs.Arc.{arc_value};
+ghost use Rattle.flame_index.specs.FrozenBoards.{shared_messages};
 ghost use Rattle.flame_world.specs.Settings.{SameSetting};
 
 use flame_index::Frozen;
@@ -41,14 +41,14 @@ fn same_rows(ones: &[Row], twos: &[Row]) -> bool
 
 /// Whether both boards have the same messages.
 fn same_board(one: &Arc<Frozen>, two: &Arc<Frozen>) -> bool
-    ensures { IsTrue result ↔ (arc_value one.now ≡ arc_value two.now) }
+    ensures { IsTrue result ↔ (shared_messages one.now ≡ shared_messages two.now) }
 {
     same_rows(one.bag().rows(), two.bag().rows())
 }
 
 /// Whether both are the same boards in the same order.
 fn same_boards(ones: &[Arc<Frozen>], twos: &[Arc<Frozen>]) -> bool
-    ensures { IsTrue result ↔ (map arc_value ones.now ≡ map arc_value twos.now) }
+    ensures { IsTrue result ↔ (map shared_messages ones.now ≡ map shared_messages twos.now) }
 {
     if ones.len() != twos.len() {
         return false;

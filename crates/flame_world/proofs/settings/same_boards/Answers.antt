@@ -1,6 +1,6 @@
 use Rattle.std.proofs.Common.{◌≡◌, ◌<◌, length, arith, refl}
-use Rattle.std.specs.Arc.{arc_value}
 use Rattle.std.proofs.lemmas.Bool.{false≢true}
+use Rattle.flame_index.specs.FrozenBoards.{shared_messages}
 use Rattle.flame_world.proofs.Sames.{seen_alike, alike_more}
 use Rattle.flame_world.proofs.settings.same_boards.Goals as goal
 
@@ -13,7 +13,7 @@ returns-then-not-same_board c =
       λ no. absurd (false≢true no),
       λ same.
           c.if-not-same_board.ensures.1
-          (seen_alike arc_value ones twos c.loop-i.i _ _ within long c.index-ones-i.is c.index-twos-i.is same),
+          (seen_alike shared_messages ones twos c.loop-i.i _ _ within long c.index-ones-i.is c.index-twos-i.is same),
     )
 
 pub loop-i-preserved : goal.loop-i-preserved
@@ -22,5 +22,5 @@ loop-i-preserved c =
     let twos = c.args.twos.now in
     let within : c.loop-i.i < length ones = omega arith in
     let long : length ones ≡ length twos = omega arith in
-    alike_more arc_value ones twos c.loop-i.i _ _ within long c.index-ones-i.is c.index-twos-i.is c.loop-i.invariant
-    (c.if-not-same_board.ensures.0 refl)
+    alike_more shared_messages ones twos c.loop-i.i _ _ within long c.index-ones-i.is c.index-twos-i.is
+    c.loop-i.invariant (c.if-not-same_board.ensures.0 refl)
