@@ -7,6 +7,8 @@ use Rattle.std.proofs.lemmas.Bool.{eq-eqb, eqb-true, false≢true, cases_lt, cas
 use Rattle.std.proofs.lemmas.List.{length-map, get_or-take, length-take-le}
 use Rattle.std.proofs.lemmas.List.Folds.{list_any-append}
 use Rattle.std.proofs.lemmas.Slice.Eq.{bytes_eq-Decides}
+use Rattle.std.proofs.lemmas.Option.{slice_get_within, slice_get-map, slice_get-get_or}
+use Rattle.flame_rows.proofs.Bytes.{bytes_eq-self}
 use Rattle.flame_spec.specs.declared.models.Model.{Model}
 use Rattle.flame_spec.specs.declared.models.AgentType.{AgentType}
 use Rattle.flame_spec.specs.declared.models.Function.{Function}
@@ -20,21 +22,6 @@ use Rattle.flame_spec.proofs.Orders.{order_is_order, ready_taken, none_left_over
 use Rattle.flame_spec.proofs.Starts.{start_from}
 
 -- ---- elements by their places
-
-some_within : {X : Type 0} (xs : List X) (i : ℕ) (y : X) → slice_get xs i ≡ Some y → i < length xs
-some_within [] i y h = cc
-some_within (x ∷ xs) zero y h = omega arith
-some_within (x ∷ xs) (suc i) y h = omega (arith, some_within xs i y h)
-
-get_at : {X : Type 0} (xs : List X) (i : ℕ) (d : X) → i < length xs → slice_get xs i ≡ Some (get_or xs i d)
-get_at [] i d h = absurd (omega arith)
-get_at (x ∷ xs) zero d h = refl
-get_at (x ∷ xs) (suc i) d h = get_at xs i d (omega arith)
-
-get_map : {X Y : Type 0} (v : X → Y) (xs : List X) (i : ℕ) → slice_get (map v xs) i ≡ option_map v (slice_get xs i)
-get_map v [] i = refl
-get_map v (x ∷ xs) zero = refl
-get_map v (x ∷ xs) (suc i) = get_map v xs i
 
 get_left : {X : Type 0} (xs ys : List X) (i : ℕ) → i < length xs → slice_get (xs ++ ys) i ≡ slice_get xs i
 get_left [] ys i h = absurd (omega arith)
@@ -71,8 +58,8 @@ function_at first (t ∷ ts) zero type k function h g =
     let there : slice_get t.functions k ≡ Some function = ap (λ (u : AgentType). slice_get u.functions k) same ∙ g in
     let number : first ≡ first + 0 = omega arith in (
       k,
-      get_left (map (at_type first t) t.functions) (functions_from (first + 1) ts) k (omega (arith, some_within t.functions k function there, length-map t.functions (at_type first t)))
-          ∙ get_map (at_type first t) t.functions k ∙ ap (option_map (at_type first t)) there
+      get_left (map (at_type first t) t.functions) (functions_from (first + 1) ts) k (omega (arith, slice_get_within t.functions k function there, length-map t.functions (at_type first t)))
+          ∙ slice_get-map (at_type first t) t.functions k ∙ ap (option_map (at_type first t)) there
           ∙ ap (λ u. Some (at_type first u function)) same ∙ ap (λ n. Some (at_type n type function)) number,
     )
 function_at first (t ∷ ts) (suc a) type k function h g =
@@ -93,7 +80,7 @@ record IsOfType (first : ℕ) (types : List AgentType) (p : Place) : Type 0 wher
 of_type : (first : ℕ) (types : List AgentType) (f : ℕ) (p : Place) → slice_get (functions_from first types) f ≡ Some p → IsOfType first types p
 of_type first [] f p h = cc
 of_type first (t ∷ ts) f p h = ⊎_elim
-    (λ l. go (slice_get t.functions f) refl (sym (get_map (at_type first t) t.functions f) ∙ sym (get_left (map (at_type first t) t.functions) (functions_from (first + 1) ts) f l) ∙ h))
+    (λ l. go (slice_get t.functions f) refl (sym (slice_get-map (at_type first t) t.functions f) ∙ sym (get_left (map (at_type first t) t.functions) (functions_from (first + 1) ts) f l) ∙ h))
     (λ l. later (of_type (first + 1) ts (f - length (map (at_type first t) t.functions)) p (sym (get_right (map (at_type first t) t.functions) (functions_from (first + 1) ts) (f - length (map (at_type first t) t.functions)) f (omega (arith, l))) ∙ h)))
     (cases_lt f (length (map (at_type first t) t.functions)))
   where
@@ -115,15 +102,12 @@ of_type first (t ∷ ts) f p h = ⊎_elim
 
 -- ---- states of a type
 
-bytes_self : (text : List ℕ) → bytes_eq text text ≡ true
-bytes_self text = (bytes_eq-Decides text text).1 refl
-
 current_among : (fs : List Function) (k : ℕ) (f : Function) → slice_get fs k ≡ Some f → is_among f.current (ends fs) ≡ true
 current_among [] k f h = cc
 current_among (x ∷ fs) zero f h =
     let same : x ≡ f = cc in
     ap (λ (y : Function). bytes_eq f.current y.current || (bytes_eq f.current y.next || is_among f.current (ends fs))) same
-    ∙ ap (λ b. b || (bytes_eq f.current f.next || is_among f.current (ends fs))) (bytes_self f.current)
+    ∙ ap (λ b. b || (bytes_eq f.current f.next || is_among f.current (ends fs))) (bytes_eq-self f.current)
 current_among (x ∷ fs) (suc k) f h = both (bytes_eq f.current x.current) (bytes_eq f.current x.next) (is_among f.current (ends fs)) (current_among fs k f h)
   where
     both : (a b c : Bool) → c ≡ true → (a || (b || c)) ≡ true
@@ -202,7 +186,7 @@ module _ (model : Model) (acyclic : left_over model ≡ None) (a : ℕ) (type : 
           ap (λ b. b && bytes_eq p.function.current entered.1.0.next) (eq-eqb (0 + a) p.agent (omega (arith, q)))
           ∙ (bytes_eq-Decides p.function.current entered.1.0.next).1 state in
           let stands : before model from.0 g ≡ true = ap (λ o. both_stand o (slice_get (functions model) g)) from.1 ∙ ap (both_stand (Some (at_type (0 + a) type entered.1.0))) e ∙ ap (λ b. b || feeds entered.1.0 p.function) leads in
-          let within = some_within (functions model) from.0 (at_type (0 + a) type entered.1.0) from.1 in
+          let within = slice_get_within (functions model) from.0 (at_type (0 + a) type entered.1.0) from.1 in
           let o = order_is_order (function_count model) (before model) in
           let taken = ready_taken (function_count model) (before model) (take i fs) g (o.ready i (omega (arith, l, h))) from.0 within stands in
           let at = in_at from.0 (take i fs) taken in
@@ -215,7 +199,7 @@ module _ (model : Model) (acyclic : left_over model ≡ None) (a : ℕ) (type : 
   no_functions k f h =
       let fs = order (function_count model) (before model) in
       let there = function_at 0 model.agents a type k f typed h in
-      let within = some_within (functions model) there.0 (at_type (0 + a) type f) there.1 in
+      let within = slice_get_within (functions model) there.0 (at_type (0 + a) type f) there.1 in
       let at = in_at there.0 fs (none_left_over (function_count model) (before model) acyclic there.0 within) in
       none_first (length fs) (omega arith) at.0 at.1.0 (at_type (0 + a) type f) (ap (slice_get (functions model)) at.1.1 ∙ there.1) (omega arith)
 
@@ -229,5 +213,5 @@ module _ (model : Model) (acyclic : left_over model ≡ None) (a : ℕ) (type : 
 pub types_start : (model : Model) → left_over model ≡ None → All (λ type. 0 < length (start_states type.functions)) model.agents
 types_start model acyclic = λ a d l. ⊎_elim
     (λ h. h)
-    (λ h. absurd (no_type model acyclic a (get_or model.agents a d) (get_at model.agents a d l) (λ k. omega (arith, h, k))))
+    (λ h. absurd (no_type model acyclic a (get_or model.agents a d) (slice_get-get_or model.agents a d l) (λ k. omega (arith, h, k))))
     (cases_lt 0 (length (start_states (get_or model.agents a d).functions)))

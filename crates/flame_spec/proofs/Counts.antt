@@ -1,16 +1,11 @@
 -- What is counted has few members.
-use Rattle.std.proofs.Common.{◌≡◌, ◌<◌, ◌^◌, Bool, true, false, true≢false, List, length, IsTrue, refl, sym}
-use Rattle.std.specs.Prelude.{◌&&◌}
+use Rattle.std.proofs.Common.{◌<◌, ◌^◌, List, length, IsTrue}
 use Rattle.std.specs.List.{list_all}
-use Rattle.std.proofs.lemmas.Bool.{ltb-true}
+use Rattle.std.proofs.lemmas.Bool.{ltb-true, and_parts}
 use Rattle.flame_spec.specs.declared.models.Model.{Model}
 use Rattle.flame_spec.specs.Before.{function_count}
 use Rattle.flame_spec.specs.Functions.{functions}
 use Rattle.flame_spec.specs.Counted.{is_numbered, is_counted_message, is_counted_agent, is_counted}
-
-both : (a b : Bool) → a && b ≡ true → (a ≡ true) × (b ≡ true)
-both true b h = (refl, h)
-both false b h = absurd (true≢false (sym h))
 
 -- there is a number for each member
 pub few : {X : Type 0} (members : List X) → IsTrue (is_numbered members) → length members < 2 ^ 32
@@ -29,13 +24,13 @@ pub record HasFew (model : Model) : Type 0 where
 
 pub has_few : (model : Model) → IsTrue (is_counted model) → HasFew model
 has_few model h =
-    let a = both _ _ h in
-    let b = both _ _ a.1 in
-    let c = both _ _ b.1 in
-    let d = both _ _ c.1 in
-    let e = both _ _ d.1 in
-    let f = both _ _ e.1 in
-    let g = both _ _ f.1 in
+    let a = and_parts _ _ h in
+    let b = and_parts _ _ a.1 in
+    let c = and_parts _ _ b.1 in
+    let d = and_parts _ _ c.1 in
+    let e = and_parts _ _ d.1 in
+    let f = and_parts _ _ e.1 in
+    let g = and_parts _ _ f.1 in
     record {
       constants = a.0;
       files = b.0;

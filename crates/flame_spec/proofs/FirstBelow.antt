@@ -1,4 +1,5 @@
 -- The first number below a bound that passes, and lists of numbers.
+use mathlib.Core.Bool.{or-false, or-true}
 use Rattle.std.proofs.Common.{◌≡◌, ℕ, zero, suc, ◌+◌, ◌<◌, ◌≤◌, List, [], ◌∷◌, ◌++◌, refl, sym, ap, ◌∙◌, arith, true, false, Bool, Some, None, Option, cond, ⊎_elim}
 use Rattle.std.specs.Prelude.{◌==◌, ◌&&◌, ◌||◌, nat_lt}
 use Rattle.std.specs.Option.{option_or}
@@ -62,19 +63,11 @@ first_agree test other (suc n) h =
 abbrev pub one : Bool → ℕ
 one b = cond b 1 0
 
-or_false : (b : Bool) → (b || false) ≡ b
-or_false true = refl
-or_false false = refl
-
-pub or_true : (b : Bool) → (b || true) ≡ true
-or_true true = refl
-or_true false = refl
-
 pub is_in_push : (g f : ℕ) (fs : List ℕ) → is_in g (fs ++ f ∷ []) ≡ (is_in g fs || (f == g))
-is_in_push g f fs = list_any-append (λ x. x == g) fs (f ∷ []) ∙ ap (λ b. is_in g fs || b) (or_false (f == g))
+is_in_push g f fs = list_any-append (λ x. x == g) fs (f ∷ []) ∙ ap (λ b. is_in g fs || b) (or-false (f == g))
 
 pub is_in_self : (g : ℕ) (fs : List ℕ) → is_in g (fs ++ g ∷ []) ≡ true
-is_in_self g fs = is_in_push g g fs ∙ ap (λ b. is_in g fs || b) (eq-eqb g g refl) ∙ or_true (is_in g fs)
+is_in_self g fs = is_in_push g g fs ∙ ap (λ b. is_in g fs || b) (eq-eqb g g refl) ∙ or-true (is_in g fs)
 
 pub is_in_stays : (g f : ℕ) (fs : List ℕ) → is_in g fs ≡ true → is_in g (fs ++ f ∷ []) ≡ true
 is_in_stays g f fs h = is_in_push g f fs ∙ ap (λ b. b || (f == g)) h
@@ -117,7 +110,7 @@ is_in-all_below test (suc n) g =
     ∙ ⊎_elim same other (cases_eq n g)
   where
     here : (b : Bool) → is_in g (cond b (n ∷ []) []) ≡ (b && (n == g))
-    here true = or_false (n == g)
+    here true = or-false (n == g)
     here false = refl
 
     and_true : (b : Bool) → (b && true) ≡ b
@@ -143,7 +136,7 @@ is_in-all_below test (suc n) g =
     other : (n ≡ g → ⊥) → ((nat_lt g n && test g) || is_in g (cond (test n) (n ∷ []) [])) ≡ (nat_lt g (suc n) && test g)
     other e =
         ap (λ b. (nat_lt g n && test g) || b) (here (test n) ∙ ap (λ b. test n && b) (ne_eqb n g e) ∙ and_false (test n))
-        ∙ or_false (nat_lt g n && test g)
+        ∙ or-false (nat_lt g n && test g)
         ∙ ap (λ b. b && test g) (same_side e)
 
 one_of : (b : Bool) (n g : ℕ) → times g (cond b (n ∷ []) []) ≡ one (b && (n == g))

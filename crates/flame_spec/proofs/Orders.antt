@@ -1,11 +1,12 @@
 -- Model order, step by step.
+use mathlib.Core.Bool.{or-true}
 use Rattle.std.proofs.Common.{◌≡◌, ℕ, zero, suc, ◌+◌, ◌<◌, ◌≤◌, List, [], ◌∷◌, ◌++◌, length, take, get_or, refl, sym, ap, ◌∙◌, subst, arith, true, false, Bool, not, Some, None, Option, cond, ⊎_elim}
 use Rattle.std.specs.Prelude.{◌==◌, ◌&&◌, ◌||◌, is_none}
 use Rattle.std.proofs.lemmas.Bool.{eqb-true, eq-eqb, ne_eqb, true≢false, false≢true, cases_eq, cases_lt, and_parts, not-true, not-false, or_cases}
 use Rattle.std.proofs.lemmas.List.{length_push, take-append-le, get_or_append_left, take_at, get_or_at}
 use Rattle.flame_spec.specs.Below.{is_in, times, HasNoTwice}
 use Rattle.flame_spec.specs.ModelOrder.{open_before, is_ready, next, with_next, order_after, order, first_left, step_back}
-use Rattle.flame_spec.proofs.FirstBelow.{none_fails, first_is_first, none_is, is_in_push, is_in_stays, once_push, or_true}
+use Rattle.flame_spec.proofs.FirstBelow.{none_fails, first_is_first, none_is, is_in_push, is_in_stays, once_push}
 
 abbrev pub Relation : Type 0
 Relation = ℕ → ℕ → Bool
@@ -156,7 +157,7 @@ remaining_less (suc n) fs g =
 pub remaining_push : (n : ℕ) (fs : List ℕ) (g : ℕ) → g < n → is_in g fs ≡ false → remaining n (fs ++ g ∷ []) + 1 ≤ remaining n fs
 remaining_push zero fs g h e = absurd (omega arith)
 remaining_push (suc n) fs g h e = ⊎_elim
-    (λ q. let now : absent (is_in n (fs ++ g ∷ [])) ≡ 0 = ap absent (is_in_push n g fs ∙ ap (λ b. is_in n fs || b) (eq-eqb g n q) ∙ or_true (is_in n fs)) in
+    (λ q. let now : absent (is_in n (fs ++ g ∷ [])) ≡ 0 = ap absent (is_in_push n g fs ∙ ap (λ b. is_in n fs || b) (eq-eqb g n q) ∙ or-true (is_in n fs)) in
     let was : absent (is_in n fs) ≡ 1 = ap absent (ap (λ k. is_in k fs) (sym q) ∙ e) in
     omega (arith, now, was, remaining_less n fs g))
     (λ q. let same : absent (is_in n (fs ++ g ∷ [])) ≡ absent (is_in n fs) = ap absent (is_in_push n g fs ∙ ap (λ b. is_in n fs || b) (ne_eqb g n q) ∙ or_no (is_in n fs)) in

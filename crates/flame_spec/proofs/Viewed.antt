@@ -1,5 +1,5 @@
 -- Views have the rows that pass as often as the board has them, in order, and are the only such lists.
-use Rattle.std.proofs.Common.{◌≡◌, ℕ, ◌+◌, Bool, true, false, cond, List, [], ◌∷◌, Option, Some, None, refl, sym, ap, ◌∙◌, arith, zero-add, Ordering, Less, Equal, Greater}
+use Rattle.std.proofs.Common.{◌≡◌, ℕ, ◌+◌, Bool, true, false, cond, List, [], ◌∷◌, Option, Some, None, refl, sym, ap, ◌∙◌, zero-add, Ordering, Less, Equal, Greater}
 use Rattle.std.specs.Prelude.{ℤ}
 use Rattle.std.specs.List.{sum_by, filter}
 use Rattle.std.specs.Ordering.{is_eq, is_gt, eq_by_cmp, flip_args, ordering_then, ordering_reverse}
@@ -12,6 +12,7 @@ use Rattle.flame_rows.specs.Sorted.{IsBelowAll, IsAscending, sorted_by}
 use Rattle.flame_rows.specs.Bags.{count_of}
 use Rattle.flame_rows.proofs.Sorting.{sum_by-sorted_by, IsAscending-sorted_by, ascending_once, sorted_by-IsAscending}
 use Rattle.flame_rows.proofs.BagLaws.{rows_total, rows_tied}
+use Rattle.flame_rows.proofs.Truths.{cond-add}
 use Rattle.flame_spec.specs.Conditions.{number_at}
 use Rattle.flame_spec.specs.Views.{Key, column_order, key_order, view_order, view}
 use Rattle.flame_spec.specs.ViewLaws.{ViewKeepsCounts, ViewAscends, ViewGoesByKey, tie_order, ViewTiesByContent, ViewIsTheOne, PlainViewIsBoard}
@@ -47,15 +48,11 @@ view_tied (Some key) row other h = rows_tied row other (second (key_order key ro
 abbrev ones : List ℤ → List ℤ → ℕ
 ones row other = cond (is_eq (row_order row other)) 1 0
 
-by_test : (t : Bool) (n : ℕ) → cond t 1 0 + n ≡ cond t (1 + n) n
-by_test true n = refl
-by_test false n = omega arith
-
 count_of-sum_by : (row : List ℤ) (rows : List (List ℤ)) → count_of rows row ≡ sum_by (ones row) rows
 count_of-sum_by row rows = sym (is_count_by (sum_by (ones row)) (eq_by_cmp row_order row) refl step rows)
   where
     step : (other : List ℤ) (rest : List (List ℤ)) → sum_by (ones row) (other ∷ rest) ≡ cond (eq_by_cmp row_order row other) (1 + sum_by (ones row) rest) (sum_by (ones row) rest)
-    step other rest = sum_by-cons (ones row) other rest ∙ by_test (eq_by_cmp row_order row other) (sum_by (ones row) rest)
+    step other rest = sum_by-cons (ones row) other rest ∙ cond-add (eq_by_cmp row_order row other) (sum_by (ones row) rest)
 
 equal_from : (o : Ordering) → is_eq o ≡ true → o ≡ Equal
 equal_from Less h = cc

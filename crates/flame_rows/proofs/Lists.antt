@@ -1,0 +1,125 @@
+-- Lists: which are empty, what stands at a place, tests of all or any, one element more.
+use Rattle.std.proofs.Common.{◌≡◌, ℕ, zero, suc, ◌+◌, ◌<◌, Bool, true, ◌||◌, List, [], ◌∷◌, ◌++◌, map, length, take, drop, get_or, Option, Some, refl, sym, ap, ap₂, ◌∙◌, subst, arith, append-nil, take_all}
+use Rattle.std.specs.Prelude.{slice_get, slice_set, slice_index_or}
+use Rattle.std.specs.List.{list_any, list_all, filter_map, flat_map, cons_option, AllZip}
+use Rattle.std.specs.Option.{IsSomeAnd}
+use Rattle.std.proofs.lemmas.Bool.{and_parts, and_from, or_left, or_right}
+use Rattle.std.proofs.lemmas.List.{take_more, drop_all}
+use Rattle.std.proofs.lemmas.List.Elements.{filter_map-append}
+use Rattle.std.proofs.lemmas.Grind.{flat_map-append}
+
+-- ---- empty lists
+
+pub append-is_nil_left : {X : Type 0} (xs ys : List X) → xs ++ ys ≡ [] → xs ≡ []
+append-is_nil_left [] ys none = refl
+append-is_nil_left (x ∷ xs) ys none = cc
+
+pub append-is_nil_right : {X : Type 0} (xs ys : List X) → xs ++ ys ≡ [] → ys ≡ []
+append-is_nil_right [] ys none = none
+append-is_nil_right (x ∷ xs) ys none = cc
+
+pub append-is_nil : {X : Type 0} (xs ys : List X) → xs ++ ys ≡ [] → (xs ≡ []) × (ys ≡ [])
+append-is_nil xs ys none = (append-is_nil_left xs ys none, append-is_nil_right xs ys none)
+
+pub append-nils : {X : Type 0} (xs ys : List X) → xs ≡ [] → ys ≡ [] → xs ++ ys ≡ []
+append-nils xs ys first second = ap₂ (λ front rest. front ++ rest) first second
+
+-- ---- what stands at a place
+
+pub slice_get-IsSomeAnd : {X : Type 0} (P : X → Type 0) (xs : List X) (k : ℕ) → IsSomeAnd (slice_get xs k) P → k < length xs
+slice_get-IsSomeAnd P [] k some = absurd some
+slice_get-IsSomeAnd P (x ∷ xs) zero some = omega arith
+slice_get-IsSomeAnd P (x ∷ xs) (suc k) some = omega (arith, slice_get-IsSomeAnd P xs k some)
+
+pub slice_get-slice_set : {X : Type 0} (xs : List X) (i : ℕ) (x y : X) → slice_get xs i ≡ Some y → slice_get (slice_set xs i x) i ≡ Some x
+slice_get-slice_set [] i x y e = cc
+slice_get-slice_set (z ∷ xs) zero x y e = refl
+slice_get-slice_set (z ∷ xs) (suc i) x y e = slice_get-slice_set xs i x y e
+
+pub slice_index_or-map : {X Y : Type 0} (f : X → Y) (d : Y) (xs : List X) (i : ℕ) (x : X)
+    → i < length xs → x ≡ get_or xs i x → slice_index_or (map f xs) i d ≡ f x
+slice_index_or-map f d [] i x within at = absurd (omega (arith, within))
+slice_index_or-map f d (y ∷ xs) zero x within at = ap f (sym at)
+slice_index_or-map f d (y ∷ xs) (suc i) x within at = slice_index_or-map f d xs i x (omega (arith, within)) at
+
+-- at each place, and past the end, of a list whose elements are all mapped to one value
+pub slice_index_or-map_one : {X Y : Type 0} (y : Y) (xs : List X) (k : ℕ) → slice_index_or (map (λ (x : X). y) xs) k y ≡ y
+slice_index_or-map_one y [] k = refl
+slice_index_or-map_one y (x ∷ xs) zero = refl
+slice_index_or-map_one y (x ∷ xs) (suc k) = slice_index_or-map_one y xs k
+
+pub drop-there : {X : Type 0} (xs : List X) (k : ℕ) (x : X) → slice_get xs k ≡ Some x → drop k xs ≡ x ∷ drop (suc k) xs
+drop-there [] k x at = absurd (cc)
+drop-there (y ∷ ys) zero x at = let same : y ≡ x = cc in ap (λ z. z ∷ ys) same
+drop-there (y ∷ ys) (suc k) x at = drop-there ys k x at
+
+-- what has been written over a list of the same length
+pub take-written : {X : Type 0} (xs ys : List X) (n : ℕ) → length xs ≡ length ys → n ≡ length ys → take n (xs ++ drop (length xs) ys) ≡ xs
+take-written xs ys n long all =
+    ap (λ rest. take n (xs ++ rest)) (drop_all (length xs) ys (omega (arith, long)))
+    ∙ ap (take n) (append-nil xs)
+    ∙ take_all n xs (omega (arith, long, all))
+
+-- ---- tests of all or any
+
+pub list_any-map : {X Y : Type 0} (p : Y → Bool) (f : X → Y) (xs : List X) → list_any p (map f xs) ≡ list_any (λ x. p (f x)) xs
+list_any-map p f [] = refl
+list_any-map p f (x ∷ xs) = ap (λ b. p (f x) || b) (list_any-map p f xs)
+
+pub list_any-at : {X : Type 0} (p : X → Bool) (xs : List X) (k : ℕ) (x : X)
+    → slice_get xs k ≡ Some x → p x ≡ true → list_any p xs ≡ true
+list_any-at p [] k x at passes = absurd (cc)
+list_any-at p (y ∷ xs) zero x at passes =
+    let same : y ≡ x = cc in or_left (p y) (list_any p xs) (ap p same ∙ passes)
+list_any-at p (y ∷ xs) (suc k) x at passes = or_right (p y) (list_any p xs) (list_any-at p xs k x at passes)
+
+pub list_all-at : {X : Type 0} (p : X → Bool) (xs : List X) (k : ℕ) (x : X)
+    → list_all p xs ≡ true → slice_get xs k ≡ Some x → p x ≡ true
+list_all-at p [] k x all at = absurd (cc)
+list_all-at p (y ∷ xs) zero x all at =
+    let same : y ≡ x = cc in subst (λ z. p z ≡ true) same (and_parts (p y) (list_all p xs) all).0
+list_all-at p (y ∷ xs) (suc k) x all at = list_all-at p xs k x (and_parts (p y) (list_all p xs) all).1 at
+
+pub list_all-each : {X : Type 0} (p : X → Bool) (xs : List X)
+    → ((k : ℕ) (x : X) → slice_get xs k ≡ Some x → p x ≡ true) → list_all p xs ≡ true
+list_all-each p [] each = refl
+list_all-each p (x ∷ xs) each =
+    and_from (p x) (list_all p xs) (each zero x refl) (list_all-each p xs (λ k y at. each (suc k) y at))
+
+-- ---- two lists beside each other
+
+pub AllZip-append : {X Y : Type 0} (R : X → Y → Type 0) (xs : List X) (ys : List Y) (more : List X) (others : List Y)
+    → AllZip R xs ys → AllZip R more others → AllZip R (xs ++ more) (ys ++ others)
+AllZip-append R [] [] more others all rest = rest
+AllZip-append R [] (y ∷ ys) more others all rest = absurd all
+AllZip-append R (x ∷ xs) [] more others all rest = absurd all
+AllZip-append R (x ∷ xs) (y ∷ ys) more others all rest = (all.0, AllZip-append R xs ys more others all.1 rest)
+
+pub AllZip-at : {X Y : Type 0} (R : X → Y → Type 0) (xs : List X) (ys : List Y) (k : ℕ) (x : X) (y : Y)
+    → AllZip R xs ys → slice_get xs k ≡ Some x → slice_get ys k ≡ Some y → R x y
+AllZip-at R [] ys k x y all at there = absurd (cc)
+AllZip-at R (a ∷ xs) [] k x y all at there = absurd all
+AllZip-at R (a ∷ xs) (b ∷ ys) zero x y all at there =
+    let one : a ≡ x = cc in
+    let two : b ≡ y = cc in
+    subst (λ z. R x z) two (subst (λ z. R z b) one all.0)
+AllZip-at R (a ∷ xs) (b ∷ ys) (suc k) x y all at there = AllZip-at R xs ys k x y all.1 at there
+
+-- ---- one element more
+
+pub filter_map-next : {X Y : Type 0} (f : X → Option Y) (xs : List X) (place : ℕ) (x : X)
+    → place < length xs → x ≡ get_or xs place x
+    → filter_map f (take (place + 1) xs) ≡ filter_map f (take place xs) ++ cons_option (f x) []
+filter_map-next f xs place x within at =
+    ap (filter_map f) (take_more xs place x within)
+    ∙ ap (λ y. filter_map f (take place xs ++ y ∷ [])) (sym at)
+    ∙ filter_map-append f (take place xs) (x ∷ [])
+
+pub flat_map-next : {X Y : Type 0} (f : X → List Y) (xs : List X) (place : ℕ) (x : X)
+    → place < length xs → x ≡ get_or xs place x
+    → flat_map f (take (place + 1) xs) ≡ flat_map f (take place xs) ++ f x
+flat_map-next f xs place x within at =
+    ap (flat_map f) (take_more xs place x within)
+    ∙ ap (λ y. flat_map f (take place xs ++ y ∷ [])) (sym at)
+    ∙ flat_map-append f (take place xs) (x ∷ [])
+    ∙ ap (λ ys. flat_map f (take place xs) ++ ys) (append-nil (f x))
