@@ -1,124 +1,144 @@
-//! The codes that are timed, as the compiler makes them: listings with an instruction a line, behind the height of the
-//! stack before it.
+//! Runs three codes with a loop, so that the machine can be timed beside a plain interpreter.
+//!
+//! A word is the number of turns of the first loop; the others turn a tenth as often. It prints what each code leaves, the
+//! processor time that it took and the instructions a second. Without a word the first loop turns 1000 times, and no time
+//! is printed.
 
-use flame_case_codes::code_in;
-use flame_code::{Code, Helpers};
-use flame_machine::helpers_of;
-use flame_rows::Seq;
-use flame_spec::Widths;
+mod loops;
+
+use flame_code::Helpers;
+use flame_machine::{Lists, fits_entry, run};
+use flame_rows::Row;
+use flame_spec::Outcome;
+use loops::{Loop, WIDTH, calls, elements, helpers, sum};
 use std::alloc::{AllocError, Global};
+use std::io;
+use std::time::{CpuClock, Duration};
 
-/// The width of the memory: `X`, and `H` of length 7.
-pub(crate) const WIDTH: u32 = 8;
+/// The turns where no word says how many.
+const TURNS: i32 = 1000;
 
-/// `int i; int s = 0; for (i = 0;`
-const HEAD: &str = "0 Push 0\n1 SetLoc 0\n0 Push 0\n1 SetLoc 1\n0 Push 0\n1 SetLoc 0\n";
+/// The instructions that a code runs outside of its loop.
+const OUTSIDE: u64 = 15;
 
-/// `i++`, and the left side of the test
-const STEP: &str = "0 Loc 0\n1 Push 1\n2 Add 1\n1 SetLoc 0\n0 Loc 0\n";
-
-/// The rest of the test, and `X = s; return 0;`
-const END: &str =
-    "2 Lt\n1 JumpNotZero 7\n0 Loc 1\n1 SetMem 0\n0 Push 0\n1 Return\n0 Push 0\n1 Return\n";
-
-/// `s = s + i % 7;`
-const SUM: &str = "0 Loc 1\n1 Loc 0\n2 Push 7\n3 Rem 1\n2 Add 1\n1 SetLoc 1\n";
-
-/// `{ int t = rest(i); s = s + t; }`
-const CALL: &str = "0 Loc 0\n1 Call 1 0 1\n1 SetLoc 2\n0 Loc 1\n1 Loc 2\n2 Add 1\n1 SetLoc 1\n";
-
-/// `H[i % 7]`, of which the index stays, and which then is on the stack
-const ELEMENT: &str = "0 Loc 0\n1 Push 7\n2 Rem 1\n1 Loc 0\n2 Push 7\n3 Rem 1\n2 MemAt 1 1 7\n";
-
-/// `H[i % 7] = ` the same `+ 1;`
-const MORE: &str = "2 Push 1\n3 Add 1\n2 SetMemAt 1 1 7\n";
-
-/// `int rest(int n) { return n % 7; }`
-const REST: &str = "0 Loc 0\n1 Push 7\n2 Rem 1\n1 Return\n0 Push 0\n1 Return\n";
-
-/// A code that repeats a body.
-#[derive(Drop)]
-pub(crate) struct Loop {
-    /// Its name.
-    pub(crate) name: &'static str,
-    /// The code.
-    pub(crate) code: Code,
-    /// How often the body is repeated.
-    pub(crate) turns: i32,
-    /// How many instructions run in each turn.
-    pub(crate) in_turn: u64,
-}
-
-/// The valid code of a listing, which sees this much memory.
-fn valid(alloc: Global, text: &str, memory: u32) -> Result<Option<Code>, AllocError> {
-    let widths = Widths {
-        memory,
-        constants: 0,
-        inputs: Seq::of(Vec::new(alloc)),
-        messages: Seq::of(Vec::new(alloc)),
-        agents: Seq::of(Vec::new(alloc)),
-    };
-    code_in(alloc, text, widths)
-}
-
-/// The loop with this body, which begins at place 8, and with its test at this place.
-fn looped(alloc: Global, body: &str, test: u32, turns: i32) -> Result<Option<Code>, AllocError> {
-    let mut text = format!(in alloc; "{HEAD}0 Jump {test}\n0 Pay 1\n")?;
-    text.push_str(body)?;
-    text.push_str(STEP)?;
-    writeln!(text, "1 Push {turns}")?;
-    text.push_str(END)?;
-    valid(alloc, text.as_str(), WIDTH)
-}
-
-/// The loop of a sum.
-pub(crate) fn sum(alloc: Global, turns: i32) -> Result<Option<Loop>, AllocError> {
-    let Some(code) = looped(alloc, SUM, 18, turns)? else {
+/// What the code leaves, where the helpers fit it.
+fn outcome_of(
+    alloc: Global,
+    timed: &Loop,
+    helpers: &Helpers,
+) -> Result<Option<Outcome>, AllocError> {
+    let memory = Row::of(vec![in alloc; 0; WIDTH as usize]?);
+    let constants = Row::of(Vec::new(alloc));
+    let mut feed = Lists::new(alloc);
+    let code = &timed.code;
+    if !helpers.fits(code) {
         return Ok(None);
-    };
-    Ok(Some(Loop {
-        name: "sum",
+    }
+    if !fits_entry(code, &memory, &feed, &constants) {
+        return Ok(None);
+    }
+    match run(
+        alloc,
         code,
-        turns,
-        in_turn: 15,
-    }))
+        helpers,
+        &memory,
+        &mut feed,
+        &constants,
+        1,
+        u32::MAX,
+    ) {
+        Ok(outcome) => Ok(Some(outcome)),
+        Err(_) => Err(AllocError),
+    }
 }
 
-/// The loop with a call of a helper.
-pub(crate) fn calls(alloc: Global, turns: i32) -> Result<Option<Loop>, AllocError> {
-    let Some(code) = looped(alloc, CALL, 19, turns)? else {
-        return Ok(None);
-    };
-    Ok(Some(Loop {
-        name: "helper",
-        code,
-        turns,
-        in_turn: 20,
-    }))
+fn print_outcome(rt: &impl Print, outcome: &Outcome) -> io::Result<()> {
+    match outcome {
+        Outcome::Ended(effect) => {
+            match &effect.memory {
+                Some(row) => print!(rt; "memory {:?}", row.values())?,
+                None => print!(rt; "removed")?,
+            }
+            print!(rt; " left {}", effect.fuel)
+        }
+        Outcome::Faulted(fault) => {
+            let cause = fault.cause;
+            print!(rt; "{cause:?} at line {}", fault.line)
+        }
+    }
 }
 
-/// The loop with an element of an array.
-pub(crate) fn elements(alloc: Global, turns: i32) -> Result<Option<Loop>, AllocError> {
-    let body = format!(in alloc; "{ELEMENT}{MORE}")?;
-    let Some(code) = looped(alloc, body.as_str(), 22, turns)? else {
-        return Ok(None);
-    };
-    Ok(Some(Loop {
-        name: "element",
-        code,
-        turns,
-        in_turn: 19,
-    }))
+/// The time that a loop took, and the millions of instructions that it ran a second.
+fn print_speed(rt: &impl Print, timed: &Loop, taken: Duration) -> io::Result<()> {
+    let turns = timed.turns.unsigned_abs() as u64;
+    let instructions = turns.saturating_mul(timed.in_turn).saturating_add(OUTSIDE);
+    let microseconds = taken.as_micros().max(1);
+    let speed = instructions as u128 / microseconds;
+    print!(rt;
+        "; {} milliseconds, {speed} million instructions a second",
+        taken.as_millis()
+    )
 }
 
-/// The helper that is called.
-pub(crate) fn helpers(alloc: Global) -> Result<Option<Helpers>, AllocError> {
-    let Some(rest) = valid(alloc, REST, 0)? else {
-        return Ok(None);
+/// Runs a loop. Tells whether it could be run.
+fn measure(
+    rt: &(impl Print + CpuClock + AllocGlobal),
+    timed: &Option<Loop>,
+    helpers: &Helpers,
+    with_time: bool,
+) -> io::Result<bool> {
+    let Some(timed) = timed else {
+        return Ok(false);
     };
-    let mut codes = Vec::new(alloc);
-    codes.push(rest)?;
-    let mut parameters = Vec::new(alloc);
-    parameters.push(1)?;
-    Ok(helpers_of(Seq::of(codes), Seq::of(parameters), &[1]))
+    let begun = rt.process_cpu_time()?;
+    let Some(outcome) = outcome_of(rt.alloc(), timed, helpers)? else {
+        return Ok(false);
+    };
+    let taken = rt.process_cpu_time()?.saturating_sub(begun);
+    let name = timed.name;
+    print!(rt; "{name}: ")?;
+    print_outcome(rt, &outcome)?;
+    if with_time {
+        print_speed(rt, timed, taken)?;
+    }
+    println!(rt; "")?;
+    Ok(true)
+}
+
+/// Runs all loops with these helpers. Tells whether all could be run.
+fn measure_loops(
+    rt: &(impl Print + CpuClock + AllocGlobal),
+    helpers: &Helpers,
+    turns: i32,
+    with_time: bool,
+) -> io::Result<bool> {
+    let alloc = rt.alloc();
+    let fewer = turns / 10;
+    Ok(
+        measure(rt, &sum(alloc, turns)?, helpers, with_time)?
+            && measure(rt, &calls(alloc, fewer)?, helpers, with_time)?
+            && measure(rt, &elements(alloc, fewer)?, helpers, with_time)?,
+    )
+}
+
+/// The turns that the word says, where it says how many.
+fn turns_in(words: &[String]) -> Option<i32> {
+    match words.first() {
+        Some(word) => word.parse::<i32>().ok(),
+        None => Some(TURNS),
+    }
+}
+
+/// Runs all loops. Tells whether all could be run.
+pub(crate) fn measure_codes(
+    rt: &(impl Print + CpuClock + AllocGlobal),
+    words: &[String],
+) -> io::Result<bool> {
+    let Some(turns) = turns_in(words) else {
+        return Ok(false);
+    };
+    match helpers(rt.alloc())? {
+        Some(helpers) => measure_loops(rt, &helpers, turns, !words.is_empty()),
+        None => Ok(false),
+    }
 }

@@ -1,135 +1,56 @@
-//! Runs three codes with a loop, so that the machine can be timed beside a plain interpreter.
+//! Runs codes with a loop, writes and reads a large population, and brings cores of many functions to their end, so that
+//! each can be timed.
 //!
-//! A word is the number of turns of the first loop; the others turn a tenth as often. It prints what each code leaves, the
-//! processor time that it took and the instructions a second. Without a word the first loop turns 1000 times, and no time
-//! is printed. The status is 2 where a code is not valid, memory is not found or a clock cannot be read.
+//! The first word is `codes`, `populations` or `cores`, and what stands behind it is said in the module of that name. It
+//! prints what each does and the processor time that it took. Where nothing stands behind the word, a small one is made and
+//! no time is printed; without words all three are. The status is 2 where the words are others, memory is not found or the
+//! clock cannot be read.
 #![tactic(auto)]
 
 mod codes;
+mod cores;
+mod populations;
 
-use codes::{Loop, WIDTH, calls, elements, helpers, sum};
-use flame_code::Helpers;
-use flame_machine::{Lists, fits_entry, run};
-use flame_rows::Row;
-use flame_spec::Outcome;
-use std::alloc::{AllocError, Global};
+use codes::measure_codes;
+use cores::measure_cores;
+use populations::measure_populations;
 use std::process::ExitCode;
 use std::rt::Env;
-use std::time::{CpuClock, Duration};
+use std::time::CpuClock;
 use std::{env, io};
 
-/// The turns where no word says how many.
-const TURNS: i32 = 1000;
-
-/// The instructions that a code runs outside of its loop.
-const OUTSIDE: u64 = 15;
-
-/// What the code leaves, where the helpers fit it.
-fn outcome_of(
-    alloc: Global,
-    timed: &Loop,
-    helpers: &Helpers,
-) -> Result<Option<Outcome>, AllocError> {
-    let memory = Row::of(vec![in alloc; 0; WIDTH as usize]?);
-    let constants = Row::of(Vec::new(alloc));
-    let mut feed = Lists::new(alloc);
-    let code = &timed.code;
-    if !helpers.fits(code) {
-        return Ok(None);
+/// The words after the program's name.
+fn words(rt: &(impl Env + AllocGlobal)) -> io::Result<Vec<String>> {
+    let mut words = Vec::new(rt.alloc());
+    for word in env::args(rt)?.skip(1) {
+        words.push(word)?;
     }
-    if !fits_entry(code, &memory, &feed, &constants) {
-        return Ok(None);
-    }
-    match run(
-        alloc,
-        code,
-        helpers,
-        &memory,
-        &mut feed,
-        &constants,
-        1,
-        u32::MAX,
-    ) {
-        Ok(outcome) => Ok(Some(outcome)),
-        Err(_) => Err(AllocError),
-    }
+    Ok(words)
 }
 
-fn print_outcome(rt: &impl Print, outcome: &Outcome) -> io::Result<()> {
-    match outcome {
-        Outcome::Ended(effect) => {
-            match &effect.memory {
-                Some(row) => print!(rt; "memory {:?}", row.values())?,
-                None => print!(rt; "removed")?,
-            }
-            print!(rt; " left {}", effect.fuel)
-        }
-        Outcome::Faulted(fault) => {
-            let cause = fault.cause;
-            print!(rt; "{cause:?} at line {}", fault.line)
-        }
+/// All three, small. Tells whether they could be made.
+fn measure_all(rt: &(impl Print + CpuClock + AllocGlobal)) -> io::Result<bool> {
+    Ok(measure_codes(rt, &[])? && measure_populations(rt, &[])? && measure_cores(rt, &[])?)
+}
+
+/// What the words name. Tells whether it could be made.
+fn measure(rt: &(impl Print + CpuClock + AllocGlobal), words: &[String]) -> io::Result<bool> {
+    let Some((first, others)) = words.split_first() else {
+        return measure_all(rt);
+    };
+    match first.as_str() {
+        "codes" => measure_codes(rt, others),
+        "populations" => measure_populations(rt, others),
+        "cores" => measure_cores(rt, others),
+        _ => Ok(false),
     }
-}
-
-/// The time that a loop took, and the millions of instructions that it ran a second.
-fn print_speed(rt: &impl Print, timed: &Loop, taken: Duration) -> io::Result<()> {
-    let turns = timed.turns.unsigned_abs() as u64;
-    let instructions = turns.saturating_mul(timed.in_turn).saturating_add(OUTSIDE);
-    let microseconds = taken.as_micros().max(1);
-    let speed = instructions as u128 / microseconds;
-    print!(rt;
-        "; {} milliseconds, {speed} million instructions a second",
-        taken.as_millis()
-    )
-}
-
-/// Runs a loop. Tells whether it could be run.
-fn measure(
-    rt: &(impl Print + CpuClock + AllocGlobal),
-    timed: &Option<Loop>,
-    helpers: &Helpers,
-    with_time: bool,
-) -> io::Result<bool> {
-    let Some(timed) = timed else {
-        return Ok(false);
-    };
-    let begun = rt.process_cpu_time()?;
-    let Some(outcome) = outcome_of(rt.alloc(), timed, helpers)? else {
-        return Ok(false);
-    };
-    let taken = rt.process_cpu_time()?.saturating_sub(begun);
-    let name = timed.name;
-    print!(rt; "{name}: ")?;
-    print_outcome(rt, &outcome)?;
-    if with_time {
-        print_speed(rt, timed, taken)?;
-    }
-    println!(rt; "")?;
-    Ok(true)
-}
-
-/// Runs all loops. Tells whether all could be run.
-fn measure_all(rt: &(impl Print + CpuClock + Env + AllocGlobal)) -> io::Result<bool> {
-    let alloc = rt.alloc();
-    let word = env::args(rt)?.nth(1);
-    let turns = match &word {
-        Some(word) => word.parse::<i32>().unwrap_or(TURNS),
-        None => TURNS,
-    };
-    let fewer = turns / 10;
-    let Some(helpers) = helpers(alloc)? else {
-        return Ok(false);
-    };
-    let with_time = word.is_some();
-    Ok(
-        measure(rt, &sum(alloc, turns)?, &helpers, with_time)?
-            && measure(rt, &calls(alloc, fewer)?, &helpers, with_time)?
-            && measure(rt, &elements(alloc, fewer)?, &helpers, with_time)?,
-    )
 }
 
 fn main(rt: HostRuntime) -> ExitCode {
-    match measure_all(&rt) {
+    let Ok(words) = words(&rt) else {
+        return ExitCode::from(2);
+    };
+    match measure(&rt, words.as_slice()) {
         Ok(true) => ExitCode::SUCCESS,
         _ => ExitCode::from(2),
     }

@@ -20,3 +20,4 @@ pub use host_sink::HostSink;
 pub use mem_depot::MemDepot;
 pub use mem_sink::MemSink;
 pub use sink::{Sink, WriteFail};
+pub use transfer::{read_front, write_whole};

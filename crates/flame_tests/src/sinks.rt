@@ -1,0 +1,48 @@
+//! Bytes in memory, of which chosen writes fail.
+
+ghost use Rattle.std.specs.Prelude.{IsTrue};
+
+use flame_outside::{MemSink, Sink, WriteFail};
+use flame_rows::NoMemory;
+use std::test::Fail;
+
+/// What a write answers, as a word.
+pub(crate) fn write_word<S: Sink>(sink: &mut S, bytes: &[u8]) -> &'static str {
+    match sink.write(bytes) {
+        Ok(()) => "ok",
+        Err(WriteFail::Failed) => "failed",
+        Err(WriteFail::NoMemory) => "no memory",
+    }
+}
+
+#[test]
+fn a_write_that_fails_leaves_a_front(rt: HostRuntime) -> Result<(), Fail> {
+    let alloc = rt.alloc();
+    let mut sink = MemSink::new(alloc, vec![in alloc; 1]?);
+    let first = write_word(&mut sink, b"1234");
+    let second = write_word(&mut sink, b"567");
+    let third = write_word(&mut sink, b"8");
+    assert_eq!(rt; (first, second, third), ("ok", "failed", "ok"));
+    assert!(rt; sink.bytes() == b"123458".as_slice());
+    Ok(())
+}
+
+/// Writes to a sink that never fails, seen through its bound.
+fn say<S: Sink>(sink: &mut S, bytes: &[u8]) -> Result<(), NoMemory>
+    requires { IsTrue (S.seen sink.old).calm }
+    ensures calm { IsTrue (S.seen sink.new).calm }
+{
+    match sink.write(bytes) {
+        Ok(()) => Ok(()),
+        Err(WriteFail::Failed) => unreachable!(),
+        Err(WriteFail::NoMemory) => Err(NoMemory),
+    }
+}
+
+#[test]
+fn a_sink_of_an_empty_list_never_fails(rt: HostRuntime) {
+    let alloc = rt.alloc();
+    let mut sink = MemSink::new(alloc, Vec::new(alloc));
+    assert!(rt; say(&mut sink, b"1").is_ok());
+    assert!(rt; say(&mut sink, b"2").is_ok());
+}
