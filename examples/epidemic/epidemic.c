@@ -2,17 +2,10 @@
 #define SICK 1
 #define OVER 2
 
-/* The number that follows in a long row of numbers which look like chance, 1 to 2147483646. */
-int following(int number) {
-    int next = 16807 * (number % 127773) - 2836 * (number / 127773);
-    if (next <= 0) next += 2147483647;
-    return next;
-}
-
 /* Each day a person goes to one of the places. */
 int go_out() {
-    SEED = following(SEED);
-    PLACE = SEED % PLACES;
+    SEED = next_seed(SEED);
+    PLACE = number_below(SEED, PLACES);
     return 0;
 }
 
@@ -25,8 +18,9 @@ int spread() {
 /* Who is well hears all that cough in the same place, and may fall sick by each of them. */
 int meet() {
     START_COUGH_MESSAGE_LOOP
-        SEED = following(SEED);
-        if (SEED % 100 < RISK) {
+        SEED = next_seed(SEED);
+        int falls_sick = chance_of(SEED, RISK, 100);
+        if (falls_sick) {
             HEALTH = SICK;
             DAYS = 0;
             break;

@@ -2,13 +2,6 @@
 #define TREE 1
 #define FIRE 2
 
-/* The number that follows in a long row of numbers which look like chance, 1 to 2147483646. */
-int following(int number) {
-    int next = 16807 * (number % 127773) - 2836 * (number / 127773);
-    if (next <= 0) next += 2147483647;
-    return next;
-}
-
 /* A burning patch warms its neighbours, is seen from the tower, and is bare then. At the edge of
    the forest a place of the array has -1 for a neighbour that is not there. */
 int burn() {
@@ -23,8 +16,9 @@ int burn() {
 
 /* On a bare patch a tree grows once in so many months. */
 int grow() {
-    SEED = following(SEED);
-    if (SEED % GROWTH == 0) STATE = TREE;
+    SEED = next_seed(SEED);
+    int grows = chance_of(SEED, 1, GROWTH);
+    if (grows) STATE = TREE;
     return 0;
 }
 
@@ -39,8 +33,9 @@ int catch_fire() {
 
 /* In the three months of summer lightning strikes a tree once in so many times. */
 int strike() {
-    SEED = following(SEED);
-    if (SEED % LIGHTNING == 0) STATE = FIRE;
+    SEED = next_seed(SEED);
+    int strikes = chance_of(SEED, 1, LIGHTNING);
+    if (strikes) STATE = FIRE;
     return 0;
 }
 

@@ -1,20 +1,6 @@
 /* As many vacancies as the office has room for in its array. */
 #define ROOM 100
 
-/* The number that follows in a long row of numbers which look like chance, 1 to 2147483646. */
-int following(int number) {
-    int next = 16807 * (number % 127773) - 2836 * (number / 127773);
-    if (next <= 0) next += 2147483647;
-    return next;
-}
-
-/* The seed of a vacancy that a household leaves behind: it goes its own way, by another factor. */
-int seed_after(int number) {
-    int next = 69621 * (number % 30845) - 23902 * (number / 30845);
-    if (next <= 0) next += 2147483647;
-    return next;
-}
-
 /* The cell in this column and row of the town, whose edges meet. */
 int cell_at(int column, int row) {
     return (row + SIDE) % SIDE * SIDE + (column + SIDE) % SIDE;
@@ -45,16 +31,18 @@ int look() {
     FINISH_BESIDE_MESSAGE_LOOP
     UNHAPPY = ALIKE * 100 < WISH * NEIGHBOURS;
     if (UNHAPPY) {
-        SEED = following(SEED);
-        add_leaving_message(SEED, CELL);
+        SEED = next_seed(SEED);
+        int lot = drawn(SEED);
+        add_leaving_message(lot, CELL);
     }
     return 0;
 }
 
 /* A vacancy draws a lot too. */
 int advertise() {
-    SEED = following(SEED);
-    add_vacant_message(SEED, CELL);
+    SEED = next_seed(SEED);
+    int lot = drawn(SEED);
+    add_vacant_message(lot, CELL);
     return 0;
 }
 
@@ -75,11 +63,12 @@ int assign() {
     return 0;
 }
 
-/* Who gets a key leaves a new vacancy behind. */
+/* Who gets a key leaves a new vacancy behind, with a seed of its own. */
 int move() {
     START_KEY_MESSAGE_LOOP
-        int seed = seed_after(SEED);
-        add_Vacancy_agent(CELL, seed);
+        SEED = next_seed(SEED);
+        int child = child_seed(SEED);
+        add_Vacancy_agent(CELL, child);
         CELL = key_message->to;
     FINISH_KEY_MESSAGE_LOOP
     return 0;
