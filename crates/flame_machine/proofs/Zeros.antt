@@ -1,15 +1,16 @@
 -- Lists that are filled with zeros, and locals in lists.
-use Rattle.std.proofs.Common.{◌≡◌, ℕ, zero, suc, ◌-◌, ◌<◌, ◌≤◌, List, [], ◌∷◌, ◌++◌, length, refl, sym, ap, ◌∙◌, arith, append_assoc, append-nil, length-append}
+use Rattle.std.proofs.Common.{◌≡◌, ℕ, zero, suc, ◌-◌, ◌<◌, ◌≤◌, List, [], ◌∷◌, ◌++◌, length, refl, sym, ap, ◌∙◌, take, arith, append-nil, length-append}
 use Rattle.std.specs.Prelude.{ℤ, pos, replicate}
+use Rattle.std.proofs.lemmas.List.{take_all}
 use mathlib.Core.Path.{fun_ext}
 use Rattle.flame_spec.specs.Conditions.{number_at}
 use Rattle.flame_code.specs.Machine.{first_locals}
 
-pub more_zeros : (xs : List ℤ) (n : ℕ) → length xs < n → (xs ++ pos 0 ∷ []) ++ replicate (n - length (xs ++ pos 0 ∷ [])) (pos 0) ≡ xs ++ replicate (n - length xs) (pos 0)
-more_zeros xs n h =
-    let k = n - length (xs ++ pos 0 ∷ []) in
-    let e : n - length xs ≡ suc k = omega (arith, length-append xs (pos 0 ∷ [])) in
-    append_assoc xs (pos 0 ∷ []) (replicate k (pos 0)) ∙ sym (ap (λ m. xs ++ replicate m (pos 0)) e)
+pub filled_up : (xs : List ℤ) (n : ℕ) → length xs < n → take n xs ++ replicate (n - length xs) (pos 0) ≡ xs ++ replicate (n - length xs) (pos 0)
+filled_up xs n h = ap (λ l. l ++ replicate (n - length xs) (pos 0)) (take_all n xs (omega arith))
+
+pub none_filled : (n : ℕ) → (let e : List ℤ = [] in e ++ replicate (n - length e) (pos 0)) ≡ replicate n (pos 0)
+none_filled n = let e : n - 0 ≡ n = omega arith in ap (λ m. replicate m (pos 0)) e
 
 pub no_zeros : (xs : List ℤ) (n : ℕ) → n ≤ length xs → xs ++ replicate (n - length xs) (pos 0) ≡ xs
 no_zeros xs n h = let e : n - length xs ≡ 0 = omega arith in ap (λ m. xs ++ replicate m (pos 0)) e ∙ append-nil xs

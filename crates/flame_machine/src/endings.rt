@@ -1,14 +1,11 @@
 //! How runs end.
 
-ghost use Rattle.std.specs.Prelude.{◌≡◌, List};
-ghost use Rattle.flame_code.specs.Feeds.{Fed};
-ghost use Rattle.flame_code.specs.Meanings.{outcome_of, memory_after as after};
-ghost use Rattle.flame_machine.specs.Running.{end_of};
+ghost use Rattle.std.specs.Prelude.{◌≡◌};
+ghost use Rattle.flame_code.specs.Meanings.{memory_after as after};
 
-use crate::additions::Added;
 use crate::frames::Frame;
 use flame_rows::Row;
-use flame_spec::{Effect, Fault, Outcome};
+use flame_spec::Fault;
 
 /// How a run ended.
 #[derive(Debug, Drop)]
@@ -29,32 +26,12 @@ pub enum Called {
 }
 
 /// The agent's memory, or none where the function returned another value than 0.
-fn memory_after(value: i32, memory: Vec<i32>) -> Option<Row>
+pub fn memory_after(value: i32, memory: Vec<i32>) -> Option<Row>
     ensures { result ≡ after value memory.items }
 {
     if value == 0 {
         Some(Row::of(memory))
     } else {
         None
-    }
-}
-
-/// What the run leaves.
-pub fn outcome(finish: Finish, added: Added) -> Outcome
-    ensures { (feeds : List Fed) → result ≡ outcome_of (end_of finish added feeds) }
-{
-    match finish {
-        Finish::Returned(value, frame) => {
-            let fuel = frame.fuel();
-            let (_, _, memory) = frame.end();
-            let (sent, born) = added.end();
-            Outcome::Ended(Effect {
-                memory: memory_after(value, memory),
-                sent,
-                born,
-                fuel,
-            })
-        }
-        Finish::Faulted(fault) => Outcome::Faulted(fault),
     }
 }

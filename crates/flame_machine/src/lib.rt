@@ -8,9 +8,10 @@ mod frames;
 mod givens;
 mod lists;
 mod pools;
+mod rooms;
 mod running;
 mod turns;
 
 pub use fitting::{fits_entry, helpers_of};
 pub use lists::Lists;
-pub use running::run;
+pub use rooms::{Room, run};

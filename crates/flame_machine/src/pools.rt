@@ -52,14 +52,11 @@ impl Pool {
         list
     }
 
-    /// So many cells for a stack, or more.
+    /// At least so many cells for a stack.
     pub fn cells(&mut self, room: usize) -> Result<Vec<i32>, NoMemory>
         ensures { IfOk result (λ cells. room ≤ length cells.items) }
     {
-        let mut cells = self.any();
-        while cells.len() < room {
-            cells.push(0)?;
-        }
+        let cells = filled(self.any(), room)?;
         Ok(cells)
     }
 
@@ -70,14 +67,15 @@ impl Pool {
     }
 }
 
-/// The list, filled with 0 to so many numbers.
-#[tactic(auto, using(crate::proofs::Zeros::more_zeros, crate::proofs::Zeros::no_zeros))]
+/// The list, filled with 0 to so many numbers, for which memory is taken at once.
+#[tactic(auto, using(crate::proofs::Zeros::filled_up, crate::proofs::Zeros::no_zeros))]
 pub fn filled(list: Vec<i32>, count: usize) -> Result<Vec<i32>, NoMemory>
-    ensures { IfOk result (λ filled. filled.items ≡ list.items ++ replicate (count - length list.items) (pos 0)) }
+    ensures items { IfOk result (λ filled. filled.items ≡ list.items ++ replicate (count - length list.items) (pos 0)) }
+    ensures long { IfOk result (λ filled. count ≤ length filled.items) }
 {
     let mut list = list;
-    while list.len() < count {
-        list.push(0)?;
+    if list.len() < count {
+        list.resize(count, 0)?;
     }
     Ok(list)
 }

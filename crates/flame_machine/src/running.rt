@@ -1,11 +1,11 @@
-//! Runs of codes.
+//! The steps of runs, and the calls of helpers.
 
 ghost use Rattle.std.specs.Prelude.{◌≡◌, ◌+◌, ◌*◌, ◌<◌, ◌≤◌, ◌^◌, length, drop, List, slice_get, Some, true, IfOk};
 ghost use Rattle.flame_code.specs.Feeds.{Fed};
-ghost use Rattle.flame_code.specs.HelperCodes.{AreHelpers, sees_nothing, fits as fitting};
+ghost use Rattle.flame_code.specs.HelperCodes.{AreHelpers, sees_nothing};
 ghost use Rattle.flame_code.specs.InputRows.{rows_of};
 ghost use Rattle.flame_code.specs.Machine.{step};
-ghost use Rattle.flame_code.specs.Meanings.{Runs, entry, FitsEntry, Means};
+ghost use Rattle.flame_code.specs.Meanings.{Runs, entry};
 ghost use Rattle.flame_code.specs.Routines.{Routine};
 ghost use Rattle.flame_code.specs.Validity.{IsValid};
 ghost use Rattle.flame_machine.specs.MachineFrames.{config, nothing_added};
@@ -13,15 +13,13 @@ ghost use Rattle.flame_machine.specs.Running.{SeeConstants, Suits, Ready, end_of
 ghost use Rattle.flame_machine.specs.MachineSteps.{seen, Stepped};
 
 use crate::additions::Added;
-use crate::endings::{Called, Finish, outcome};
+use crate::endings::{Called, Finish};
 use crate::frames::Frame;
 use crate::givens::Given;
 use crate::pools::{Pool, filled};
 use crate::turns::{Turned, apply};
 use flame_code::{Code, Feed, Helpers, Instr};
-use flame_rows::{NoMemory, Row};
-use flame_spec::Outcome;
-use std::alloc::Global;
+use flame_rows::NoMemory;
 
 #[inline(always)]
 fn instr_at(instrs: &[Instr], place: usize) -> &Instr
@@ -78,7 +76,7 @@ fn given_back(pool: &mut Pool, finish: Finish) -> Result<Called, NoMemory>
 /// Runs the code from where the frame stands. It calls itself through `call` for each helper that is open, so at most as
 /// deep as helpers are high.
 #[cycle(go)]
-fn go<F: Feed>(
+pub fn go<F: Feed>(
     pool: &mut Pool,
     code: &Code,
     helpers: &Helpers,
@@ -171,50 +169,4 @@ fn call<F: Feed>(
     let finish = go(pool, code, helpers, given, &mut added, feed, frame)?;
     let called = given_back(pool, finish)?;
     Ok(called)
-}
-
-/// What the code means with these helpers, from this memory, these inputs and constants, in this iteration and with this
-/// fuel. One step for each instruction; only `Pay`, `Call` and a row that `Next` delivers spend fuel.
-///
-/// The memory, the constants and the rows of the feed have the widths that the code sees, and the feed has a list of rows
-/// for each of its inputs. The rows stay as they were, and how many have come is what the run left. `NoMemory` comes only
-/// where memory was not found.
-pub fn run<F: Feed>(
-    alloc: Global,
-    code: &Code,
-    helpers: &Helpers,
-    memory: &Row,
-    feed: &mut F,
-    constants: &Row,
-    iteration: i32,
-    fuel: u32,
-) -> Result<Outcome, NoMemory>
-    requires entry { FitsEntry code.now (record {
-      memory = memory.now;
-      feeds = F.feeds feed.old;
-      constants = constants.now;
-      iteration = iteration;
-      fuel = fuel;
-    }) }
-    requires helping { fitting helpers.now code.now ≡ true }
-    ensures means { IfOk result (λ o. Means helpers.now.routines code.now (record {
-      memory = memory.now;
-      feeds = F.feeds feed.old;
-      constants = constants.now;
-      iteration = iteration;
-      fuel = fuel;
-    }) o) }
-    ensures rows { rows_of (F.feeds feed.new) ≡ rows_of (F.feeds feed.old) }
-{
-    let mut pool = Pool::new(alloc);
-    let _count = helpers.len();
-    let locals = filled(pool.empty(), code.locals())?;
-    let cells = pool.cells(code.instrs().len())?;
-    let numbers = Vec::from_slice(alloc, memory.values())?;
-    let frame = Frame::begin(cells, locals, numbers, fuel);
-    let mut added = Added::new(alloc);
-    let given = Given::of(constants, iteration);
-    let finish = go(&mut pool, code, helpers, &given, &mut added, feed, frame)?;
-    let end = outcome(finish, added);
-    Ok(end)
 }
