@@ -23,7 +23,8 @@ int chance_sum(int number, int more) {
     return number + more;
 }
 
-/* A permutation of the numbers of int for each key, 0 to 8000: four rounds over the upper and the lower 16 bits. */
+/* A permutation of the numbers of int for each key, 0 to 8000: four rounds over the upper and the lower 16 bits. A product is
+   at most 32768 * 65535, which is a number of int. */
 int chance_rounds(int number, int key) {
     int high = number / 65536 + 32768;
     int low = number % 65536;
@@ -78,7 +79,7 @@ int chance_of(int seed, int part, int whole) {
     return number < part;
 }
 
-/* The seed of a child. In one iteration two seeds have never the same child. */
+/* The seed of a child. In one iteration two different seeds never have the same child. */
 int child_seed(int seed) {
     int child = chance_mixing(seed, 2029);
     return child;
