@@ -34,7 +34,9 @@ at_or_before tokens k b f j h = elim (cases_lt k j) [
   | inr i ↦ b j i
 ]
 
-pub depth_step : (tokens : List Token) (k opened closed o c : ℕ) → DepthOn tokens k opened closed → o ≡ opened + (if opens (first (drop k tokens)) then 1 else 0) → c ≡ closed + (if closes (first (drop k tokens)) then 1 else 0) → o ≤ c + 64 → DepthOn tokens (k + 1) o c
+pub depth_step : (tokens : List Token) (k opened closed o c : ℕ) → DepthOn tokens k opened closed → o ≡ opened +
+    (if opens (first (drop k tokens)) then 1 else 0) → c ≡ closed + (if closes (first (drop k tokens)) then 1 else 0) → o ≤ c + 64 → DepthOn tokens
+    (k + 1) o c
 depth_step tokens k opened closed o c d p q f =
     let a = count_step opens tokens k refl in
     let b = count_step closes tokens k refl in
@@ -42,7 +44,9 @@ depth_step tokens k opened closed o c d p q f =
     let v : c ≡ count_of closes (take (k + 1) tokens) = q ∙ ap (λ n. n + (if closes (first (drop k tokens)) then 1 else 0)) d.closed_are ∙ sym b ∙ ap (λ n. count_of closes (take n tokens)) (sym (add-one k)) in
     record { opened_are = u; closed_are = v; before = at_or_before tokens k d.before (omega (arith, u, v, f)) }
 
-pub depth_exceeds : (tokens : List Token) (k opened closed o c : ℕ) → k < length tokens → DepthOn tokens k opened closed → o ≡ opened + (if opens (first (drop k tokens)) then 1 else 0) → c ≡ closed + (if closes (first (drop k tokens)) then 1 else 0) → c + 64 < o → IsTooDeep 64 tokens k
+pub depth_exceeds : (tokens : List Token) (k opened closed o c : ℕ) → k < length tokens → DepthOn tokens k opened closed → o ≡ opened +
+    (if opens (first (drop k tokens)) then 1 else 0) → c ≡ closed + (if closes (first (drop k tokens)) then 1 else 0) → c + 64 < o → IsTooDeep 64 tokens
+    k
 depth_exceeds tokens k opened closed o c l d p q f =
     let a = count_step opens tokens k refl in
     let b = count_step closes tokens k refl in

@@ -13,15 +13,18 @@ use Rattle.flame_expr.proofs.Heads.{matched}
 use Rattle.flame_expr.proofs.Parts.{any_heads, pasts, GoesAny, go_on}
 use Rattle.flame_expr.proofs.LevelFacts.{enters_tail, enters_signs}
 
-one_rest : (X Y K : List Symbol) (ts : List Token) (e : End) (a : Lexeme) → pasts (any_heads (X ∷ []) a) ≡ Y ∷ [] → first ts ≡ a → GoesAny (Y ∷ []) K (behind ts) e → GoesAny (pasts (any_heads (X ∷ []) a)) K (behind ts) e
+one_rest : (X Y K : List Symbol) (ts : List Token) (e : End) (a : Lexeme) → pasts (any_heads (X ∷ []) a) ≡ Y ∷ [] → first ts ≡ a → GoesAny (Y ∷ []) K
+    (behind ts) e → GoesAny (pasts (any_heads (X ∷ []) a)) K (behind ts) e
 one_rest X Y K ts e a g f h = subst (λ A. GoesAny A K (behind ts) e) (sym g) h
 
 mutual
   pub reads_go : (k : ℕ) (K : List Symbol) (ts mid : List Token) (t : Expression) (e : End) → Reads k ts t mid → Goes K mid e → Goes (form (level k) ∷ K) ts e
   reads_go zero K ts mid t e (a_unary {mid = m} {ss = ss} {e = u} a b) h = expand (in_turn (signs_go (form primary ∷ K) ts m ss e a (primary_goes K m mid u e b h)))
   reads_go (suc k) K ts mid t e (a_chain {mid = m} {e = u} {ls = ls} l a b) h = expand (in_turn (reads_go k (tail k ∷ K) ts m u e a (tail_goes k K m mid ls e b h)))
-  reads_go (suc k) K ts mid t e (a_conjunction {mid = m} {e = u} {us = us} l a b) h = expand (in_turn (reads_go k (tail k ∷ K) ts m u e a (subst (λ j. Goes (tail j ∷ K) m e) (sym l) (conjuncts_go K m mid us e b h))))
-  reads_go (suc k) K ts mid t e (a_disjunction {mid = m} {e = u} {us = us} l a b) h = expand (in_turn (reads_go k (tail k ∷ K) ts m u e a (subst (λ j. Goes (tail j ∷ K) m e) (sym l) (disjuncts_go K m mid us e b h))))
+  reads_go (suc k) K ts mid t e (a_conjunction {mid = m} {e = u} {us = us} l a b) h = expand
+      (in_turn (reads_go k (tail k ∷ K) ts m u e a (subst (λ j. Goes (tail j ∷ K) m e) (sym l) (conjuncts_go K m mid us e b h))))
+  reads_go (suc k) K ts mid t e (a_disjunction {mid = m} {e = u} {us = us} l a b) h = expand
+      (in_turn (reads_go k (tail k ∷ K) ts m u e a (subst (λ j. Goes (tail j ∷ K) m e) (sym l) (disjuncts_go K m mid us e b h))))
 
   tail_goes : (k : ℕ) (K : List Symbol) (ts mid : List Token) (ls : Links) (e : End) → Tail k ts ls mid → Goes K mid e → Goes (tail k ∷ K) ts e
   tail_goes k K ts mid ls e no_link h = enough h
@@ -49,13 +52,19 @@ mutual
   primary_goes : (K : List Symbol) (ts mid : List Token) (t : Expression) (e : End) → Primary ts t mid → Goes K mid e → Goes (form primary ∷ K) ts e
   primary_goes K ts mid t e (a_number f) h = go_on (form primary ∷ []) K ts e Number f (inl h)
   primary_goes K ts mid t e (a_name {s = s} f a) h = go_on (form primary ∷ []) K ts e Word f (inl (index_goes K (behind ts) mid s e a h))
-  primary_goes K ts mid t e (a_field {s = s} f g i a) h = go_on (form primary ∷ []) K ts e Word f (inr (inl (matched Arrow (lexeme Word ∷ index ∷ K) (behind ts) e refl (sym g) (matched Word (index ∷ K) (behind (behind ts)) e refl (sym i) (index_goes K (behind (behind (behind ts))) mid s e a h)))))
-  primary_goes K ts mid t e (a_get f g i) h = go_on (form primary ∷ []) K ts e Word f (inr (inr (inl (matched Open (lexeme Close ∷ K) (behind ts) e refl (sym g) (matched Close K (behind (behind ts)) e refl (sym i) h)))))
+  primary_goes K ts mid t e (a_field {s = s} f g i a) h = go_on (form primary ∷ []) K ts e Word f
+      (inr
+      (inl
+      (matched Arrow (lexeme Word ∷ index ∷ K) (behind ts) e refl (sym g)
+      (matched Word (index ∷ K) (behind (behind ts)) e refl (sym i) (index_goes K (behind (behind (behind ts))) mid s e a h)))))
+  primary_goes K ts mid t e (a_get f g i) h = go_on (form primary ∷ []) K ts e Word f
+      (inr (inr (inl (matched Open (lexeme Close ∷ K) (behind ts) e refl (sym g) (matched Close K (behind (behind ts)) e refl (sym i) h)))))
   primary_goes K ts mid t e (in_brackets a) h = bracketed_goes K ts mid t e a h
 
   pub index_goes : (K : List Symbol) (ts mid : List Token) (s : Option Indexed) (e : End) → Index ts s mid → Goes K mid e → Goes (index ∷ K) ts e
   index_goes K ts mid s e no_index h = without h
-  index_goes K ts mid s e (an_index {mid = m} {e = u} f a g) h = go_on (index ∷ []) K ts e OpenBracket f (inl (reads_go 6 (lexeme CloseBracket ∷ K) (behind ts) m u e a (matched CloseBracket K m e refl (sym g) h)))
+  index_goes K ts mid s e (an_index {mid = m} {e = u} f a g) h = go_on (index ∷ []) K ts e OpenBracket f
+      (inl (reads_go 6 (lexeme CloseBracket ∷ K) (behind ts) m u e a (matched CloseBracket K m e refl (sym g) h)))
 
   bracketed_goes : (K : List Symbol) (ts mid : List Token) (t : Expression) (e : End) → Bracketed ts t mid → Goes K mid e → Goes (form primary ∷ K) ts e
   bracketed_goes K ts mid t e (bracketed f a) h = go_on (form primary ∷ []) K ts e Open f (inl (closed_goes K (behind ts) mid t e a h))

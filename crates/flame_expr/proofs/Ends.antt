@@ -35,14 +35,18 @@ pub one_stopped : {J : List Lexeme} {X : List Symbol} {tokens : List Token} {at 
 one_stopped {J} {X} {tokens} {at} {stop} p = record { ahead = p.ahead; within = p.within; halts = one_halt J X (drop at tokens) (drop stop tokens) p.halts }
 
 -- past the lexeme that stands there
-pub enter_ended : (J : List Lexeme) (A : List (List Symbol)) (tokens : List Token) (at end : ℕ) (a : Lexeme) → is_real a ≡ true → clean (any_heads A a) (joins_on a J) ≡ true → first (drop at tokens) ≡ a → EndedAny J (pasts (any_heads A a)) tokens (at + 1) end → EndedAny J A tokens at end
+pub enter_ended : (J : List Lexeme) (A : List (List Symbol)) (tokens : List Token) (at end : ℕ) (a : Lexeme) → is_real a ≡ true → clean
+    (any_heads A a) (joins_on a J) ≡ true → first (drop at tokens) ≡ a → EndedAny J (pasts (any_heads A a)) tokens (at + 1) end → EndedAny J A tokens at
+    end
 enter_ended J A tokens at end a r c f p = record {
   ahead = omega (arith, p.ahead);
   within = p.within;
   passes = enter_pass J A (drop at tokens) (drop end tokens) a r c f (subst (λ ts. PassesAny J (pasts (any_heads A a)) ts (drop end tokens)) (sym (behind-drop tokens at)) p.passes);
 }
 
-pub enter_stopped : (J : List Lexeme) (A : List (List Symbol)) (tokens : List Token) (at stop : ℕ) (a : Lexeme) → is_real a ≡ true → clean (any_heads A a) (joins_on a J) ≡ true → first (drop at tokens) ≡ a → StoppedAny J (pasts (any_heads A a)) tokens (at + 1) stop → StoppedAny J A tokens at stop
+pub enter_stopped : (J : List Lexeme) (A : List (List Symbol)) (tokens : List Token) (at stop : ℕ) (a : Lexeme) → is_real a ≡ true → clean
+    (any_heads A a) (joins_on a J) ≡ true → first (drop at tokens) ≡ a → StoppedAny J (pasts (any_heads A a)) tokens (at + 1) stop → StoppedAny J A
+    tokens at stop
 enter_stopped J A tokens at stop a r c f p = record {
   ahead = omega (arith, p.ahead);
   within = p.within;
@@ -52,18 +56,21 @@ enter_stopped J A tokens at stop a r c f p = record {
 pub here_ended : (J : List Lexeme) (A : List (List Symbol)) (tokens : List Token) (at : ℕ) → at ≤ length tokens → ends_here (any_heads A (first (drop at tokens))) ≡ true → EndedAny J A tokens at at
 here_ended J A tokens at l c = record { ahead = omega arith; within = l; passes = pass_here J A (drop at tokens) c }
 
-pub here_stopped : (J : List Lexeme) (X : List Symbol) (A : List (List Symbol)) (tokens : List Token) (at : ℕ) → at ≤ length tokens → none (any_heads (X ∷ A) (first (drop at tokens))) ≡ true → StoppedAny J (X ∷ A) tokens at at
+pub here_stopped : (J : List Lexeme) (X : List Symbol) (A : List (List Symbol)) (tokens : List Token) (at : ℕ) → at ≤ length tokens → none
+    (any_heads (X ∷ A) (first (drop at tokens))) ≡ true → StoppedAny J (X ∷ A) tokens at at
 here_stopped J X A tokens at l c = record { ahead = omega arith; within = l; halts = halt_here J (X ∷ A) (drop at tokens) (omega arith) c }
 
 -- one part after another
-pub ended_then : (J G : List Lexeme) (X Y : List Symbol) (tokens : List Token) (at mid end : ℕ) → fine J G Y ≡ true → Ended J X tokens at mid → Ended G Y tokens mid end → Ended G (onto X Y) tokens at end
+pub ended_then : (J G : List Lexeme) (X Y : List Symbol) (tokens : List Token) (at mid end : ℕ) → fine J G Y ≡ true → Ended J X tokens at mid → Ended
+    G Y tokens mid end → Ended G (onto X Y) tokens at end
 ended_then J G X Y tokens at mid end c p q = record {
   ahead = omega (arith, p.ahead, q.ahead);
   within = q.within;
   passes = pass_then J G X Y (drop at tokens) (drop mid tokens) (drop end tokens) c p.passes q.passes;
 }
 
-pub stopped_then : (J G : List Lexeme) (X Y : List Symbol) (tokens : List Token) (at mid stop : ℕ) → fine J G Y ≡ true → Ended J X tokens at mid → Stopped G Y tokens mid stop → Stopped G (onto X Y) tokens at stop
+pub stopped_then : (J G : List Lexeme) (X Y : List Symbol) (tokens : List Token) (at mid stop : ℕ) → fine J G Y ≡ true → Ended J X tokens at mid →
+    Stopped G Y tokens mid stop → Stopped G (onto X Y) tokens at stop
 stopped_then J G X Y tokens at mid stop c p q = record {
   ahead = omega (arith, p.ahead, q.ahead);
   within = q.within;
@@ -83,10 +90,14 @@ pub nothing_ended : (J : List Lexeme) (tokens : List Token) (at : ℕ) → at �
 nothing_ended J tokens at l = record { ahead = omega arith; within = l; passes = nothing_pass J (drop at tokens) }
 
 -- by the lexeme that begins it, which leaves one rest
-pub begin_ended : (J : List Lexeme) (X Y : List Symbol) (tokens : List Token) (at end : ℕ) (a : Lexeme) → is_real a ≡ true → clean (any_heads (X ∷ []) a) (joins_on a J) ≡ true → pasts (any_heads (X ∷ []) a) ≡ Y ∷ [] → first (drop at tokens) ≡ a → Ended J Y tokens (at + 1) end → Ended J X tokens at end
+pub begin_ended : (J : List Lexeme) (X Y : List Symbol) (tokens : List Token) (at end : ℕ) (a : Lexeme) → is_real a ≡ true → clean
+    (any_heads (X ∷ []) a) (joins_on a J) ≡ true → pasts (any_heads (X ∷ []) a) ≡ Y ∷ [] → first (drop at tokens) ≡ a → Ended J Y tokens (at + 1) end →
+    Ended J X tokens at end
 begin_ended J X Y tokens at end a r c g f p = one_ended (enter_ended J (X ∷ []) tokens at end a r c f (subst (λ A. EndedAny J A tokens (at + 1) end) (sym g) (any_ended p)))
 
-pub begin_stopped : (J : List Lexeme) (X Y : List Symbol) (tokens : List Token) (at stop : ℕ) (a : Lexeme) → is_real a ≡ true → clean (any_heads (X ∷ []) a) (joins_on a J) ≡ true → pasts (any_heads (X ∷ []) a) ≡ Y ∷ [] → first (drop at tokens) ≡ a → Stopped J Y tokens (at + 1) stop → Stopped J X tokens at stop
+pub begin_stopped : (J : List Lexeme) (X Y : List Symbol) (tokens : List Token) (at stop : ℕ) (a : Lexeme) → is_real a ≡ true → clean
+    (any_heads (X ∷ []) a) (joins_on a J) ≡ true → pasts (any_heads (X ∷ []) a) ≡ Y ∷ [] → first (drop at tokens) ≡ a → Stopped J Y tokens (at + 1) stop
+    → Stopped J X tokens at stop
 begin_stopped J X Y tokens at stop a r c g f p = one_stopped (enter_stopped J (X ∷ []) tokens at stop a r c f (subst (λ A. StoppedAny J A tokens (at + 1) stop) (sym g) (any_stopped p)))
 
 -- a nonterminal by its right side, where that is two parts in turn
@@ -107,7 +118,8 @@ form_halts J n x y ts stop f p = record {
 pub form_ended : (J : List Lexeme) (n : Form) (x y : Symbol) (tokens : List Token) (at end : ℕ) → right_side n ≡ both x y → Ended J (x ∷ y ∷ []) tokens at end → Ended J (form n ∷ []) tokens at end
 form_ended J n x y tokens at end f p = record { ahead = p.ahead; within = p.within; passes = form_passes J n x y (drop at tokens) (drop end tokens) f p.passes }
 
-pub form_stopped : (J : List Lexeme) (n : Form) (x y : Symbol) (tokens : List Token) (at stop : ℕ) → right_side n ≡ both x y → Stopped J (x ∷ y ∷ []) tokens at stop → Stopped J (form n ∷ []) tokens at stop
+pub form_stopped : (J : List Lexeme) (n : Form) (x y : Symbol) (tokens : List Token) (at stop : ℕ) → right_side n ≡ both x y → Stopped J (x ∷ y ∷ [])
+    tokens at stop → Stopped J (form n ∷ []) tokens at stop
 form_stopped J n x y tokens at stop f p = record { ahead = p.ahead; within = p.within; halts = form_halts J n x y (drop at tokens) (drop stop tokens) f p.halts }
 
 -- an error that is passed on

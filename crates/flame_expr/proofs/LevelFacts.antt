@@ -21,15 +21,6 @@ fine_tail (suc (suc (suc (suc zero)))) h = refl
 fine_tail (suc (suc (suc (suc (suc zero))))) h = refl
 fine_tail (suc (suc (suc (suc (suc (suc k)))))) h = absurd (omega arith)
 
-pub fine_more : (k : ℕ) → k < 6 → fine (joins (suc k)) (joins (suc k)) [] ≡ true
-fine_more zero h = refl
-fine_more (suc zero) h = refl
-fine_more (suc (suc zero)) h = refl
-fine_more (suc (suc (suc zero))) h = refl
-fine_more (suc (suc (suc (suc zero)))) h = refl
-fine_more (suc (suc (suc (suc (suc zero))))) h = refl
-fine_more (suc (suc (suc (suc (suc (suc k)))))) h = absurd (omega arith)
-
 -- one more operator of the level
 abbrev pub Enters : ℕ → Lexeme → Type 0
 Enters k d =
@@ -65,7 +56,7 @@ ends (suc (suc (suc (suc zero)))) h = everywhere (no_op 4) refl
 ends (suc (suc (suc (suc (suc zero))))) h = everywhere (no_op 5) refl
 ends (suc (suc (suc (suc (suc (suc k)))))) h = absurd (omega arith)
 
-or_right : (a b : Bool) → or a b ≡ true → a ≡ false → b ≡ true
+pub or_right : (a b : Bool) → or a b ≡ true → a ≡ false → b ≡ true
 or_right true b h e = absurd (false≢true (sym e))
 or_right false b h e = h
 

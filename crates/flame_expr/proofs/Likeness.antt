@@ -14,7 +14,8 @@ alike_goes A B K ts e n f h = elim (any_all A K ts e h) [
   | inr i ↦ any_from B K ts e (subst (λ hs. One hs K ts e) f i)
 ]
 
-pub alike_ended : (J : List Lexeme) (A B : List (List Symbol)) (tokens : List Token) (at end : ℕ) → 0 < length A → 0 < length B → any_heads A (first (drop at tokens)) ≡ any_heads B (first (drop at tokens)) → EndedAny J A tokens at end → EndedAny J B tokens at end
+pub alike_ended : (J : List Lexeme) (A B : List (List Symbol)) (tokens : List Token) (at end : ℕ) → 0 < length A → 0 < length B → any_heads A
+    (first (drop at tokens)) ≡ any_heads B (first (drop at tokens)) → EndedAny J A tokens at end → EndedAny J B tokens at end
 alike_ended J A B tokens at end m n f p = record {
   ahead = p.ahead;
   within = p.within;
@@ -25,7 +26,8 @@ alike_ended J A B tokens at end m n f p = record {
   };
 }
 
-pub alike_stopped : (J : List Lexeme) (A B : List (List Symbol)) (tokens : List Token) (at stop : ℕ) → 0 < length A → 0 < length B → any_heads A (first (drop at tokens)) ≡ any_heads B (first (drop at tokens)) → StoppedAny J A tokens at stop → StoppedAny J B tokens at stop
+pub alike_stopped : (J : List Lexeme) (A B : List (List Symbol)) (tokens : List Token) (at stop : ℕ) → 0 < length A → 0 < length B → any_heads A
+    (first (drop at tokens)) ≡ any_heads B (first (drop at tokens)) → StoppedAny J A tokens at stop → StoppedAny J B tokens at stop
 alike_stopped J A B tokens at stop m n f p = record {
   ahead = p.ahead;
   within = p.within;

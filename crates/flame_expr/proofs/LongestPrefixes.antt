@@ -14,10 +14,6 @@ pub nothing_left : (ts : List Token) (e : End) → Goes [] ts e → length ts �
 nothing_left ts e stay = omega arith
 nothing_left ts e done = omega arith
 
-nothing_more : (ts : List Token) (e : End) → Goes [] ts e → length (left_of e) ≤ length ts
-nothing_more ts e stay = omega arith
-nothing_more ts e done = omega arith
-
 pub blocks_none : (J : List Lexeme) → Blocks J []
 blocks_none [] = tt
 blocks_none (l ∷ J) = (λ token ts e f h. nothing_left (token ∷ ts) e h, blocks_none J)
@@ -54,11 +50,13 @@ passed_not_all J n ts mid l p h = elim (p.bound [] (whole []) (blocks_none J) h)
 pub rest_at : (tokens : List Token) (at end : ℕ) → at ≤ end → drop (end - at) (drop at tokens) ≡ drop end tokens
 rest_at tokens at end le = drop-drop (end - at) at tokens ∙ ap (λ n. drop n tokens) (omega (arith, le))
 
-pub is_expression : (tokens : List Token) (at end : ℕ) (t : Expression) → at ≤ length tokens → Reads 6 (drop at tokens) t (drop end tokens) → Ended (joins 6) (expr ∷ []) tokens at end → IsExpressionAt tokens at t end
+pub is_expression : (tokens : List Token) (at end : ℕ) (t : Expression) → at ≤ length tokens → Reads 6 (drop at tokens) t (drop end tokens) → Ended
+    (joins 6) (expr ∷ []) tokens at end → IsExpressionAt tokens at t end
 is_expression tokens at end t le r p = record {
   ahead = p.ahead;
   within = p.within;
-  longest = passed_longest (joins 6) (level 6) (drop at tokens) (end - at) (omega (arith, p.ahead, p.within, length-drop at tokens)) (subst (Passes (joins 6) (expr ∷ []) (drop at tokens)) (sym (rest_at tokens at end p.ahead)) p.passes);
+  longest = passed_longest (joins 6) (level 6) (drop at tokens) (end - at) (omega (arith, p.ahead, p.within, length-drop at tokens))
+      (subst (Passes (joins 6) (expr ∷ []) (drop at tokens)) (sym (rest_at tokens at end p.ahead)) p.passes);
   tree = r;
 }
 
@@ -66,6 +64,7 @@ pub is_no_expression : (tokens : List Token) (at stop : ℕ) → at ≤ length t
 is_no_expression tokens at stop le p = record {
   ahead = p.ahead;
   within = p.within;
-  longest = halted_longest (joins 6) (level 6) (drop at tokens) (stop - at) (omega (arith, p.ahead, p.within, length-drop at tokens)) (subst (Halts (joins 6) (expr ∷ []) (drop at tokens)) (sym (rest_at tokens at stop p.ahead)) p.halts);
+  longest = halted_longest (joins 6) (level 6) (drop at tokens) (stop - at) (omega (arith, p.ahead, p.within, length-drop at tokens))
+      (subst (Halts (joins 6) (expr ∷ []) (drop at tokens)) (sym (rest_at tokens at stop p.ahead)) p.halts);
   none = λ e r. halted_not_whole (joins 6) (level 6) (drop at tokens) (drop stop tokens) p.halts (reads_go 6 [] (drop at tokens) (drop stop tokens) e (whole (drop stop tokens)) r done);
 }

@@ -151,8 +151,10 @@ mutual
       (with_signs s.0 p.0, a_unary s.1 p.1)
   means_level (suc zero) ts rest h (side (pair {mid = m} a b)) = chain_of 0 ts m rest (omega arith) (means_level 0 ts m (omega arith) a) (means_tail 0 (operators 0) m rest (omega arith) refl b)
   means_level (suc (suc zero)) ts rest h (side (pair {mid = m} a b)) = chain_of 1 ts m rest (omega arith) (means_level 1 ts m (omega arith) a) (means_tail 1 (operators 1) m rest (omega arith) refl b)
-  means_level (suc (suc (suc zero))) ts rest h (side (pair {mid = m} a b)) = chain_of 2 ts m rest (omega arith) (means_level 2 ts m (omega arith) a) (means_tail 2 (operators 2) m rest (omega arith) refl b)
-  means_level (suc (suc (suc (suc zero)))) ts rest h (side (pair {mid = m} a b)) = chain_of 3 ts m rest (omega arith) (means_level 3 ts m (omega arith) a) (means_tail 3 (operators 3) m rest (omega arith) refl b)
+  means_level (suc (suc (suc zero))) ts rest h (side (pair {mid = m} a b)) = chain_of 2 ts m rest (omega arith) (means_level 2 ts m (omega arith) a)
+      (means_tail 2 (operators 2) m rest (omega arith) refl b)
+  means_level (suc (suc (suc (suc zero)))) ts rest h (side (pair {mid = m} a b)) = chain_of 3 ts m rest (omega arith)
+      (means_level 3 ts m (omega arith) a) (means_tail 3 (operators 3) m rest (omega arith) refl b)
   means_level (suc (suc (suc (suc (suc zero))))) ts rest h (side (pair {mid = m} a b)) =
       let e = means_level 4 ts m (omega arith) a in
       let u = means_conjuncts m rest b in

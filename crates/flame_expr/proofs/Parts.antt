@@ -151,7 +151,8 @@ or_true : (a b : Bool) → or a b ≡ true → (a ≡ true) ⊎ (b ≡ true)
 or_true true b h = inl refl
 or_true false b h = inr h
 
-blocked_by : (d : Lexeme) (J : List Lexeme) (K : List Symbol) (token : Token) (ts : List Token) (e : End) → lexeme_of token.kind ≡ d → among d J ≡ true → Blocks J K → Goes K (token ∷ ts) e → length (token ∷ ts) ≤ length (left_of e)
+blocked_by : (d : Lexeme) (J : List Lexeme) (K : List Symbol) (token : Token) (ts : List Token) (e : End) → lexeme_of token.kind ≡ d → among d J ≡
+    true → Blocks J K → Goes K (token ∷ ts) e → length (token ∷ ts) ≤ length (left_of e)
 blocked_by d [] K token ts e f m b h = absurd (false≢true m)
 blocked_by d (l ∷ J) K token ts e f m b h = elim (or_true (same l d) (among d J) m) [
   | inl i ↦ b.0 token ts e (f ∙ sym (same_equal l d i)) h
@@ -181,7 +182,8 @@ behind_shorter [] r = absurd (false≢true r)
 behind_shorter (token ∷ ts) r = omega arith
 
 -- past the next lexeme
-pub enter_pass : (J : List Lexeme) (A : List (List Symbol)) (ts end : List Token) (a : Lexeme) → is_real a ≡ true → clean (any_heads A a) (joins_on a J) ≡ true → first ts ≡ a → PassesAny J (pasts (any_heads A a)) (behind ts) end → PassesAny J A ts end
+pub enter_pass : (J : List Lexeme) (A : List (List Symbol)) (ts end : List Token) (a : Lexeme) → is_real a ≡ true → clean (any_heads A a)
+    (joins_on a J) ≡ true → first ts ≡ a → PassesAny J (pasts (any_heads A a)) (behind ts) end → PassesAny J A ts end
 enter_pass J A ts end a r c f p =
     let l : length end < length ts = omega (arith, p.shorter, behind_shorter ts (ap is_real f ∙ r)) in
     let c' : clean (any_heads A (first ts)) (joins_on (first ts) J) ≡ true = ap (λ d. clean (any_heads A d) (joins_on d J)) f ∙ c in
@@ -198,7 +200,8 @@ enter_pass J A ts end a r c f p =
       ];
     }
 
-pub enter_halt : (J : List Lexeme) (A : List (List Symbol)) (ts stop : List Token) (a : Lexeme) → is_real a ≡ true → clean (any_heads A a) (joins_on a J) ≡ true → first ts ≡ a → HaltsAny J (pasts (any_heads A a)) (behind ts) stop → HaltsAny J A ts stop
+pub enter_halt : (J : List Lexeme) (A : List (List Symbol)) (ts stop : List Token) (a : Lexeme) → is_real a ≡ true → clean (any_heads A a)
+    (joins_on a J) ≡ true → first ts ≡ a → HaltsAny J (pasts (any_heads A a)) (behind ts) stop → HaltsAny J A ts stop
 enter_halt J A ts stop a r c f p =
     let l : length stop < length ts = omega (arith, p.shorter, behind_shorter ts (ap is_real f ∙ r)) in
     let m : length stop ≤ length ts = omega (arith, l) in

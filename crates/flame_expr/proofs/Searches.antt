@@ -179,7 +179,8 @@ known (suc f) (form n ∷ X) d h s =
 known (suc f) (both x y ∷ X) d h s =
     let a = and_left (and (sound x) (sound y)) (all_sound X) s in
     known f (x ∷ y ∷ X) d (upto_pair (nothing x) (nothing y) (need x) (need y) (needs X) f h)
-    (and_intro (sound x) (and (sound y) (all_sound X)) (and_left (sound x) (sound y) a) (and_intro (sound y) (all_sound X) (and_right (sound x) (sound y) a) (and_right (and (sound x) (sound y)) (all_sound X) s)))
+    (and_intro (sound x) (and (sound y) (all_sound X)) (and_left (sound x) (sound y) a)
+    (and_intro (sound y) (all_sound X) (and_right (sound x) (sound y) a) (and_right (and (sound x) (sound y)) (all_sound X) s)))
 known (suc f) (either x y ∷ X) d h s =
     let a = and_left (and (sound x) (sound y)) (all_sound X) s in
     let b = and_right (and (sound x) (sound y)) (all_sound X) s in
@@ -266,7 +267,8 @@ one_either d (through ∷ hs) K ts e k h = elim h [
 one_either d (unknown X ∷ hs) K ts e k h = absurd k
 
 -- what steps from no rest, or from some rests, come to
-any_either : (A : List (List Symbol)) (ts : List Token) (e : End) → Sound A → GoesAny A [] ts e → (e ≡ left ts) ⊎ (GoesAny (pasts (next_heads A (first ts))) [] (behind ts) e ⊎ ((may_end (next_heads A (first ts)) ≡ true) × Goes [] ts e))
+any_either : (A : List (List Symbol)) (ts : List Token) (e : End) → Sound A → GoesAny A [] ts e → (e ≡ left ts) ⊎
+    (GoesAny (pasts (next_heads A (first ts))) [] (behind ts) e ⊎ ((may_end (next_heads A (first ts)) ≡ true) × Goes [] ts e))
 any_either A ts e s h = elim (next_all A [] ts e h) [
   | inl i ↦ inl i
   | inr i ↦ inr (one_either (first ts) (next_heads A (first ts)) [] ts e (next_known A (first ts) s) i)
@@ -300,7 +302,8 @@ no_way : (P : List (List Symbol)) (ts : List Token) (e : End) → P ≡ [] → G
 no_way P ts e f h = subst (λ Q. GoesAny Q [] ts e) f h
 
 -- nothing is matched
-ends_or_not : (b : Bool) (A : List (List Symbol)) (ts : List Token) → may_end (next_heads A (first ts)) ≡ b → Sound A → pasts (next_heads A (first ts)) ≡ [] → GoesAny A [] ts (whole ts) ⊎ (GoesAny A [] ts (whole ts) → ⊥)
+ends_or_not : (b : Bool) (A : List (List Symbol)) (ts : List Token) → may_end (next_heads A (first ts)) ≡ b → Sound A → pasts
+    (next_heads A (first ts)) ≡ [] → GoesAny A [] ts (whole ts) ⊎ (GoesAny A [] ts (whole ts) → ⊥)
 ends_or_not true A ts m s p = inl (next_from A [] ts (whole ts) (one_end (next_heads A (first ts)) [] ts (whole ts) m done))
 ends_or_not false A ts m s p = inr (λ h. elim (any_either A ts (whole ts) s h) [
   | inl i ↦ left_not_whole ts ts i
@@ -332,7 +335,8 @@ stays A ts n s p = record {
 }
 
 -- one token is matched, and then others
-no_longer : (A B : List (List Symbol)) (token : Token) (ts : List Token) (q : Reach B ts) → B ≡ pasts (next_heads A (first (token ∷ ts))) → Sound A → (m : ℕ) → suc q.count < m → m ≤ length (token ∷ ts) → GoesAny A [] (token ∷ ts) (left (drop m (token ∷ ts))) → ⊥
+no_longer : (A B : List (List Symbol)) (token : Token) (ts : List Token) (q : Reach B ts) → B ≡ pasts (next_heads A (first (token ∷ ts))) → Sound A →
+    (m : ℕ) → suc q.count < m → m ≤ length (token ∷ ts) → GoesAny A [] (token ∷ ts) (left (drop m (token ∷ ts))) → ⊥
 no_longer A B token ts q f s zero l w h = absurd (omega (arith, l))
 no_longer A B token ts q f s (suc m) l w h = elim (any_either A (token ∷ ts) (left (drop m ts)) s h) [
   | inl i ↦ past_left (token ∷ ts) (suc m) (omega arith) w i
@@ -342,7 +346,8 @@ no_longer A B token ts q f s (suc m) l w h = elim (any_either A (token ∷ ts) (
   ]
 ]
 
-no_end : (A B : List (List Symbol)) (token : Token) (ts rest : List Token) → length rest ≤ length ts → B ≡ pasts (next_heads A (first (token ∷ ts))) → Sound A → (GoesAny B [] ts (whole rest) → ⊥) → GoesAny A [] (token ∷ ts) (whole rest) → ⊥
+no_end : (A B : List (List Symbol)) (token : Token) (ts rest : List Token) → length rest ≤ length ts → B ≡ pasts (next_heads A (first (token ∷ ts))) →
+    Sound A → (GoesAny B [] ts (whole rest) → ⊥) → GoesAny A [] (token ∷ ts) (whole rest) → ⊥
 no_end A B token ts rest l f s n h = elim (any_either A (token ∷ ts) (whole rest) s h) [
   | inl i ↦ left_not_whole rest (token ∷ ts) i
   | inr i ↦ elim i [
@@ -363,9 +368,11 @@ goes_on A B token ts f s q = record {
   ];
 }
 
-reach_by : (A P : List (List Symbol)) (token : Token) (ts : List Token) → P ≡ pasts (next_heads A (first (token ∷ ts))) → 0 < length A → Sound A → (0 < length P → Sound P → Reach P ts) → Reach A (token ∷ ts)
+reach_by : (A P : List (List Symbol)) (token : Token) (ts : List Token) → P ≡ pasts (next_heads A (first (token ∷ ts))) → 0 < length A → Sound A →
+    (0 < length P → Sound P → Reach P ts) → Reach A (token ∷ ts)
 reach_by A [] token ts f n s r = stays A (token ∷ ts) n s (sym f)
-reach_by A (X ∷ P) token ts f n s r = goes_on A (X ∷ P) token ts f s (r (omega arith) (subst Sound (sym f) (pasts_sound (first (token ∷ ts)) (next_heads A (first (token ∷ ts))) (next_known A (first (token ∷ ts)) s))))
+reach_by A (X ∷ P) token ts f n s r = goes_on A (X ∷ P) token ts f s
+    (r (omega arith) (subst Sound (sym f) (pasts_sound (first (token ∷ ts)) (next_heads A (first (token ∷ ts))) (next_known A (first (token ∷ ts)) s))))
 
 reach : (ts : List Token) (A : List (List Symbol)) → 0 < length A → Sound A → Reach A ts
 reach [] A n s = stays A [] n s (no_pasts (next_heads A Nothing) (next_known A Nothing s))

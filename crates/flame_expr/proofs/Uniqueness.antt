@@ -1,6 +1,7 @@
 -- A list of tokens is at most one expression.
-use Rattle.std.proofs.Common.{◌≡◌, ℕ, zero, suc, List, [], ◌∷◌, ◌++◌, refl, sym, ap, ◌∙◌, subst, arith, Bool, true, false, Option, Some, None, unwrap_or}
+use Rattle.std.proofs.Common.{◌≡◌, ℕ, zero, suc, List, [], ◌∷◌, ◌++◌, refl, sym, ap, ◌∙◌, subst, arith, Bool, true, false, Option, Some, None}
 use Rattle.std.proofs.lemmas.Bool.{false≢true}
+use Rattle.std.proofs.lemmas.Option.{same_Some}
 use Rattle.flame_ops.specs.declared.integers.Op.{Op}
 use Rattle.flame_spec.specs.declared.trees.Sign.{Sign}
 use Rattle.flame_spec.specs.Trees.{Expression, Expressions, part, Links, link, Indexed}
@@ -20,7 +21,7 @@ or_left_false : (a b : Bool) → or a b ≡ false → a ≡ false
 or_left_false true b h = h
 or_left_false false b h = refl
 
-or_right_false : (a b : Bool) → or a b ≡ false → b ≡ false
+pub or_right_false : (a b : Bool) → or a b ≡ false → b ≡ false
 or_right_false true b h = absurd (false≢true (sym h))
 or_right_false false b h = h
 
@@ -88,9 +89,6 @@ primary_no_sign ts rest t (a_field f g h a) = ap sign_of f
 primary_no_sign ts rest t (a_get f g h) = ap sign_of f
 primary_no_sign ts rest t (in_brackets (bracketed f a)) = ap sign_of f
 
-some_equal : {X : Type 0} (x y : X) → Some x ≡ Some y → x ≡ y
-some_equal x y h = ap (λ o. unwrap_or o x) h
-
 no_some : {X : Type 0} (o : Option X) (x : X) → o ≡ None → o ≡ Some x → ⊥
 no_some o x f g = let h : None ≡ Some x = sym f ∙ g in cc
 
@@ -100,7 +98,7 @@ one_signs ts m m' ss ss' no_sign (a_sign {kind = kind} s a) h h' = absurd (no_so
 one_signs ts m m' ss ss' (a_sign {kind = kind} s a) no_sign h h' = absurd (no_some (sign_of (first ts)) kind h' s)
 one_signs ts m m' ss ss' (a_sign {kind = kind} {ss = x} s a) (a_sign {kind = kind'} {ss = x'} s' a') h h' =
     let i = one_signs (behind ts) m m' x x' a a' h h' in
-    let k : kind ≡ kind' = some_equal kind kind' (sym s ∙ s') in
+    let k : kind ≡ kind' = same_Some kind kind' (sym s ∙ s') in
     (ap (λ z. record { kind = z; line = line ts } ∷ x) k ∙ ap (λ z. record { kind = kind'; line = line ts } ∷ z) i.0, i.1)
 
 pub unlike_words : (a b : Lexeme) (ts : List Token) → same a b ≡ false → first ts ≡ a → first ts ≡ b → ⊥
@@ -153,7 +151,7 @@ mutual
   one_tail k ts r r' ls ls' (a_link {mid = m} {op = o} {e = u} {ls = x} s a b) (a_link {mid = m'} {op = o'} {e = u'} {ls = x'} s' a' b') h h' =
       let i = one_read k (behind ts) m m' u u' a a' (tail_stop k m r x b h) (tail_stop k m' r' x' b' h') in
       let j = one_tail k m' r r' x x' (subst (λ y. Tail k y x r) i.1 b) b' h h' in
-      let p : o ≡ o' = some_equal o o' (sym s ∙ s') in
+      let p : o ≡ o' = same_Some o o' (sym s ∙ s') in
       (ap (λ z. link z (line ts) u x) p ∙ ap (λ z. link o' (line ts) z x) i.0 ∙ ap (link o' (line ts) u') j.0, j.1)
 
   one_conjuncts : (ts r r' : List Token) (us us' : Expressions) → Conjuncts ts us r → Conjuncts ts us' r' → IsStop 5 r → IsStop 5 r' → (us ≡ us') × (r ≡ r')

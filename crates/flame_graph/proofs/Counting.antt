@@ -1,4 +1,5 @@
 -- Counts of open predecessors.
+use mathlib.Core.Bool.{or-true}
 use Rattle.std.proofs.Common.{◌≡◌, ℕ, zero, suc, ◌+◌, ◌<◌, ◌≤◌, List, [], ◌∷◌, ◌++◌, length, get_or, refl, sym, ap, ◌∙◌, arith, true, false, Bool, not, Some, None, Option, cond, ⊎_elim, slice_index}
 use Rattle.std.specs.Prelude.{◌==◌, ◌&&◌, ◌||◌, is_none, nat_lt}
 use Rattle.std.specs.Option.{option_or}
@@ -8,7 +9,7 @@ use Rattle.std.proofs.lemmas.Bool.{eq-eqb, ne_eqb, eqb-true, cases_eq, cases_lt,
 use Rattle.std.proofs.lemmas.List.Folds.{list_any_at}
 use Rattle.flame_spec.specs.Below.{all_below, first_below, is_in, times}
 use Rattle.flame_spec.specs.ModelOrder.{is_ready}
-use Rattle.flame_spec.proofs.FirstBelow.{one, or_true, is_in_push, is_in-all_below, times-all_below}
+use Rattle.flame_spec.proofs.FirstBelow.{one, is_in_push, is_in-all_below, times-all_below}
 use Rattle.flame_spec.proofs.Orders.{Relation, IsOrder, taken_ready}
 use Rattle.flame_graph.specs.Graph.{open_count, AreWaiting}
 
@@ -50,7 +51,7 @@ count_push (suc k) before taken f g h = ⊎_elim (same (count_push k before take
     same rest e =
         let below : one (nat_lt f k && before f g) ≡ 0 = ap (λ b. one (b && before f g)) (le-ltb f k (omega arith)) in
         let now : one (nat_lt f (suc k) && before f g) ≡ one (before f g) = ap (λ b. one (b && before f g)) (lt-ltb f (suc k) (omega arith)) in
-        let after : one (before k g && not (is_in k (taken ++ f ∷ []))) ≡ 0 = ap (λ t. one (before k g && not t)) (is_in_push k f taken ∙ ap (λ b. is_in k taken || b) (eq-eqb f k e) ∙ or_true (is_in k taken)) ∙ ap one (and-false (before k g)) in
+        let after : one (before k g && not (is_in k (taken ++ f ∷ []))) ≡ 0 = ap (λ t. one (before k g && not t)) (is_in_push k f taken ∙ ap (λ b. is_in k taken || b) (eq-eqb f k e) ∙ or-true (is_in k taken)) ∙ ap one (and-false (before k g)) in
         let earlier : one (before k g && not (is_in k taken)) ≡ one (before f g) = ap (λ j. one (before j g && not (is_in j taken))) (sym e) ∙ ap (λ t. one (before f g && not t)) h ∙ ap one (and-true (before f g)) in
         omega (arith, rest, below, now, after, earlier)
 

@@ -1,10 +1,11 @@
 -- A mark is set once, and marks in order give a list of those that pass.
-use Rattle.std.proofs.Common.{◌≡◌, ℕ, zero, suc, ◌+◌, ◌-◌, List, [], ◌∷◌, ◌++◌, length, take, drop, refl, sym, ap, ◌∙◌, arith, true, false, Bool, Some, cond}
+use mathlib.Core.Bool.{or-true}
+use Rattle.std.proofs.Common.{◌≡◌, ℕ, zero, suc, ◌+◌, ◌-◌, List, [], ◌∷◌, ◌++◌, length, refl, sym, ap, ◌∙◌, arith, true, false, Bool, Some, cond}
 use Rattle.std.specs.Prelude.{◌==◌, ◌&&◌, ◌||◌, slice_get}
 use Rattle.std.proofs.lemmas.Bool.{eq-eqb, false≢true, le-ltb}
-use Rattle.std.proofs.lemmas.List.{length_push, append-nil, drop_all, take_all}
+use Rattle.std.proofs.lemmas.List.{length_push, append-nil}
 use Rattle.flame_spec.specs.Below.{all_below, is_in}
-use Rattle.flame_spec.proofs.FirstBelow.{or_true, is_in-all_below}
+use Rattle.flame_spec.proofs.FirstBelow.{is_in-all_below}
 use Rattle.flame_graph.specs.Marks.{is_it, marked, marked_where}
 
 last_pushed : (g : ℕ) (xs : List ℕ) → slice_get (xs ++ g ∷ []) (length xs) ≡ Some g
@@ -26,7 +27,7 @@ marked_twice g xs = go (is_it g (slice_get xs (length xs - 1))) refl
 at_is_in : (g : ℕ) (xs : List ℕ) (i : ℕ) → is_it g (slice_get xs i) ≡ true → is_in g xs ≡ true
 at_is_in g [] i h = absurd (false≢true h)
 at_is_in g (x ∷ xs) zero h = ap (λ b. b || is_in g xs) h
-at_is_in g (x ∷ xs) (suc i) h = ap (λ b. (x == g) || b) (at_is_in g xs i h) ∙ or_true (x == g)
+at_is_in g (x ∷ xs) (suc i) h = ap (λ b. (x == g) || b) (at_is_in g xs i h) ∙ or-true (x == g)
 
 marked_new : (g : ℕ) (xs : List ℕ) → is_in g xs ≡ false → marked g xs ≡ xs ++ g ∷ []
 marked_new g xs h = go (is_it g (slice_get xs (length xs - 1))) refl
@@ -50,7 +51,3 @@ marked_more test i b e =
     go : is_in i (all_below test i) ≡ false → (b : Bool) → b ≡ test i → marked_where i b (all_below test i) ≡ all_below test (suc i)
     go past true q = marked_new i (all_below test i) past ∙ ap (λ t. all_below test i ++ cond t (i ∷ []) []) q
     go past false q = sym (append-nil (all_below test i)) ∙ ap (λ t. all_below test i ++ cond t (i ∷ []) []) q
-
--- a list that was lent whole
-pub whole : {X : Type 0} (xs ys : List X) (n : ℕ) → length xs ≡ length ys → n ≡ length ys → take n (xs ++ drop (length xs) ys) ≡ xs
-whole xs ys n e l = ap (λ r. take n (xs ++ r)) (drop_all (length xs) ys (omega (arith, e))) ∙ ap (take n) (append-nil xs) ∙ take_all n xs (omega (arith, e, l))

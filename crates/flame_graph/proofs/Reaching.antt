@@ -1,11 +1,11 @@
 -- Heights along the order.
+use mathlib.Core.Bool.{or-true}
 use Rattle.std.proofs.Common.{◌≡◌, ℕ, ◌+◌, ◌<◌, ◌≤◌, List, [], ◌∷◌, ◌++◌, length, take, get_or, refl, sym, ap, ◌∙◌, subst, arith, true, false, Bool, None, cond, ⊎_elim, max}
 use Rattle.std.specs.Prelude.{◌==◌, ◌||◌}
 use Rattle.std.proofs.lemmas.Bool.{eq-eqb, eqb-true, false≢true, or_cases}
 use Rattle.flame_spec.specs.Below.{is_in}
 use Rattle.flame_spec.specs.ModelOrder.{order, first_left}
 use Rattle.flame_spec.specs.Layers.{above, layer}
-use Rattle.flame_spec.proofs.FirstBelow.{or_true}
 use Rattle.flame_spec.proofs.Orders.{Relation, IsOrder, order_is_order, ready_taken, none_left_over}
 use Rattle.flame_spec.proofs.Heights.{above_over, above_under, layer_above}
 use Rattle.flame_graph.specs.Heights.{lifted, reached}
@@ -44,7 +44,7 @@ reached_over before height (x ∷ fs) p g h b = ⊎_elim
 
 reached_under : (before : Relation) (height : ℕ → ℕ) (fs : List ℕ) (g m : ℕ) → ((p : ℕ) → is_in p fs ≡ true → before p g ≡ true → height p + 1 ≤ m) → reached before height fs g ≤ m
 reached_under before height [] g m h = omega arith
-reached_under before height (x ∷ fs) g m h = go (before x g) refl (reached_under before height fs g m (λ p t b. h p (ap (λ c. (x == p) || c) t ∙ or_true (x == p)) b))
+reached_under before height (x ∷ fs) g m h = go (before x g) refl (reached_under before height fs g m (λ p t b. h p (ap (λ c. (x == p) || c) t ∙ or-true (x == p)) b))
   where
     go : (b : Bool) → before x g ≡ b → reached before height fs g ≤ m → max (cond b (height x + 1) 0) (reached before height fs g) ≤ m
     go true e rest = let here = h x (ap (λ c. c || is_in x fs) (eq-eqb x x refl)) e in omega (arith, here, rest)

@@ -6,8 +6,9 @@ use Rattle.std.specs.declared.cmp.Ordering.TheVariants.{Less, Equal, Greater}
 use Rattle.std.specs.Cmp.{nat_cmp_is}
 use Rattle.std.specs.List.{list_any}
 use Rattle.std.specs.BTreeSet.{BTreeSet, contains, IsLowerBound, UpdatesBy, btree_set_len}
-use Rattle.std.proofs.lemmas.Bool.{eq-eqb, ne_eqb, cases_eq, cases_order, false≢true}
+use Rattle.std.proofs.lemmas.Bool.{eq-eqb, ne_eqb, cases_order, false≢true}
 use Rattle.std.proofs.lemmas.Map.Keys.{le_from_not_gt}
+use Rattle.flame_rows.proofs.Truths.{eqb-sym}
 use Rattle.flame_spec.specs.Below.{is_in}
 use Rattle.flame_graph.specs.Ready.{IsFirstOf}
 
@@ -20,11 +21,8 @@ is_eq_same a b = ⊎_elim
     s)
     (cases_order a b)
 
-pub eqb_sym : (a b : ℕ) → (a == b) ≡ (b == a)
-eqb_sym a b = ⊎_elim (λ h. eq-eqb a b h ∙ sym (eq-eqb b a (sym h))) (λ h. ne_eqb a b h ∙ sym (ne_eqb b a (λ q. h (sym q)))) (cases_eq a b)
-
 pub contains_is : (s : BTreeSet ℕ) (q : ℕ) → contains nat_cmp s q ≡ is_in q s.keys
-contains_is s q = ap (λ test. list_any test s.keys) (λ i k. (is_eq_same q k ∙ eqb_sym q k) i)
+contains_is s q = ap (λ test. list_any test s.keys) (λ i k. (is_eq_same q k ∙ eqb-sym q k) i)
 
 pub cond_or : (b x : Bool) → cond b true x ≡ (x || b)
 cond_or true true = refl

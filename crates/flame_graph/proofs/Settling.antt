@@ -1,4 +1,5 @@
 -- One successor more is settled.
+use mathlib.Core.Bool.{or-true}
 use Rattle.std.proofs.Common.{◌≡◌, ℕ, ◌+◌, ◌-◌, ◌<◌, ◌≤◌, List, length, take, get_or, set, refl, sym, ap, ◌∙◌, arith, true, false, Bool, cond, ⊎_elim}
 use Rattle.std.specs.Prelude.{◌==◌, ◌&&◌, ◌||◌}
 use Rattle.std.proofs.lemmas.Bool.{eq-eqb, ne_eqb, cases_eq}
@@ -6,7 +7,7 @@ use Rattle.std.proofs.lemmas.List.{get_or-set_same, get_or-set_other}
 use Rattle.std.proofs.lemmas.List.Folds.{list_any_more}
 use Rattle.std.proofs.lemmas.List.Sums.{sum_by_more, sum_by_more_le}
 use Rattle.flame_spec.specs.Below.{is_in, times}
-use Rattle.flame_spec.proofs.FirstBelow.{one, or_true}
+use Rattle.flame_spec.proofs.FirstBelow.{one}
 use Rattle.std.proofs.Math.Bool.{and-true, and-false, or-false}
 
 pub settle_fits : (ts : List ℕ) (i w o : ℕ) → i < length ts → w + times (get_or ts i 0) (take i ts) ≡ o → times (get_or ts i 0) ts ≤ o → 1 ≤ w
@@ -53,7 +54,7 @@ ready_more ts ws r0 r r' i h l w g old now = now ∙ ⊎_elim same other (cases_
         let waits : get_or ws g 0 ≡ get_or ws (get_or ts i 0) 0 = ap (λ k. get_or ws k 0) (sym q) in
         let not_ready : (get_or ws g 0 == 0) ≡ false = ne_eqb (get_or ws g 0) 0 (λ e. absurd (omega (arith, waits, e, w))) in
         let was : is_in g r ≡ is_in g r0 = old ∙ ap (λ b. is_in g r0 || (is_in g (take i ts) && b)) not_ready ∙ ap (λ b. is_in g r0 || b) (and-false (is_in g (take i ts))) ∙ or-false (is_in g r0) in
-        let there : is_in g (take (i + 1) ts) ≡ true = more ∙ ap (λ b. is_in g (take i ts) || b) (eq-eqb (get_or ts i 0) g q) ∙ or_true (is_in g (take i ts)) in
+        let there : is_in g (take (i + 1) ts) ≡ true = more ∙ ap (λ b. is_in g (take i ts) || b) (eq-eqb (get_or ts i 0) g q) ∙ or-true (is_in g (take i ts)) in
         ap (λ b. b || (z && (get_or ts i 0 == g))) was
         ∙ ap (λ b. is_in g r0 || (z && b)) (eq-eqb (get_or ts i 0) g q)
         ∙ ap (λ b. is_in g r0 || b) (and-true z)

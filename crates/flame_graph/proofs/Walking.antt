@@ -60,9 +60,6 @@ walk_repeats m back path g t h e =
     ap (λ k. walk_back k back path g) s
     ∙ ap (λ b. cond b (repeated_part path g) (from_there (back g) (walk_back (m - (t + 1)) back (path ++ g ∷ [])))) e
 
-pub walk_end : (m : ℕ) (back : ℕ → Option ℕ) (path : List ℕ) (g t : ℕ) → m ≤ t → walk_back (m - t) back path g ≡ []
-walk_end m back path g t h = let e : m - t ≡ 0 = omega arith in ap (λ k. walk_back k back path g) e
-
 pub seen_more : (n : ℕ) (path : List ℕ) (f : ℕ) (marks : List Bool) → f < n → AreSeen n path marks → AreSeen n (path ++ f ∷ []) (set marks f true)
 seen_more n path f marks h t = record {
   len = length-set marks f true ∙ t.len;

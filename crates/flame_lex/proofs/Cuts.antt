@@ -2,20 +2,16 @@
 use Rattle.std.proofs.Common.{◌≡◌, ℕ, List, [], ◌∷◌, ◌++◌, take, drop, refl, sym, ap, ◌∙◌, subst}
 use Rattle.std.proofs.Common.{append_assoc}
 use Rattle.std.proofs.lemmas.List.{append-nil, take-append-drop}
-use Rattle.flame_rows.specs.declared.fails.Fail.{Fail}
-use Rattle.flame_rows.specs.declared.fails.Fail.TheVariants.{Fault, NoMemory}
 use Rattle.flame_lex.specs.declared.define_table.DefineTable.{DefineTable}
-use Rattle.flame_lex.specs.declared.fault.LexFault.{LexFault}
 use Rattle.flame_lex.specs.declared.found.Found.{Found}
 use Rattle.flame_lex.specs.declared.found.Found.TheVariants.{Lexeme}
 use Rattle.flame_lex.specs.declared.token.Kind.{Kind}
 use Rattle.flame_lex.specs.declared.token.Token.{Token}
 use Rattle.flame_lex.specs.declared.place.Place.{Place}
 use Rattle.flame_lex.specs.LexPieces.{Here, lexeme, Stands}
-use Rattle.flame_lex.specs.LexFaults.{IsFault}
 use Rattle.flame_lex.specs.Lexing.{Piece, Before, nothing, past, past_all, here, IsCut, found_of, known_after}
-use Rattle.flame_lex.specs.Lexing.{token_at, tokens_of, FailsBy}
-use Rattle.flame_lex.specs.LexSteps.{IsPlace, IsBehind, IsPiece, IsToken, FailsAt, here_at, known_in}
+use Rattle.flame_lex.specs.Lexing.{token_at, tokens_of}
+use Rattle.flame_lex.specs.LexSteps.{IsPlace, IsBehind, IsPiece, IsToken, here_at, known_in}
 
 -- the bytes before a cut and those of its pieces are what stands before its rest
 pub cut-bytes : (before : Before) (pieces : List Piece) (bytes rest : List ℕ) → IsCut before pieces bytes rest
@@ -107,20 +103,6 @@ read_more bytes rest tokens more spot next defines after found count read piece 
           ∙ sym (tokens_of_more nothing read.pieces last);
       behind = subst (λ b. IsBehind b next after) (sym (past_all_more nothing read.pieces last)) behind;
     }
-
-pub read_fails : (bytes rest : List ℕ) (tokens : List Token) (spot : Place) (defines : DefineTable)
-    (fail : Fail LexFault)
-    → IsReadUpTo bytes rest tokens spot defines → FailsAt (here_at spot.line_begins defines) spot.at rest fail
-    → FailsBy bytes fail
-read_fails bytes rest tokens spot defines (Fault fault) read fails =
-    let before = past_all nothing read.pieces in (
-      read.pieces,
-      rest,
-      read.cut,
-      subst (λ n. IsFault (here before) n rest fault) read.behind.place.at
-          (subst (λ site. IsFault site spot.at rest fault) (same_here before spot defines read.behind) fails),
-    )
-read_fails bytes rest tokens spot defines NoMemory read fails = tt
 
 pub token_piece : (site : Here) (bytes : List ℕ) (kind : Kind) (count : ℕ) → IsToken kind bytes count
     → IsPiece site bytes (Lexeme kind) count

@@ -7,6 +7,7 @@ use Rattle.std.proofs.lemmas.Bool.{both_ways, cases_lt}
 use Rattle.std.proofs.lemmas.List.{take-append-drop, drop_at, length-append, append_cancel_left, append_cancel_right}
 use Rattle.std.proofs.lemmas.Option.{slice_get-get_or}
 use Rattle.std.proofs.lemmas.Slice.Eq.{bytes_eq-Decides}
+use Rattle.flame_rows.proofs.Truths.{cases_Option}
 use Rattle.flame_ops.specs.Spellings.{Stands, IsLongest, NoneStands, spelling}
 use Rattle.flame_ops.specs.Words.{keyword_spellings}
 use Rattle.flame_lex.specs.declared.define.Define.{Define}
@@ -21,10 +22,6 @@ use Rattle.flame_lex.proofs.Prefixes.{begins_parts, begins_from}
 pub told : (b : Bool) → (b ≡ true) ⊎ (b ≡ false)
 told true = inl refl
 told false = inr refl
-
-pub given : {A : Type 0} (o : Option A) → (o ≡ None) ⊎ ((x : A) × (o ≡ Some x))
-given None = inl refl
-given (Some x) = inr (x, refl)
 
 later : (s word : List ℕ) (ss : List (List ℕ)) → bytes_eq s word ≡ false → ¬ Contains ss word
     → (k : ℕ) → k < length (s ∷ ss) → ¬ (get_or (s ∷ ss) k word ≡ word)
@@ -119,11 +116,11 @@ plain_or_not word = plain_by (word_kind_of word).0 word (word_kind_of word).1
 -- a line that begins with `#define` gives a word a number or not
 pub define_or_not : (known : List ℕ → Option ℤ) (line : List ℕ)
     → ((said : Define) × Defines known line said) ⊎ ((said : Define) → ¬ Defines known line said)
-define_or_not known line = elim (given (definition (drop 7 line))) [
+define_or_not known line = elim (cases_Option (definition (drop 7 line))) [
   | inl none ↦ inr (λ said d. let e : None ≡ Some said = sym none ∙ d.says in cc)
   | inr s ↦ elim (plain_or_not s.0.name) [
     | inr other ↦ inr (λ said d. other (subst IsPlain (sym (one_name_said s.0 said (sym s.1 ∙ d.says))) d.plain))
-    | inl plain ↦ elim (given (known s.0.name)) [
+    | inl plain ↦ elim (cases_Option (known s.0.name)) [
       | inl once ↦ inl (s.0, record { says = s.1; plain = plain; once = once })
       | inr twice ↦ inr (λ said d.
           let e : Some twice.0 ≡ None =

@@ -6,6 +6,7 @@ use Rattle.std.specs.Char.{is_ascii_digit}
 use Rattle.std.proofs.lemmas.Bool.{and_left, cases_lt, cases_eq}
 use Rattle.std.proofs.lemmas.List.{take-append-drop, length-drop}
 use Rattle.std.proofs.lemmas.List.Folds.{length-prefix_len}
+use Rattle.flame_rows.proofs.Truths.{cases_Option}
 use Rattle.flame_ops.specs.Ascii.{begins_word}
 use Rattle.flame_ops.specs.Words.{operator_spellings, directive_spellings}
 use Rattle.flame_lex.specs.declared.fault.LexFault.{LexFault}
@@ -24,7 +25,7 @@ use Rattle.flame_lex.specs.Lexing.{Piece, nothing, past_all, here, IsCut, tokens
 use Rattle.flame_lex.specs.LexSteps.{IsPiece}
 use Rattle.flame_lex.proofs.Classes.{hash_nothing}
 use Rattle.flame_lex.proofs.Cuts.{cut_more, token_piece}
-use Rattle.flame_lex.proofs.Decisions.{told, given, contains_or_not, number_at, word_kind_of, define_or_not}
+use Rattle.flame_lex.proofs.Decisions.{told, contains_or_not, number_at, word_kind_of, define_or_not}
 use Rattle.flame_lex.proofs.Decisions.{longest_or_none}
 use Rattle.flame_lex.proofs.Gaps.{comment_piece, line_comment_piece, include_piece, define_piece, second}
 use Rattle.flame_lex.proofs.Lexemes.{word_count, word_token, number_token, number_fault}
@@ -94,7 +95,7 @@ blank_read site place (b ∷ bytes) h = inl (
 )
 
 comment_read : (site : Here) (place : ℕ) (bytes : List ℕ) → begins bytes (codes "/*") ≡ true → IsRead site place bytes
-comment_read site place bytes h = elim (given (after_close (drop 2 bytes))) [
+comment_read site place bytes h = elim (cases_Option (after_close (drop 2 bytes))) [
   | inl endless ↦ inr (OpenComment place, (refl, h, endless))
   | inr close ↦ inl (_, _, comment_piece site bytes close.0 h close.1)
 ]
@@ -103,7 +104,7 @@ number_read : (site : Here) (place : ℕ) (bytes : List ℕ) → first_is is_asc
     → IsRead site place bytes
 number_read site place bytes h =
     let run = take (word_count bytes) bytes in
-    elim (given (number_value run)) [
+    elim (cases_Option (number_value run)) [
       | inl none ↦ inr (BadNumber place, number_fault site place bytes (BadNumber place) h (refl, none))
       | inr n ↦ elim (cases_lt 2147483647 n.0) [
         | inl big ↦ inr (

@@ -7,19 +7,10 @@ use Rattle.std.proofs.lemmas.Bool.Decides.{nat_tests}
 use Rattle.std.proofs.lemmas.List.{length-map}
 use Rattle.std.proofs.lemmas.List.Sorted.{list_any-IsPermutation, IsPermutation-reverse}
 use Rattle.std.proofs.lemmas.Option.{slice_get-map, slice_get_read}
-use Rattle.std.proofs.lemmas.Slice.Eq.{bytes_eq-Decides}
+use Rattle.flame_rows.proofs.Bytes.{bytes_eq-sym}
 use Rattle.flame_spec.specs.KnownNames.{is_among}
 use Rattle.flame_spec.specs.Lists.{numbered_from}
-
--- it does not matter which text comes first
-pub bytes_eq_comm : (xs ys : List ℕ) → bytes_eq xs ys ≡ bytes_eq ys xs
-bytes_eq_comm xs ys = by_tests (bytes_eq xs ys) (bytes_eq ys xs) refl refl
-  where
-    by_tests : (a b : Bool) → bytes_eq xs ys ≡ a → bytes_eq ys xs ≡ b → a ≡ b
-    by_tests true true e f = refl
-    by_tests false false e f = refl
-    by_tests true false e f = sym ((bytes_eq-Decides ys xs).1 (sym ((bytes_eq-Decides xs ys).0 e))) ∙ f
-    by_tests false true e f = sym e ∙ (bytes_eq-Decides xs ys).1 (sym ((bytes_eq-Decides ys xs).0 f))
+use Rattle.flame_spec.proofs.Numbered.{numbered_from-stands}
 
 -- the first with its number, and without it
 pub find_numbered :
@@ -50,33 +41,12 @@ is_some-numbered passes i (x ∷ xs) = by_test (passes x) (is_some-numbered pass
     by_test true e = refl
     by_test false e = e
 
--- where the first one stands
-stands :
-    {X : Type 0} (passes : X → Bool) (i : ℕ) (xs : List X) (n : ℕ) (y : X)
-    → numbered_from passes i xs ≡ Some (n, y)
-    → (k : ℕ) × (n ≡ i + k) × (slice_get xs k ≡ Some y)
-stands passes i [] n y h = cc
-stands {X} passes i (x ∷ xs) n y h = by_test (passes x) (stands passes (i + 1) xs n y) h
-  where
-    by_test :
-        (b : Bool)
-        → (numbered_from passes (i + 1) xs ≡ Some (n, y) → (k : ℕ) × (n ≡ i + 1 + k) × (slice_get xs k ≡ Some y))
-        → cond b (Some (i, x)) (numbered_from passes (i + 1) xs) ≡ Some (n, y)
-        → (k : ℕ) × (n ≡ i + k) × (slice_get (x ∷ xs) k ≡ Some y)
-    by_test true more e =
-        let pair : (i, x) ≡ (n, y) = cc in
-        let at : i ≡ n = ap (λ (p : ℕ × X). p.0) pair in
-        (0, omega (arith, at), ap (λ (p : ℕ × X). Some p.1) pair)
-    by_test false more e =
-        let later = more e in
-        (suc later.0, omega (arith, later.1), later.2)
-
 pub slice_get-numbered :
     {X : Type 0} (passes : X → Bool) (xs : List X) (n : ℕ) (y : X)
     → numbered_from passes 0 xs ≡ Some (n, y)
     → slice_get xs n ≡ Some y
 slice_get-numbered passes xs n y h =
-    let at = stands passes 0 xs n y h in
+    let at = numbered_from-stands passes 0 xs (n, y) h in
     let same : n ≡ at.0 = omega (arith, at.1) in
     ap (slice_get xs) same ∙ at.2
 
@@ -97,11 +67,6 @@ pub seen_as :
 seen_as f xs ys i x e h is =
     let within : i < length xs = omega (arith, simp length-map at (ap length e)) in
     ap (λ l. slice_get l i) (sym e) ∙ seen_at f xs i x within is
-
--- what is seen is there where it is
-pub is_some-mapped : {X Y : Type 0} (f : X → Y) (o : Option X) → is_some (option_map f o) ≡ is_some o
-is_some-mapped f None = refl
-is_some-mapped f (Some x) = refl
 
 -- ---- what stands before a number
 
@@ -147,7 +112,7 @@ passed_before passes i (x ∷ xs) (suc n) =
 pub among_turned : (word : List ℕ) (names : List (List ℕ)) → list_any (λ name. bytes_eq name word) names ≡ is_among word names
 among_turned word [] = refl
 among_turned word (name ∷ names) =
-    ap (λ b. b || list_any (λ name. bytes_eq name word) names) (bytes_eq_comm name word)
+    ap (λ b. b || list_any (λ name. bytes_eq name word) names) (bytes_eq-sym name word)
     ∙ ap (λ b. bytes_eq word name || b) (among_turned word names)
 
 named_among :
@@ -155,7 +120,7 @@ named_among :
     → is_among word (map name xs) ≡ list_any (λ x. bytes_eq (name x) word) xs
 named_among name word [] = refl
 named_among name word (x ∷ xs) =
-    ap (λ b. b || is_among word (map name xs)) (bytes_eq_comm word (name x))
+    ap (λ b. b || is_among word (map name xs)) (bytes_eq-sym word (name x))
     ∙ ap (λ b. bytes_eq (name x) word || b) (named_among name word xs)
 
 -- the first of a name stands below the number where the name is among those before it

@@ -82,15 +82,6 @@ idle_test name other idle e = by_test (bytes_eq name other) refl
         falls false true = refl
         falls false false = refl
 
--- the functions that are not idle and have this name, where it is not `idle`
-pub numbers_of_name :
-    (name : List ℕ) (places : List Place)
-    → bytes_eq name (codes "idle") ≡ false
-    → numbers_from (λ place. bytes_eq name place.function.name) 0 places
-    ≡ numbers_from (λ place. not (bytes_eq place.function.name (codes "idle")) && bytes_eq name place.function.name) 0 places
-numbers_of_name name places e =
-    numbers_alike _ _ 0 places (λ place. sym (idle_test name place.function.name false e))
-
 -- there is none where it is
 pub none_of_idle :
     (name : List ℕ) (places : List Place)

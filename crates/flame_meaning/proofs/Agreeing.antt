@@ -1,20 +1,20 @@
 -- Where the progress agrees with what a place sees.
-use Rattle.std.proofs.Common.{◌≡◌, ℕ, zero, suc, ◌+◌, Bool, true, false, ◌||◌, cond, List, [], ◌∷◌, ◌++◌, map}
-use Rattle.std.proofs.Common.{Contains, Option, Some, None, IsTrue, refl, sym, ap, ◌∙◌, subst, arith}
+use Rattle.std.proofs.Common.{◌≡◌, ℕ, zero, suc, ◌+◌, Bool, true, false, ◌||◌, cond, List, [], ◌∷◌, map, true≢false}
+use Rattle.std.proofs.Common.{Contains, Some, None, IsTrue, refl, sym, ap, ◌∙◌, subst, arith}
 use Rattle.std.specs.Prelude.{ℤ, pos, is_some}
 use Rattle.std.specs.List.{list_any}
 use Rattle.std.specs.Str.{bytes_eq}
 use Rattle.std.proofs.lemmas.Bool.{or_parts}
-use Rattle.std.proofs.lemmas.Slice.Eq.{bytes_eq-Decides}
+use Rattle.flame_rows.proofs.Bytes.{bytes_eq-true, bytes_eq-same}
+use Rattle.flame_rows.proofs.Lists.{append-is_nil_left, append-is_nil_right}
+use Rattle.flame_rows.proofs.Truths.{is_some-false}
 use Rattle.flame_ops.specs.Ascii.{capitals}
 use Rattle.flame_spec.specs.declared.models.Model.{Model}
 use Rattle.flame_spec.specs.declared.models.MessageType.{MessageType}
 use Rattle.flame_spec.specs.declared.outcomes.Source.{Source}
-use Rattle.flame_spec.specs.declared.faults.CheckKind.{CheckKind}
 use Rattle.flame_spec.specs.declared.faults.CheckKind.TheVariants.{Redeclared}
 use Rattle.flame_spec.specs.declared.trees.Parameter.{Parameter}
 use Rattle.flame_spec.specs.Definitions.{Definition}
-use Rattle.flame_spec.specs.ExpressionFaults.{fault_where}
 use Rattle.flame_spec.specs.Functions.{Place}
 use Rattle.flame_spec.specs.HelperFaults.{helper_context}
 use Rattle.flame_spec.specs.KnownNames.{is_among}
@@ -30,6 +30,8 @@ use Rattle.flame_spec.specs.Trees.{Declared}
 use Rattle.flame_spec.specs.Trees.{Statement, empty, declare, assign, call, block, branch, while, for, do_while}
 use Rattle.flame_spec.specs.Trees.{loop_over, return, break, continue}
 use Rattle.flame_spec.specs.Trees.{Statements, no_more, also}
+use Rattle.flame_spec.proofs.FaultTests.{fault_where-none}
+use Rattle.flame_spec.proofs.Numbered.{numbered_from-passes}
 use Rattle.flame_meaning.specs.Scenes.{Scene, Local, Progress, Current, Calls}
 use Rattle.flame_meaning.specs.Ends.{End, went_on, broke, continued, returned, faulted, as_scope}
 use Rattle.flame_meaning.specs.Statements.{with_local, rows_of, currents_over, loop_currents, inside}
@@ -43,34 +45,6 @@ use Rattle.flame_meaning.proofs.Naming.{Same, Ends, names_with, names_after, nam
 use Rattle.flame_meaning.proofs.Naming.{statements_names, body_names}
 
 -- ---- lists without members
-
-pub first_none : {X : Type 0} (xs ys : List X) → xs ++ ys ≡ [] → xs ≡ []
-first_none [] ys none = refl
-first_none (x ∷ xs) ys none = cc
-
-pub second_none : {X : Type 0} (xs ys : List X) → xs ++ ys ≡ [] → ys ≡ []
-second_none [] ys none = none
-second_none (x ∷ xs) ys none = cc
-
-pub no_fault :
-    (b : Bool) (place : Context) (kind : CheckKind) (line : ℕ) (word : List ℕ)
-    → fault_where b place kind line word ≡ []
-    → b ≡ false
-no_fault true place kind line word none = cc
-no_fault false place kind line word none = refl
-
-pub same_bytes : (xs ys : List ℕ) → bytes_eq xs ys ≡ true → xs ≡ ys
-same_bytes xs ys e = (bytes_eq-Decides xs ys).0 e
-
-pub bytes_same : (xs ys : List ℕ) → xs ≡ ys → bytes_eq xs ys ≡ true
-bytes_same xs ys e = (bytes_eq-Decides xs ys).1 e
-
-pub nothing_there : {X : Type 0} (o : Option X) → is_some o ≡ false → o ≡ None
-nothing_there None e = refl
-nothing_there (Some x) e = cc
-
-pub true≢false : true ≡ false → ⊥
-true≢false e = cc
 
 -- ---- names that are new
 
@@ -87,16 +61,16 @@ fresh_name place sight line word fresh none other local = by_name (bytes_eq othe
   where
     new : given_at place word ≡ None
     new =
-        nothing_there (given_at place word)
+        is_some-false (given_at place word)
         (or_parts (is_among word sight.scope) (is_some (given_at place word))
-        (no_fault (is_taken place sight word) place Redeclared line word none)).1
+        (fault_where-none (is_taken place sight word) place Redeclared line word none)).1
 
     by_name :
         (b : Bool)
         → bytes_eq other word ≡ b
         → (b || is_among other sight.scope) || list_any (is_among other) sight.outer ≡ true
         → given_at place other ≡ None
-    by_name true e l = ap (given_at place) (same_bytes other word e) ∙ new
+    by_name true e l = ap (given_at place) (bytes_eq-true other word e) ∙ new
     by_name false e l = fresh other l
 
 fresh_items :
@@ -108,8 +82,8 @@ fresh_items place sight [] fresh none = fresh
 fresh_items place sight (item ∷ items) fresh none =
     fresh_items place (after_name sight item.name) items
     (fresh_name place sight item.line item.name fresh
-    (first_none _ _ (first_none (item_faults place sight item) _ none)))
-    (second_none (item_faults place sight item) _ none)
+    (append-is_nil_left _ _ (append-is_nil_left (item_faults place sight item) _ none)))
+    (append-is_nil_right (item_faults place sight item) _ none)
 
 fresh_parameters :
     (place : Context) (sight : Sight) (parameters : List Parameter)
@@ -119,8 +93,8 @@ fresh_parameters :
 fresh_parameters place sight [] fresh none = fresh
 fresh_parameters place sight (parameter ∷ parameters) fresh none =
     fresh_parameters place (after_name sight parameter.name) parameters
-    (fresh_name place sight parameter.line parameter.name fresh (first_none _ _ none))
-    (second_none (declared_faults place sight parameter.line parameter.name) _ none)
+    (fresh_name place sight parameter.line parameter.name fresh (append-is_nil_left _ _ none))
+    (append-is_nil_right (declared_faults place sight parameter.line parameter.name) _ none)
 
 fresh_statement :
     (place : Context) (sight : Sight) (x : Statement)
@@ -149,8 +123,8 @@ fresh_statements :
 fresh_statements place sight no_more fresh none = fresh
 fresh_statements place sight (also x xs) fresh none =
     fresh_statements place (after sight x) xs
-    (fresh_statement place sight x fresh (first_none _ _ none))
-    (second_none (statement_faults place sight x) _ none)
+    (fresh_statement place sight x fresh (append-is_nil_left _ _ none))
+    (append-is_nil_right (statement_faults place sight x) _ none)
 
 -- ---- what is seen afterwards
 
@@ -260,7 +234,7 @@ pub item_agrees :
 item_agrees place sight scene s item v a none = record {
   there = a.there;
   names = ap (λ l. item.name ∷ l) a.names;
-  fresh = fresh_name place sight item.line item.name a.fresh (first_none _ _ none);
+  fresh = fresh_name place sight item.line item.name a.fresh (append-is_nil_left _ _ none);
   loops = a.loops;
 }
 
@@ -313,24 +287,6 @@ first_number {X} p q i (x ∷ xs) found e weaker passes =
     by_tests false true e f g later = absurd (true≢false (sym (weaker x f) ∙ e))
     by_tests false false e f g later = later g
 
-first_passes :
-    {X : Type 0} (p : X → Bool) (i : ℕ) (xs : List X) (found : ℕ × X)
-    → numbered_from p i xs ≡ Some found
-    → p found.1 ≡ true
-first_passes p i [] found e = cc
-first_passes {X} p i (x ∷ xs) found e = by_head (p x) refl e (first_passes p (i + 1) xs found)
-  where
-    by_head :
-        (b : Bool)
-        → p x ≡ b
-        → cond b (Some (i, x)) (numbered_from p (i + 1) xs) ≡ Some found
-        → (numbered_from p (i + 1) xs ≡ Some found → p found.1 ≡ true)
-        → p found.1 ≡ true
-    by_head true h g later =
-        let pair : (i, x) ≡ found = cc in
-        sym (ap (λ r. p r.1) pair) ∙ h
-    by_head false h g later = later g
-
 -- what is found by a test of names is the first of its name
 pub named_first :
     (test : List ℕ → Bool) (messages : List MessageType) (found : ℕ × MessageType)
@@ -338,8 +294,8 @@ pub named_first :
     → message_named messages found.1.name ≡ Some found
 named_first test messages found e =
     first_number (λ m. test m.name) (λ m. bytes_eq m.name found.1.name) 0 messages found e
-    (λ x same. ap test (same_bytes x.name found.1.name same) ∙ first_passes (λ m. test m.name) 0 messages found e)
-    (bytes_same found.1.name found.1.name refl)
+    (λ x same. ap test (bytes_eq-true x.name found.1.name same) ∙ numbered_from-passes (λ m. test m.name) 0 messages found e)
+    (bytes_eq-same found.1.name found.1.name refl)
 
 -- each turn stands at a row of the message
 turn_stands :

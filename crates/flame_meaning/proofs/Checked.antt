@@ -1,9 +1,10 @@
 -- The bodies that run have no check faults.
-use Rattle.std.proofs.Common.{◌≡◌, ℕ, zero, suc, Bool, true, false, cond, List, [], ◌∷◌, Option, Some, None, refl}
+use Rattle.std.proofs.Common.{◌≡◌, ℕ, zero, suc, Bool, true, false, cond, List, [], ◌∷◌, Option, Some, None, refl, true≢false}
 use Rattle.std.proofs.Common.{sym, ap, ◌∙◌}
 use Rattle.std.specs.Prelude.{not, slice_get, ◌&&◌}
 use Rattle.std.specs.List.{list_any, flat_map, filter, find}
-use Rattle.std.proofs.lemmas.Bool.{or_left, or_right, and_from}
+use Rattle.std.proofs.lemmas.Bool.{and_from}
+use Rattle.flame_rows.proofs.Lists.{append-is_nil_left, append-is_nil_right, list_any-at}
 use Rattle.flame_spec.specs.declared.models.Model.{Model}
 use Rattle.flame_spec.specs.declared.trees.Unit as file
 use Rattle.flame_spec.specs.declared.trees.Parameter.{Parameter}
@@ -17,7 +18,6 @@ use Rattle.flame_spec.specs.Scopes.{at_entry, after_parameters}
 use Rattle.flame_spec.specs.StatementFaults.{parameters_faults, statements_faults}
 use Rattle.flame_spec.specs.Trees.{no_more}
 use Rattle.flame_meaning.specs.AcceptedMeaning.{place_in}
-use Rattle.flame_meaning.proofs.Agreeing.{first_none, second_none, true≢false}
 
 -- ---- lists
 
@@ -28,17 +28,8 @@ flat_none :
     → f x ≡ []
 flat_none f [] k x at none = cc
 flat_none f (y ∷ xs) zero x at none =
-    let same : y ≡ x = cc in sym (ap f same) ∙ first_none (f y) (flat_map f xs) none
-flat_none f (y ∷ xs) (suc k) x at none = flat_none f xs k x at (second_none (f y) (flat_map f xs) none)
-
-any_at :
-    {X : Type 0} (p : X → Bool) (xs : List X) (k : ℕ) (x : X)
-    → slice_get xs k ≡ Some x
-    → p x ≡ true
-    → list_any p xs ≡ true
-any_at p [] k x at e = cc
-any_at p (y ∷ xs) zero x at e = let same : y ≡ x = cc in or_left (p y) (list_any p xs) (ap p same ∙ e)
-any_at p (y ∷ xs) (suc k) x at e = or_right (p y) (list_any p xs) (any_at p xs k x at e)
+    let same : y ≡ x = cc in sym (ap f same) ∙ append-is_nil_left (f y) (flat_map f xs) none
+flat_none f (y ∷ xs) (suc k) x at none = flat_none f xs k x at (append-is_nil_right (f y) (flat_map f xs) none)
 
 found_at :
     {X : Type 0} (p : X → Bool) (xs : List X) (x : X)
@@ -77,16 +68,13 @@ filtered_at {X} p (y ∷ xs) h x e = by_head (p y) refl h e (λ n f. filtered_at
 -- ---- bodies
 
 module _ (model : Model) (units : List file.Unit) (none : check_faults model units ≡ []) where
-  hs : List Definition
-  hs = helpers model units
-
   bodies_none : flat_map (bodies_faults model (helpers model units)) (definitions units) ≡ []
-  bodies_none = second_none _ _ none
+  bodies_none = append-is_nil_right _ _ none
 
   parameters_none : flat_map (with_parameters_faults model) (definitions units) ≡ []
   parameters_none =
-      second_none (twice_faults [] (definitions units)) _
-      (first_none _ _ (first_none _ _ (first_none _ _ (first_none _ _ none))))
+      append-is_nil_right (twice_faults [] (definitions units)) _
+      (append-is_nil_left _ _ (append-is_nil_left _ _ (append-is_nil_left _ _ (append-is_nil_left _ _ none))))
 
   no_parameters : (b : Bool) (d : Definition) → with_parameters_where b d ≡ [] → b ≡ false
   no_parameters true d e = cc
@@ -106,7 +94,7 @@ module _ (model : Model) (units : List file.Unit) (none : check_faults model uni
       → statements_faults (context model (helpers model units) d place) at_entry d.body ≡ []
   run_none place n k d listed busy at for_it =
       let runs : is_run_by d place ≡ true = and_from (not (is_idle place.function)) (is_for place.function d) (ap not busy) for_it in
-      let transition : is_transition model d ≡ true = any_at (λ p. is_for p.function d) (functions model) n place listed for_it in
+      let transition : is_transition model d ≡ true = list_any-at (λ p. is_for p.function d) (functions model) n place listed for_it in
       let whole : bodies_faults model (helpers model units) d ≡ []
       = flat_none (bodies_faults model (helpers model units)) (definitions units) k d at bodies_none in
       let all : flat_map (body_faults model (helpers model units) d) (functions model) ≡ []
@@ -118,10 +106,10 @@ module _ (model : Model) (units : List file.Unit) (none : check_faults model uni
       = sym (ap (λ b. cond b (definition_faults (context model (helpers model units) d place) d) []) runs) ∙ mine in
       let bare : d.parameters ≡ []
       = empty_parameters d.parameters (list_any (is_run_by d) (functions model))
-      (any_at (is_run_by d) (functions model) n place listed runs)
+      (list_any-at (is_run_by d) (functions model) n place listed runs)
       (no_parameters _ d (flat_none (with_parameters_faults model) (definitions units) k d at parameters_none)) in
       ap (λ ps. statements_faults (context model (helpers model units) d place) (after_parameters at_entry ps) d.body) (sym bare)
-      ∙ second_none (parameters_faults (context model (helpers model units) d place) at_entry d.parameters) _ checked
+      ∙ append-is_nil_right (parameters_faults (context model (helpers model units) d place) at_entry d.parameters) _ checked
     where
       no_helper : (b c : Bool) → c ≡ true → (b && not c) ≡ false
       no_helper true c e = ap not e
@@ -164,4 +152,4 @@ module _ (model : Model) (units : List file.Unit) (none : check_faults model uni
       let checked : definition_faults (helper_context model (helpers model units) d) d ≡ []
       = sym (ap (λ b. cond b (definition_faults (helper_context model (helpers model units) d) d) (flat_map (body_faults model (helpers model units) d) (functions model))) helps)
       ∙ whole in
-      (first_none _ _ checked, second_none (parameters_faults (helper_context model (helpers model units) d) at_entry d.parameters) _ checked)
+      (append-is_nil_left _ _ checked, append-is_nil_right (parameters_faults (helper_context model (helpers model units) d) at_entry d.parameters) _ checked)

@@ -2,6 +2,7 @@
 use Rattle.std.proofs.Common.{◌≡◌, ℕ, List, [], ◌∷◌, Contains, Option, Some, None, refl, sym, ap, ◌∙◌}
 use Rattle.std.proofs.Common.{subst, arith, suc}
 use Rattle.std.specs.Prelude.{ℤ, pos, slice_get}
+use Rattle.flame_rows.proofs.Lists.{append-is_nil_left, append-is_nil_right}
 use Rattle.flame_spec.specs.declared.models.MessageType.{MessageType}
 use Rattle.flame_spec.specs.declared.outcomes.Source.{Source}
 use Rattle.flame_spec.specs.CheckFaults.{check_faults}
@@ -38,7 +39,7 @@ use Rattle.flame_meaning.specs.RunLaws.{to_next_row}
 use Rattle.flame_meaning.specs.RangeLaws.{IfAny}
 use Rattle.flame_meaning.specs.RunLaws.{AssignedFinds, StatementFinds, StageFinds}
 use Rattle.flame_meaning.proofs.Naming.{Same, initial_names, step_names, body_names}
-use Rattle.flame_meaning.proofs.Agreeing.{first_none, second_none, statement_agrees, statements_agree, item_agrees}
+use Rattle.flame_meaning.proofs.Agreeing.{statement_agrees, statements_agree, item_agrees}
 use Rattle.flame_meaning.proofs.Agreeing.{inside_agree, turn_agrees, function_begins, helper_begins}
 use Rattle.flame_meaning.proofs.Finding.{expression_finds, input_there}
 use Rattle.flame_meaning.proofs.Fitting.{call_does, stored_finds, assignment_finds}
@@ -163,55 +164,55 @@ module _ (place : Context) (goal : Stage) (there : Scene) (last : Progress) wher
       → IsClean place sight scene stage
       → Arrives place goal there last
   comes _ _ _ sight arrived a clean = record { seen = sight; agrees = a; clean = clean }
-  comes _ _ _ sight (to_first x xs scene s c) a clean = comes (doing x) scene s sight c a (first_none _ _ clean)
+  comes _ _ _ sight (to_first x xs scene s c) a clean = comes (doing x) scene s sight c a (append-is_nil_left _ _ clean)
   comes _ _ _ sight (to_later x xs scene s t e c) a clean =
       comes (running xs) scene t (after sight x) c
-      (subst (WentOnAgrees place (after sight x) scene) e (statement_agrees place sight scene s x a (first_none _ _ clean)))
-      (second_none (statement_faults place sight x) _ clean)
+      (subst (WentOnAgrees place (after sight x) scene) e (statement_agrees place sight scene s x a (append-is_nil_left _ _ clean)))
+      (append-is_nil_right (statement_faults place sight x) _ clean)
   comes _ _ _ sight (to_items items scene s c) a clean = comes (declaring items) scene s sight c a clean
   comes _ _ _ sight (to_next_item item items scene s t e c) a clean =
       comes (declaring items) scene t (after_name sight item.name) c
-      (declared place sight scene item s t a (first_none _ _ clean) e)
-      (second_none (item_faults place sight item) _ clean)
+      (declared place sight scene item s t a (append-is_nil_left _ _ clean) e)
+      (append-is_nil_right (item_faults place sight item) _ clean)
   comes _ _ _ sight (to_block body scene s c) a clean =
       comes (running body) scene s (scoped sight) c (inside_agree place sight scene s [] a).0 clean
   comes _ _ _ sight (to_tests tests otherwise scene s c) a clean =
       comes (testing tests otherwise) scene s sight c a
-      (first_none _ _ clean, second_none (arms_faults place sight tests) _ clean)
+      (append-is_nil_left _ _ clean, append-is_nil_right (arms_faults place sight tests) _ clean)
   comes _ _ _ sight (to_arm test body more otherwise scene s c) a clean =
       comes (running body) scene s (scoped sight) c (inside_agree place sight scene s [] a).0
-      (second_none (expression_faults place sight test) _ (first_none _ _ clean.0))
+      (append-is_nil_right (expression_faults place sight test) _ (append-is_nil_left _ _ clean.0))
   comes _ _ _ sight (to_next_test test body more otherwise scene s c) a clean =
-      comes (testing more otherwise) scene s sight c a (second_none _ _ clean.0, clean.1)
+      comes (testing more otherwise) scene s sight c a (append-is_nil_right _ _ clean.0, clean.1)
   comes _ _ _ sight (to_otherwise otherwise scene s c) a clean =
       comes (running otherwise) scene s (scoped sight) c (inside_agree place sight scene s [] a).0 clean.1
   comes _ _ _ sight (to_while line test body scene s c) a clean =
       comes (looping (Some test) None body) scene s sight c a
-      (record { test = first_none _ _ clean; step = refl; body = second_none (expression_faults place sight test) _ clean })
+      (record { test = append-is_nil_left _ _ clean; step = refl; body = append-is_nil_right (expression_faults place sight test) _ clean })
   comes _ _ _ sight (to_for_first line first test step body scene s c) a clean =
       comes (running first) scene s (scoped sight) c (inside_agree place sight scene s [] a).0
-      (first_none _ _ (first_none _ _ (first_none _ _ clean)))
+      (append-is_nil_left _ _ (append-is_nil_left _ _ (append-is_nil_left _ _ clean)))
   comes _ _ _ sight (to_for line first test step body scene s t e c) a clean =
       comes (looping test step body) scene t (after_all (scoped sight) first) c
       (subst (WentOnAgrees place (after_all (scoped sight) first) scene) e
       (statements_agree place (scoped sight) scene s first (inside_agree place sight scene s [] a).0
-      (first_none _ _ (first_none _ _ (first_none _ _ clean)))))
+      (append-is_nil_left _ _ (append-is_nil_left _ _ (append-is_nil_left _ _ clean)))))
       (record {
-        test = second_none (statements_faults place (scoped sight) first) _ (first_none _ _ (first_none _ _ clean));
-        step = second_none _ _ (first_none _ _ clean);
-        body = second_none _ _ clean;
+        test = append-is_nil_right (statements_faults place (scoped sight) first) _ (append-is_nil_left _ _ (append-is_nil_left _ _ clean));
+        step = append-is_nil_right _ _ (append-is_nil_left _ _ clean);
+        body = append-is_nil_right _ _ clean;
       })
   comes _ _ _ sight (to_do line body test scene s left c) a clean =
       comes (running body) scene (record s { fuel = left }) (in_loop over_none sight) c
       (inside_agree place sight scene (record s { fuel = left }) [] (paid place sight scene s left a)).1
-      (first_none _ _ clean)
+      (append-is_nil_left _ _ clean)
   comes _ _ _ sight (to_do_test line body test scene s t left e c) a clean =
       comes (looping (Some test) None body) scene t sight c
       (turn_ended place sight scene scene body s t left a e)
       (record {
-        test = second_none (statements_faults place (in_loop over_none sight) body) _ clean;
+        test = append-is_nil_right (statements_faults place (in_loop over_none sight) body) _ clean;
         step = refl;
-        body = first_none _ _ clean;
+        body = append-is_nil_left _ _ clean;
       })
   comes _ _ _ sight (to_turn test step body scene s left c) a clean =
       comes (running body) scene (record s { fuel = left }) (in_loop over_none sight) c
@@ -224,7 +225,7 @@ module _ (place : Context) (goal : Stage) (there : Scene) (last : Progress) wher
       comes (looping test step body) scene t sight c (stepped place sight scene step s t a e) clean
   comes _ _ _ sight (to_rows line word body end_line end_word scene s c) a clean =
       comes (turning word body (loop_currents word scene)) scene s sight c a (
-        second_none (start_faults place sight (message_looped (messages_at place) word) line word) _ (first_none _ _ clean),
+        append-is_nil_right (start_faults place sight (message_looped (messages_at place) word) line word) _ (append-is_nil_left _ _ clean),
         all_turns word scene (loop_currents word scene) (λ current inner. inner),
       )
   comes _ _ _ sight (to_row word body current more scene s left c) a clean =
@@ -272,7 +273,7 @@ module _ (place : Context) (goal : Stage) (there : Scene) (last : Progress) wher
   statement_found seen (assign b) a none = assignment_finds place seen there last a b none
   statement_found seen (call line word arguments) a none = call_does place seen there last a line word arguments none
   statement_found seen (loop_over line word body end_line end_word) a none =
-      input_there place seen there last a line word (first_none _ _ (first_none _ _ none))
+      input_there place seen there last a line word (append-is_nil_left _ _ (append-is_nil_left _ _ none))
   statement_found seen (return e) a none = expression_finds place seen there last a e none
   statement_found seen empty a none = tt
   statement_found seen (declare items) a none = tt
@@ -289,11 +290,11 @@ module _ (place : Context) (goal : Stage) (there : Scene) (last : Progress) wher
   stage_found (running xs) seen a clean = tt
   stage_found (testing no_arms otherwise) seen a clean = tt
   stage_found (testing (arm test body more) otherwise) seen a clean =
-      expression_finds place seen there last a test (first_none _ _ (first_none _ _ clean.0))
+      expression_finds place seen there last a test (append-is_nil_left _ _ (append-is_nil_left _ _ clean.0))
   stage_found (declaring []) seen a clean = tt
   stage_found (declaring (item ∷ items)) seen a clean =
       stored_found seen item.value item.name a
-      (second_none (declared_faults place seen item.line item.name) _ (first_none _ _ clean))
+      (append-is_nil_right (declared_faults place seen item.line item.name) _ (append-is_nil_left _ _ clean))
   stage_found (looping test step body) seen a clean = test_found seen test a clean.test
   stage_found (stepping test step body) seen a clean = step_found seen step a clean.step
   stage_found (turning word body rows) seen a clean = tt

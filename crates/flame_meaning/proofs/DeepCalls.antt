@@ -1,7 +1,8 @@
 -- Calls that may be open inside one another beyond the greatest height make no difference.
-use Rattle.std.proofs.Common.{◌≡◌, ℕ, zero, suc, ◌<◌, ◌≤◌, true, List, [], ◌∷◌, length, Some}
+use Rattle.std.proofs.Common.{◌≡◌, ℕ, zero, suc, ◌≤◌, true, List, Some}
 use Rattle.std.proofs.Common.{refl, sym, ap, ◌∙◌, arith}
 use Rattle.std.specs.Prelude.{ℤ, slice_get}
+use Rattle.std.proofs.lemmas.Option.{slice_get_within}
 use Rattle.flame_spec.specs.declared.models.Model.{Model}
 use Rattle.flame_spec.specs.declared.outcomes.Source.{Source}
 use Rattle.flame_spec.specs.Definitions.{Definition, helpers}
@@ -15,11 +16,6 @@ use Rattle.flame_meaning.specs.Outcomes.{scene_of}
 use Rattle.flame_meaning.specs.AcceptedMeaning.{place_in}
 use Rattle.flame_meaning.specs.DepthLaws.{HaveHeights}
 use Rattle.flame_meaning.proofs.Alike.{statements_alike}
-
-within : {X : Type 0} (xs : List X) (k : ℕ) (x : X) → slice_get xs k ≡ Some x → k < length xs
-within [] k x e = cc
-within (y ∷ xs) zero x e = omega arith
-within (y ∷ xs) (suc k) x e = let more = within xs k x e in omega (arith, more)
 
 module _ (model : Model) (hs : List Definition) (constants : List ℤ) (iteration : ℤ) (heights : HaveHeights model hs) where
   pub enough_levels :
@@ -41,7 +37,7 @@ module _ (model : Model) (hs : List Definition) (constants : List ℤ) (iteratio
       (record {
         alike = λ k helper at_line given left there calls.
             let called : is_called_by model hs k g ≡ true = ap (caller_calls model hs k) at ∙ calls in
-            let lower = (heights g (within hs g d at)).1 k (within hs k helper there) called in
+            let lower = (heights g (slice_get_within hs g d at)).1 k (slice_get_within hs k helper there) called in
             enough_levels n m k helper at_line given left there (omega (arith, lower, low)) (omega (arith, lower, also_low));
       }))
 
@@ -54,7 +50,7 @@ pub deeper_calls_end_alike :
     → calls_within levels model hs constants iteration line helper values fuel
     ≡ helper_calls model hs constants iteration line helper values fuel
 deeper_calls_end_alike model hs constants iteration levels line number helper values fuel heights at enough =
-    let low = (heights number (within hs number helper at)).0 in
+    let low = (heights number (slice_get_within hs number helper at)).0 in
     enough_levels model hs constants iteration heights levels deepest_calls number helper line values fuel at
     (omega (arith, low, enough)) low
 

@@ -1,10 +1,12 @@
 -- What is read and assigned is found.
-use Rattle.std.proofs.Common.{◌≡◌, ℕ, Bool, true, false, ◌||◌, cond, List, [], ◌∷◌, ◌++◌, Option, Some, None}
+use Rattle.std.proofs.Common.{◌≡◌, ℕ, Bool, true, false, ◌||◌, cond, List, [], ◌∷◌, ◌++◌, Option, Some, None, true≢false}
 use Rattle.std.proofs.Common.{IsTrue, ◌⊎◌, inl, inr, refl, sym, ap, ◌∙◌, codes}
 use Rattle.std.specs.Prelude.{not, is_some, ◌==◌}
 use Rattle.std.specs.List.{list_any}
 use Rattle.std.specs.Str.{bytes_eq}
 use Rattle.std.proofs.lemmas.Bool.{or_cases, or_left, or_right, and_parts, not-false, eq-eqb}
+use Rattle.flame_rows.proofs.Bytes.{bytes_eq-sym, bytes_eq-true}
+use Rattle.flame_rows.proofs.Lists.{append-is_nil_left, append-is_nil_right}
 use Rattle.flame_spec.specs.declared.models.MessageType.{MessageType}
 use Rattle.flame_spec.specs.declared.models.Variable.{Variable}
 use Rattle.flame_spec.specs.declared.faults.CheckKind.TheVariants.{UnknownName, UnknownCall, OutsideLoop, NotArray}
@@ -23,29 +25,20 @@ use Rattle.flame_spec.specs.Scopes.{is_visible, is_over, is_open_over}
 use Rattle.flame_spec.specs.StatementFaults.{is_only_read, is_read_only, is_input, start_faults, subscript_faults}
 use Rattle.flame_spec.specs.Trees.{Expression, number, name, field, get, at, field_at, signed, chain, all_of, any_of}
 use Rattle.flame_spec.specs.Trees.{Expressions, no_parts, part, Links, no_links, link, Indexed}
+use Rattle.flame_spec.proofs.FaultTests.{fault_where-none}
 use Rattle.flame_meaning.specs.Scenes.{Scene, Local, Progress, Current, local_value, array_named}
 use Rattle.flame_meaning.specs.Outcomes.{message_named}
 use Rattle.flame_meaning.specs.Agreement.{names_of, LoopsStand, no_loops, plain_loop, message_loop, Agrees}
 use Rattle.flame_meaning.specs.AcceptedMeaning.{IsNamed, IsArrayNamed, IsOverOne, IsRowRead, Finds, PartsFind}
 use Rattle.flame_meaning.specs.AcceptedMeaning.{LinksFind, PlaceFinds}
-use Rattle.flame_meaning.proofs.Agreeing.{first_none, second_none, no_fault, same_bytes, bytes_same, true≢false}
 use Rattle.flame_meaning.proofs.Agreeing.{named_first}
 
 -- ---- locals
 
-bytes_turned : (xs ys : List ℕ) → bytes_eq xs ys ≡ bytes_eq ys xs
-bytes_turned xs ys = by_tests (bytes_eq xs ys) (bytes_eq ys xs) refl refl
-  where
-    by_tests : (b c : Bool) → bytes_eq xs ys ≡ b → bytes_eq ys xs ≡ c → b ≡ c
-    by_tests true true e f = refl
-    by_tests false false e f = refl
-    by_tests true false e f = sym (bytes_same ys xs (sym (same_bytes xs ys e))) ∙ f
-    by_tests false true e f = sym e ∙ bytes_same xs ys (sym (same_bytes ys xs f))
-
 value_among : (word : List ℕ) (locals : List Local) → is_some (local_value word locals) ≡ is_among word (names_of locals)
 value_among word [] = refl
 value_among word (x ∷ locals) =
-    by_test (bytes_eq x.name word) (value_among word locals) ∙ ap (λ b. b || is_among word (names_of locals)) (bytes_turned x.name word)
+    by_test (bytes_eq x.name word) (value_among word locals) ∙ ap (λ b. b || is_among word (names_of locals)) (bytes_eq-sym x.name word)
   where
     by_test :
         (b : Bool)
@@ -91,7 +84,7 @@ module _ (place : Context) (sight : Sight) (scene : Scene) (s : Progress) (a : A
   -- ---- names
 
   seen : (line : ℕ) (word : List ℕ) → unknown_faults place sight line word ≡ [] → is_visible place sight word ≡ true
-  seen line word none = not-false _ (no_fault (not (is_visible place sight word)) place UnknownName line word none)
+  seen line word none = not-false _ (fault_where-none (not (is_visible place sight word)) place UnknownName line word none)
 
   known : (line : ℕ) (word : List ℕ) → unknown_faults place sight line word ≡ [] → (is_some (given_at place word) || is_local sight word) ≡ true
   known line word none = (and_parts (not (is_name_of sight.own word)) _ (seen line word none)).1
@@ -194,7 +187,7 @@ stands_over messages found loops open_loops (message_loop word n message row mor
         → (n == found.0) || list_any (λ (current : Current). current.message == found.0) opens ≡ true
     by_name true e any' later =
         let both : Some (n, message) ≡ Some found
-        = sym is ∙ ap (message_named messages) (same_bytes word found.1.name e) ∙ first in
+        = sym is ∙ ap (message_named messages) (bytes_eq-true word found.1.name e) ∙ first in
         let pair : (n, message) ≡ found = cc in
         or_left (n == found.0) _ (eq-eqb n found.0 (ap (λ q. q.0) pair))
     by_name false e any' later = or_right (n == found.0) _ (later any')
@@ -217,11 +210,11 @@ module _ (place : Context) (sight : Sight) (scene : Scene) (s : Progress) (a : A
         found = ap (λ m. message_read m word) (messages_there place sight scene s a) ∙ e;
         stands = stands_over (messages_at place) found sight.loops scene.open_loops a.loops
             (named_first (λ n. bytes_eq (n ++ codes "_message") word) (messages_at place) found e)
-            (not-false _ (no_fault (not (is_open_over sight found.1)) place OutsideLoop line word
-            (first_none _ (member_faults place (variable_named found.1.variables variable) line variable) n)));
+            (not-false _ (fault_where-none (not (is_open_over sight found.1)) place OutsideLoop line word
+            (append-is_nil_left _ (member_faults place (variable_named found.1.variables variable) line variable) n)));
         member = ap is_some (ap (λ (c : Context). member_read c word variable) a.there ∙ ap (λ o. member_of o variable) e)
-            ∙ not-false _ (no_fault (not (is_some (variable_named found.1.variables variable))) place UnknownName line variable
-            (second_none (fault_where (not (is_open_over sight found.1)) place OutsideLoop line word) _ n));
+            ∙ not-false _ (fault_where-none (not (is_some (variable_named found.1.variables variable))) place UnknownName line variable
+            (append-is_nil_right (fault_where (not (is_open_over sight found.1)) place OutsideLoop line word) _ n));
       }
 
   pub got_there :
@@ -230,7 +223,7 @@ module _ (place : Context) (sight : Sight) (scene : Scene) (s : Progress) (a : A
       → IsTrue (is_some (memory_got (memory_at scene.context) word))
   got_there line word none =
       ap (λ m. is_some (memory_got m word)) (memory_there place sight scene s a)
-      ∙ not-false _ (no_fault (not (is_some (memory_got (memory_at place) word))) place UnknownCall line word none)
+      ∙ not-false _ (fault_where-none (not (is_some (memory_got (memory_at place) word))) place UnknownCall line word none)
 
   pub element_there :
       (line : ℕ) (word : List ℕ)
@@ -238,31 +231,31 @@ module _ (place : Context) (sight : Sight) (scene : Scene) (s : Progress) (a : A
       → IsArrayNamed word scene s
   element_there line word none =
       let array : names_array place word ≡ true
-      = not-false _ (no_fault (not (names_array place word)) place NotArray line word none) in
+      = not-false _ (fault_where-none (not (names_array place word)) place NotArray line word none) in
       let (there, given) = given_array (memory_named (memory_at place) word) place.model.constants word array in
       ap is_found_array (array_there place sight scene s a word given) ∙ there
 
   mutual
     pub expression_finds : (e : Expression) → expression_faults place sight e ≡ [] → Finds e scene s
     expression_finds (number n) none = tt
-    expression_finds (name line word) none = named_there place sight scene s a line word (first_none _ _ none)
-    expression_finds (field line word variable) none = row_there line word variable (first_none _ _ none)
-    expression_finds (get line word) none = got_there line word (first_none _ _ none)
+    expression_finds (name line word) none = named_there place sight scene s a line word (append-is_nil_left _ _ none)
+    expression_finds (field line word variable) none = row_there line word variable (append-is_nil_left _ _ none)
+    expression_finds (get line word) none = got_there line word (append-is_nil_left _ _ none)
     expression_finds (at line word index_line index) none = (
-      element_there line word (second_none (unknown_faults place sight line word) _ (first_none _ _ none)),
-      expression_finds index (second_none (unknown_faults place sight line word ++ indexed_faults place line word) _ none),
+      element_there line word (append-is_nil_right (unknown_faults place sight line word) _ (append-is_nil_left _ _ none)),
+      expression_finds index (append-is_nil_right (unknown_faults place sight line word ++ indexed_faults place line word) _ none),
     )
     expression_finds (field_at line word variable index_line index) none = (
-      row_there line word variable (first_none _ _ (first_none _ _ none)),
+      row_there line word variable (append-is_nil_left _ _ (append-is_nil_left _ _ none)),
       ap (λ (c : Context). is_found_array (member_read c word variable)) a.there
-          ∙ not-false _ (no_fault (not (is_found_array (member_read place word variable))) place NotArray line variable
-          (second_none (row_faults place sight line word variable) _ (first_none _ _ none))),
-      expression_finds index (second_none (field_at_faults place sight line word variable) _ none),
+          ∙ not-false _ (fault_where-none (not (is_found_array (member_read place word variable))) place NotArray line variable
+          (append-is_nil_right (row_faults place sight line word variable) _ (append-is_nil_left _ _ none))),
+      expression_finds index (append-is_nil_right (field_at_faults place sight line word variable) _ none),
     )
     expression_finds (signed signs e) none = expression_finds e none
     expression_finds (chain e more) none = (
-      expression_finds e (first_none _ _ none),
-      links_find more (second_none (expression_faults place sight e) _ none),
+      expression_finds e (append-is_nil_left _ _ none),
+      links_find more (append-is_nil_right (expression_faults place sight e) _ none),
     )
     expression_finds (all_of parts) none = parts_find parts none
     expression_finds (any_of parts) none = parts_find parts none
@@ -270,12 +263,12 @@ module _ (place : Context) (sight : Sight) (scene : Scene) (s : Progress) (a : A
     pub parts_find : (parts : Expressions) → parts_faults place sight parts ≡ [] → PartsFind parts scene s
     parts_find no_parts none = tt
     parts_find (part e parts) none =
-        (expression_finds e (first_none _ _ none), parts_find parts (second_none (expression_faults place sight e) _ none))
+        (expression_finds e (append-is_nil_left _ _ none), parts_find parts (append-is_nil_right (expression_faults place sight e) _ none))
 
     pub links_find : (links : Links) → links_faults place sight links ≡ [] → LinksFind links scene s
     links_find no_links none = tt
     links_find (link op line e links) none =
-        (expression_finds e (first_none _ _ none), links_find links (second_none (expression_faults place sight e) _ none))
+        (expression_finds e (append-is_nil_left _ _ none), links_find links (append-is_nil_right (expression_faults place sight e) _ none))
 
   -- ---- what is assigned to
 
@@ -286,8 +279,8 @@ module _ (place : Context) (sight : Sight) (scene : Scene) (s : Progress) (a : A
       → subscript_faults place sight line word subscript ≡ []
       → PlaceFinds word subscript scene s
   place_finds line word (Some subscript) seen free none = (
-    element_there line word (first_none _ _ none),
-    expression_finds subscript.index (second_none (indexed_faults place line word) _ none),
+    element_there line word (append-is_nil_left _ _ none),
+    expression_finds subscript.index (append-is_nil_right (indexed_faults place line word) _ none),
   )
   place_finds line word None seen free none =
       by_kind (or_cases (is_some (given_at place word)) (is_local sight word) (known place sight scene s a line word seen))
@@ -297,7 +290,7 @@ module _ (place : Context) (sight : Sight) (scene : Scene) (s : Progress) (a : A
           or_right (is_some (local_value word s.locals)) (is_some (memory_named (memory_at scene.context) word))
           (ap (λ m. is_some (memory_named m word)) (memory_there place sight scene s a)
           ∙ given_changed (memory_named (memory_at place) word) place.model.constants word e
-          (no_fault (is_read_only place word) place ReadOnly line word free))
+          (fault_where-none (is_read_only place word) place ReadOnly line word free))
       by_kind (inr e) =
           or_left (is_some (local_value word s.locals)) (is_some (memory_named (memory_at scene.context) word))
           (local_there place sight scene s a word ∙ e)
@@ -326,4 +319,4 @@ module _ (place : Context) (sight : Sight) (scene : Scene) (s : Progress) (a : A
       by_message None n = cc
       by_message (Some found) n =
           by_runs place.runs found
-          (not-false _ (no_fault (not (is_input place.runs found.1)) place NotInput line word (first_none _ _ n)))
+          (not-false _ (fault_where-none (not (is_input place.runs found.1)) place NotInput line word (append-is_nil_left _ _ n)))

@@ -4,6 +4,8 @@ use Rattle.std.proofs.Common.{Some, None, refl, sym, ap, ◌∙◌, arith}
 use Rattle.std.specs.Prelude.{ℤ, not, is_some, ◌==◌, Result, Ok, Err}
 use Rattle.std.proofs.lemmas.Bool.{not-false, eqb-true}
 use Rattle.std.proofs.lemmas.List.{length-append}
+use Rattle.flame_rows.proofs.Lists.{append-is_nil_left, append-is_nil_right}
+use Rattle.flame_rows.proofs.Truths.{is_some-false}
 use Rattle.flame_spec.specs.declared.faults.Fault.{Fault}
 use Rattle.flame_spec.specs.declared.models.Variable.{Variable}
 use Rattle.flame_spec.specs.declared.faults.CheckKind.TheVariants.{WrongCount, NeedsIndex}
@@ -23,13 +25,13 @@ use Rattle.flame_spec.specs.Scopes.{Context, Sight, memory_at}
 use Rattle.flame_spec.specs.StatementFaults.{is_read_only, stored_faults, subscript_faults, assignment_faults}
 use Rattle.flame_spec.specs.Trees.{Expression, number, name, field, get, at, field_at, signed, chain, all_of, any_of}
 use Rattle.flame_spec.specs.Trees.{Expressions, no_parts, part, Stored, plain, called, Assigned}
+use Rattle.flame_spec.proofs.FaultTests.{fault_where-none}
 use Rattle.flame_meaning.specs.Scenes.{Scene, Progress, local_value, array_named, named, numbers_from, numbers_by, numbers_of}
 use Rattle.flame_meaning.specs.Scenes.{row_read, field_value}
 use Rattle.flame_meaning.specs.Expressions.{value_of, one_of, argument_values, values_and, values_of}
 use Rattle.flame_meaning.specs.Statements.{fitted}
 use Rattle.flame_meaning.specs.Agreement.{Agrees}
 use Rattle.flame_meaning.specs.AcceptedMeaning.{IsNamed, Finds, PartsFind, room, Fits, StoredFinds, PlaceFinds}
-use Rattle.flame_meaning.proofs.Agreeing.{first_none, second_none, no_fault, nothing_there}
 use Rattle.flame_meaning.proofs.Finding.{array_there, named_there, row_there, got_there}
 use Rattle.flame_meaning.proofs.Finding.{expression_finds, parts_find, place_finds}
 
@@ -41,7 +43,7 @@ fitted_whole zero (v ∷ values) e = absurd (omega (arith, e))
 fitted_whole (suc n) [] e = absurd (omega (arith, e))
 fitted_whole (suc n) (v ∷ values) e = ap (λ l. v ∷ l) (fitted_whole n values (omega (arith, e)))
 
-length-numbers : (n column : ℕ) (row : List ℤ) → length (numbers_from n column row) ≡ n
+pub length-numbers : (n column : ℕ) (row : List ℤ) → length (numbers_from n column row) ≡ n
 length-numbers zero column row = refl
 length-numbers (suc n) column row = let more = length-numbers n (column + 1) row in omega (arith, more)
 
@@ -59,7 +61,7 @@ length-numbers_of None row v = refl
 length-numbers_of (Some found) row v = length-numbers_by found.1.length found.0 row v
 
 width_single : (variable : Variable) → is_array variable ≡ false → width_of variable ≡ 1
-width_single variable single = ap width_by (nothing_there variable.length single)
+width_single variable single = ap width_by (is_some-false variable.length single)
 
 found_single : (found : Option (ℕ × Variable)) → is_found_array found ≡ false → width_found found ≡ 1
 found_single None single = refl
@@ -141,15 +143,15 @@ module _ (place : Context) (sight : Sight) (scene : Scene) (s : Progress) (a : A
       sym (ap length same)
       ∙ length-numbers_of (array_named word scene s) s.memory (named word scene s)
       ∙ name_width word
-      (no_fault (names_array place word) place NeedsIndex line word (second_none (unknown_faults place sight line word) _ none))
+      (fault_where-none (names_array place word) place NeedsIndex line word (append-is_nil_right (unknown_faults place sight line word) _ none))
   single_fits (field line word variable) values none is =
       let same : numbers_of (member_read scene.context word variable) (row_read word scene) (field_value word variable scene) ≡ values = cc in
       sym (ap length same)
       ∙ length-numbers_of (member_read scene.context word variable) (row_read word scene) (field_value word variable scene)
       ∙ ap width_found (member_there word variable)
       ∙ found_single (member_read place word variable)
-      (no_fault (is_found_array (member_read place word variable)) place NeedsIndex line variable
-      (second_none (row_faults place sight line word variable) _ none))
+      (fault_where-none (is_found_array (member_read place word variable)) place NeedsIndex line variable
+      (append-is_nil_right (row_faults place sight line word variable) _ none))
   single_fits (number n) values none is = one_is_one (value_of (number n) scene s) values is
   single_fits (get line word) values none is = one_is_one (value_of (get line word) scene s) values is
   single_fits (at line word index_line index) values none is = one_is_one (value_of (at line word index_line index) scene s) values is
@@ -207,7 +209,7 @@ module _ (place : Context) (sight : Sight) (scene : Scene) (s : Progress) (a : A
       → argument_faults place sight line word o e ≡ []
       → Finds e scene s
   argument_finds line word None e none = expression_finds place sight scene s a e none
-  argument_finds line word (Some n) e none = whole_finds e (first_none _ _ none)
+  argument_finds line word (Some n) e none = whole_finds e (append-is_nil_left _ _ none)
 
   argument_fits :
       (line : ℕ) (word : List ℕ) (o : Option ℕ) (e : Expression) (values : List ℤ)
@@ -217,8 +219,8 @@ module _ (place : Context) (sight : Sight) (scene : Scene) (s : Progress) (a : A
   argument_fits line word None e values none is = single_fits e values none is
   argument_fits line word (Some n) e values none is =
       whole_fits e n values
-      (not-false _ (no_fault (not (is_length n (length_of_argument place e))) place WrongLength line word
-      (second_none (whole_faults place sight e) _ none)))
+      (not-false _ (fault_where-none (not (is_length n (length_of_argument place e))) place WrongLength line word
+      (append-is_nil_right (whole_faults place sight e) _ none)))
       is
 
   -- ---- arguments
@@ -231,8 +233,8 @@ module _ (place : Context) (sight : Sight) (scene : Scene) (s : Progress) (a : A
   parts_fit no_parts values none is = let same : [] ≡ values = cc in sym (ap length same)
   parts_fit (part e parts) values none is =
       let (xs, ys, first, more, whole) = both_parts (argument_values e scene s) (values_of parts scene s) values is in
-      let one = single_fits e xs (first_none _ _ none) first in
-      let rest = parts_fit parts ys (second_none (expression_faults place sight e) _ none) more in
+      let one = single_fits e xs (append-is_nil_left _ _ none) first in
+      let rest = parts_fit parts ys (append-is_nil_right (expression_faults place sight e) _ none) more in
       let long = length-append xs ys in
       let all = ap length whole in
       omega (arith, one, rest, long, all)
@@ -244,8 +246,8 @@ module _ (place : Context) (sight : Sight) (scene : Scene) (s : Progress) (a : A
   arguments_find line word variables no_parts none = tt
   arguments_find line word [] (part e parts) none = parts_find place sight scene s a (part e parts) none
   arguments_find line word (variable ∷ variables) (part e parts) none = (
-    argument_finds line word variable.length e (first_none _ _ none),
-    arguments_find line word variables parts (second_none (argument_faults place sight line word variable.length e) _ none),
+    argument_finds line word variable.length e (append-is_nil_left _ _ none),
+    arguments_find line word variables parts (append-is_nil_right (argument_faults place sight line word variable.length e) _ none),
   )
 
   arguments_fit :
@@ -259,9 +261,9 @@ module _ (place : Context) (sight : Sight) (scene : Scene) (s : Progress) (a : A
   arguments_fit line word [] (part e parts) values none counted is = absurd (omega (arith, counted))
   arguments_fit line word (variable ∷ variables) (part e parts) values none counted is =
       let (xs, ys, first, more, whole) = both_parts (argument_values e scene s) (values_of parts scene s) values is in
-      let one = argument_fits line word variable.length e xs (first_none _ _ none) first in
+      let one = argument_fits line word variable.length e xs (append-is_nil_left _ _ none) first in
       let rest = arguments_fit line word variables parts ys
-      (second_none (argument_faults place sight line word variable.length e) _ none) (omega (arith, counted)) more in
+      (append-is_nil_right (argument_faults place sight line word variable.length e) _ none) (omega (arith, counted)) more in
       let long = length-append xs ys in
       let all = ap length whole in
       omega (arith, one, rest, long, all)
@@ -293,13 +295,13 @@ module _ (place : Context) (sight : Sight) (scene : Scene) (s : Progress) (a : A
       → deed_faults place sight (Some deed) line word arguments ≡ []
       → Fits deed arguments scene s
   deed_fits deed line word arguments none =
-      let given : arguments_faults place sight line word (places_of deed) arguments ≡ [] = second_none _ _ none in
-      let before = first_none _ _ (first_none _ _ none) in
-      let single : sets_array deed ≡ false = no_fault (sets_array deed) place NeedsIndex line word (first_none _ _ before) in
+      let given : arguments_faults place sight line word (places_of deed) arguments ≡ [] = append-is_nil_right _ _ none in
+      let before = append-is_nil_left _ _ (append-is_nil_left _ _ none) in
+      let single : sets_array deed ≡ false = fault_where-none (sets_array deed) place NeedsIndex line word (append-is_nil_left _ _ before) in
       let counted : count arguments ≡ wanted deed
       = eqb-true (count arguments) (wanted deed)
-      (not-false _ (no_fault (not (count arguments == wanted deed)) place WrongCount line word
-      (second_none (fault_where (sets_array deed) place NeedsIndex line word) _ before))) in
+      (not-false _ (fault_where-none (not (count arguments == wanted deed)) place WrongCount line word
+      (append-is_nil_right (fault_where (sets_array deed) place NeedsIndex line word) _ before))) in
       record {
         find = arguments_find line word (places_of deed) arguments given;
         fit = λ values is. room_filled deed line word arguments values single counted given is;
@@ -343,12 +345,12 @@ module _ (place : Context) (sight : Sight) (scene : Scene) (s : Progress) (a : A
       → assignment_faults place sight b ≡ []
       → IsNamed b.name scene s × PlaceFinds b.name b.subscript scene s × StoredFinds b.value scene s
   assignment_finds b none =
-      let seen : unknown_faults place sight b.line b.name ≡ [] = first_none _ _ (first_none _ _ (first_none _ _ none)) in
+      let seen : unknown_faults place sight b.line b.name ≡ [] = append-is_nil_left _ _ (append-is_nil_left _ _ (append-is_nil_left _ _ none)) in
       let free : fault_where (is_read_only place b.name) place ReadOnly b.line b.name ≡ []
-      = second_none (unknown_faults place sight b.line b.name) _ (first_none _ _ (first_none _ _ none)) in
+      = append-is_nil_right (unknown_faults place sight b.line b.name) _ (append-is_nil_left _ _ (append-is_nil_left _ _ none)) in
       let subscript : subscript_faults place sight b.line b.name b.subscript ≡ []
-      = second_none _ _ (first_none _ _ none) in (
+      = append-is_nil_right _ _ (append-is_nil_left _ _ none) in (
         named_there place sight scene s a b.line b.name seen,
         place_finds place sight scene s a b.line b.name b.subscript seen free subscript,
-        stored_finds b.value (second_none _ _ none),
+        stored_finds b.value (append-is_nil_right _ _ none),
       )

@@ -18,3 +18,4 @@ pub mod RangesKept
 pub mod Running
 pub mod Sending
 pub mod WidthsKept
+pub mod Eachs

@@ -30,10 +30,6 @@ use Rattle.flame_meaning.specs.Statements.{step_of, loop_currents, inside, meani
 use Rattle.flame_meaning.specs.Kept.{Leaves}
 use Rattle.flame_meaning.specs.Agreement.{names_of}
 
--- the names of the locals of a progress
-abbrev pub names : Progress → List (List ℕ)
-names s = names_of s.locals
-
 -- the locals have the same names
 pub record Same (s t : Progress) : Type 0 where
   pub same : names_of t.locals ≡ names_of s.locals

@@ -1,7 +1,7 @@
 -- Values are within int.
 use Rattle.std.proofs.Common.{◌≡◌, ℕ, zero, suc, ◌+◌, Bool, true, false, cond, List, [], ◌∷◌, ◌++◌, Option, Some}
-use Rattle.std.proofs.Common.{None, refl, subst, IfOk}
-use Rattle.std.specs.Prelude.{ℤ, pos, neg_ℤ, not, slice_get, slice_set, unwrap_or}
+use Rattle.std.proofs.Common.{None, refl, IfOk}
+use Rattle.std.specs.Prelude.{ℤ, pos, neg_ℤ, not, slice_set, unwrap_or}
 use Rattle.std.specs.Prelude.{Result, Ok, Err, ◌==◌}
 use Rattle.std.specs.Str.{bytes_eq}
 use Rattle.flame_ops.specs.declared.integers.Cause.{Cause}
@@ -68,11 +68,6 @@ fitted_ints (suc n) (v ∷ values) are = (are.0, fitted_ints n values are.1)
 pub each_joined : {X : Type 0} (P : X → Type 0) (xs : List X) (x : X) → Each P xs → P x → Each P (xs ++ x ∷ [])
 each_joined P [] x are is = (is, tt)
 each_joined P (y ∷ xs) x are is = (are.0, each_joined P xs x are.1 is)
-
-pub each_at : {X : Type 0} (P : X → Type 0) (xs : List X) (k : ℕ) (x : X) → Each P xs → slice_get xs k ≡ Some x → P x
-each_at P [] k x are e = cc
-each_at P (y ∷ xs) zero x are e = let same : y ≡ x = cc in subst P same are.0
-each_at P (y ∷ xs) (suc k) x are e = each_at P xs k x are.1 e
 
 -- ---- scenes and progress
 

@@ -1,5 +1,5 @@
 -- Statements keep numbers within int.
-use Rattle.std.proofs.Common.{◌≡◌, ℕ, zero, suc, ◌-◌, Bool, true, false, cond, List, [], ◌∷◌, map, drop}
+use Rattle.std.proofs.Common.{◌≡◌, ℕ, zero, suc, ◌-◌, Bool, true, false, cond, List, [], ◌∷◌, map}
 use Rattle.std.proofs.Common.{length, Option, Some, None, refl, subst}
 use Rattle.std.specs.Prelude.{ℤ, pos, slice_index_or, is_some, Result, Ok, Err}
 use Rattle.std.specs.Str.{bytes_eq}
@@ -45,10 +45,11 @@ use Rattle.flame_meaning.specs.RangeLaws.{IsInt, Each, AreInts, WritesInts, IfAn
 use Rattle.flame_meaning.specs.RangeLaws.{AssignedWritesInts, StatementWritesInts, BodyWritesInts, ArmsWriteInts}
 use Rattle.flame_meaning.specs.RangeLaws.{AllWriteInts, OutcomeIsInts}
 use Rattle.flame_meaning.proofs.Alike.{calls_found}
-use Rattle.flame_meaning.proofs.Ranges.{number_int, set_ints, fitted_ints, each_joined, each_at, OkInt, OkInts}
+use Rattle.flame_meaning.proofs.Ranges.{number_int, set_ints, fitted_ints, each_joined, OkInt, OkInts}
 use Rattle.flame_meaning.proofs.Ranges.{GiveInts, SceneInts, applied_int, ProgressInts, named_int, value_int}
 use Rattle.flame_meaning.proofs.Ranges.{values_ints}
 use Rattle.flame_meaning.proofs.Sending.{found_get}
+use Rattle.flame_meaning.proofs.Eachs.{each_at, each_drop}
 
 -- what was left is within int
 abbrev pub EndInts : End → Type 0
@@ -93,15 +94,10 @@ turn_ints (faulted fault) next h k = tt
 fuel_ints : (s : Progress) (fuel : ℕ) → ProgressInts s → ProgressInts (record s { fuel = fuel })
 fuel_ints s fuel has = record { memory = has.memory; locals = has.locals; sent = has.sent; born = has.born }
 
-each_dropped : {X : Type 0} (P : X → Type 0) (n : ℕ) (xs : List X) → Each P xs → Each P (drop n xs)
-each_dropped P zero xs are = are
-each_dropped P (suc n) [] are = tt
-each_dropped P (suc n) (x ∷ xs) are = each_dropped P n xs are.1
-
 outside_ints : (n : ℕ) (s : Progress) → ProgressInts s → ProgressInts (outside n s)
 outside_ints n s has = record {
   memory = has.memory;
-  locals = each_dropped (λ (x : Local). IsInt x.value) (length s.locals - n) s.locals has.locals;
+  locals = each_drop (λ (x : Local). IsInt x.value) (length s.locals - n) s.locals has.locals;
   sent = has.sent;
   born = has.born;
 }

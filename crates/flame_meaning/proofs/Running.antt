@@ -2,6 +2,7 @@
 use Rattle.std.proofs.Common.{◌≡◌, ℕ, zero, suc, List, [], ◌∷◌, length, Bool, true, false, cond, Option}
 use Rattle.std.proofs.Common.{Some, None}
 use Rattle.std.specs.Prelude.{ℤ, pos, Result, Ok, Err, is_some}
+use Rattle.flame_rows.proofs.Lists.{append-is_nil_left, append-is_nil_right}
 use Rattle.flame_ops.specs.declared.integers.Op.{Op}
 use Rattle.flame_ops.specs.Integers.{applied}
 use Rattle.flame_spec.specs.declared.faults.Fault.{Fault}
@@ -28,7 +29,6 @@ use Rattle.flame_meaning.specs.Statements.{helped, by_value, by_initial, declara
 use Rattle.flame_meaning.specs.Statements.{set_column, with_column, assigned_by, done}
 use Rattle.flame_meaning.specs.Statements.{test_value, step_of, loop_currents, inside, meaning, meanings, first_arm}
 use Rattle.flame_meaning.specs.Kept.{Leaves}
-use Rattle.flame_meaning.proofs.Agreeing.{first_none, second_none}
 
 -- the fact holds of nothing done, of one after another, and of each single change but those of call statements
 pub record IsCarried (R : Progress → Progress → Type 0) : Type 0 where
@@ -244,25 +244,25 @@ module _ (place : Context) (R : Progress → Progress → Type 0) (kept : IsCarr
     statement_carries (block body) sight scene s there none =
         scope R kept (meanings body scene) (λ t. statements_carry body (scoped sight) scene t there none) s
     statement_carries (branch tests otherwise) sight scene s there none =
-        arms_carry tests sight (as_scope (meanings otherwise scene)) scene s there (first_none _ _ none)
+        arms_carry tests sight (as_scope (meanings otherwise scene)) scene s there (append-is_nil_left _ _ none)
         (scope R kept (meanings otherwise scene)
-        (λ t. statements_carry otherwise (scoped sight) scene t there (second_none (arms_faults place sight tests) _ none)))
+        (λ t. statements_carry otherwise (scoped sight) scene t there (append-is_nil_right (arms_faults place sight tests) _ none)))
     statement_carries (while line test body) sight scene s there none =
         turns_carry R kept s.fuel line (test_value (Some test) scene) (as_scope (meanings body scene)) (step_of None scene)
         (scope R kept (meanings body scene)
-        (λ t. statements_carry body (in_loop over_none sight) scene t there (second_none (expression_faults place sight test) _ none)))
+        (λ t. statements_carry body (in_loop over_none sight) scene t there (append-is_nil_right (expression_faults place sight test) _ none)))
         (step_carries R kept None scene) s
     statement_carries (for line first test step body) sight scene s there none =
         scope R kept _ (λ t. onward R kept t (meanings first scene t) _
-        (statements_carry first (scoped sight) scene t there (first_none _ _ (first_none _ _ (first_none _ _ none))))
+        (statements_carry first (scoped sight) scene t there (append-is_nil_left _ _ (append-is_nil_left _ _ (append-is_nil_left _ _ none))))
         (λ u. turns_carry R kept u.fuel line (test_value test scene) (as_scope (meanings body scene)) (step_of step scene)
         (scope R kept (meanings body scene)
-        (λ w. statements_carry body (in_loop over_none (after_all (scoped sight) first)) scene w there (second_none _ _ none)))
+        (λ w. statements_carry body (in_loop over_none (after_all (scoped sight) first)) scene w there (append-is_nil_right _ _ none)))
         (step_carries R kept step scene) u)) s
     statement_carries (do_while line body test) sight scene s there none =
         let once : (t : Progress) → Leaves R t (as_scope (meanings body scene) t) =
         scope R kept (meanings body scene)
-        (λ t. statements_carry body (in_loop over_none sight) scene t there (first_none _ _ none)) in
+        (λ t. statements_carry body (in_loop over_none sight) scene t there (append-is_nil_left _ _ none)) in
         turn_carries R kept line (as_scope (meanings body scene)) _ once
         (λ t. turns_carry R kept t.fuel line (test_value (Some test) scene) (as_scope (meanings body scene)) (step_of None scene)
         once (step_carries R kept None scene) t) s
@@ -270,7 +270,7 @@ module _ (place : Context) (R : Progress → Progress → Type 0) (kept : IsCarr
         rows_carry R kept line _ (loop_currents word scene)
         (λ current. scope R kept (meanings body (inside current scene))
         (λ t. statements_carry body (in_loop (opened (message_looped (messages_at place) word)) sight) (inside current scene) t there
-        (second_none (start_faults place sight (message_looped (messages_at place) word) line word) _ (first_none _ _ none)))) s
+        (append-is_nil_right (start_faults place sight (message_looped (messages_at place) word) line word) _ (append-is_nil_left _ _ none)))) s
     statement_carries (return v) sight scene s there none = valued R kept s (value_of v scene s) _ (λ w. kept.same s)
     statement_carries (break line) sight scene s there none = kept.same s
     statement_carries (continue line) sight scene s there none = kept.same s
@@ -283,8 +283,8 @@ module _ (place : Context) (R : Progress → Progress → Type 0) (kept : IsCarr
     statements_carry no_more sight scene s there none = kept.same s
     statements_carry (also x xs) sight scene s there none =
         onward R kept s (meaning x scene s) (meanings xs scene)
-        (statement_carries x sight scene s there (first_none _ _ none))
-        (λ t. statements_carry xs (after sight x) scene t there (second_none (statement_faults place sight x) _ none))
+        (statement_carries x sight scene s there (append-is_nil_left _ _ none))
+        (λ t. statements_carry xs (after sight x) scene t there (append-is_nil_right (statement_faults place sight x) _ none))
 
     arms_carry :
         (tests : Arms) (sight : Sight) (otherwise : Progress → End) (scene : Scene) (s : Progress)
@@ -298,5 +298,5 @@ module _ (place : Context) (R : Progress → Progress → Type 0) (kept : IsCarr
         (λ v. by_bool R kept s (holds v) (as_scope (meanings body scene) s) (first_arm more otherwise scene s)
         (scope R kept (meanings body scene)
         (λ t. statements_carry body (scoped sight) scene t there
-        (second_none (expression_faults place sight test) _ (first_none _ _ none))) s)
-        (arms_carry more sight otherwise scene s there (second_none _ _ none) k))
+        (append-is_nil_right (expression_faults place sight test) _ (append-is_nil_left _ _ none))) s)
+        (arms_carry more sight otherwise scene s there (append-is_nil_right _ _ none) k))

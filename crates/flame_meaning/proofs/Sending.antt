@@ -1,9 +1,10 @@
 -- The messages that are sent are of outputs of the function.
-use Rattle.std.proofs.Common.{◌≡◌, ℕ, suc, ◌+◌, Bool, true, false, cond, List, [], ◌∷◌, ◌++◌, Option, Some}
+use Rattle.std.proofs.Common.{◌≡◌, ℕ, Bool, true, false, cond, List, [], ◌∷◌, ◌++◌, Option, Some}
 use Rattle.std.proofs.Common.{None, refl, sym, ap, ◌∙◌, subst, arith, codes}
 use Rattle.std.specs.Prelude.{ℤ, not, slice_get, ◌==◌}
 use Rattle.std.specs.Str.{bytes_eq}
 use Rattle.std.proofs.lemmas.Bool.{not-false}
+use Rattle.flame_rows.proofs.Lists.{append-is_nil_left, append-is_nil_right}
 use Rattle.flame_spec.specs.declared.models.AgentType.{AgentType}
 use Rattle.flame_spec.specs.declared.models.MessageType.{MessageType}
 use Rattle.flame_spec.specs.declared.models.Variable.{Variable}
@@ -19,10 +20,12 @@ use Rattle.flame_spec.specs.Definitions.{Definition, helper_named, body_of}
 use Rattle.flame_spec.specs.ExpressionFaults.{fault_where}
 use Rattle.flame_spec.specs.Functions.{Place}
 use Rattle.flame_spec.specs.KnownNames.{is_among}
-use Rattle.flame_spec.specs.Lists.{numbered_from, numbered_where}
+use Rattle.flame_spec.specs.Lists.{numbered_where}
 use Rattle.flame_spec.specs.LookUps.{memory_set, message_sent, agent_born}
 use Rattle.flame_spec.specs.Scopes.{Context, Sight, at_entry, memory_at}
 use Rattle.flame_spec.specs.Trees.{Expressions}
+use Rattle.flame_spec.proofs.FaultTests.{fault_where-none}
+use Rattle.flame_spec.proofs.Numbered.{numbered_from-stands}
 use Rattle.flame_meaning.specs.Scenes.{Progress}
 use Rattle.flame_meaning.specs.Ends.{End, went_on, broke, continued, returned, faulted}
 use Rattle.flame_meaning.specs.Expressions.{holds}
@@ -31,36 +34,17 @@ use Rattle.flame_meaning.specs.Kept.{Leaves}
 use Rattle.flame_meaning.specs.Outcomes.{start, ended, finished, scene_of, outcome_at, place_of, outcome_over}
 use Rattle.flame_meaning.specs.AcceptedMeaning.{place_in}
 use Rattle.flame_meaning.specs.OutputLaws.{IsOfOutput, AreOfOutputs, SentAre}
-use Rattle.flame_meaning.proofs.Agreeing.{first_none, second_none, no_fault}
 use Rattle.flame_meaning.proofs.Checked.{function_checked}
 use Rattle.flame_meaning.proofs.Running.{IsCarried, CallsCarry, given_carries, statements_carry}
 
 -- ---- what is found by its number
-
-numbered_get :
-    {X : Type 0} (p : X → Bool) (i : ℕ) (xs : List X) (found : ℕ × X)
-    → numbered_from p i xs ≡ Some found
-    → (k : ℕ) × (found.0 ≡ i + k) × (slice_get xs k ≡ Some found.1)
-numbered_get p i [] found e = cc
-numbered_get {X} p i (x ∷ xs) found e = by_head (p x) e (numbered_get p (i + 1) xs found)
-  where
-    by_head :
-        (b : Bool)
-        → cond b (Some (i, x)) (numbered_from p (i + 1) xs) ≡ Some found
-        → (numbered_from p (i + 1) xs ≡ Some found → (k : ℕ) × (found.0 ≡ i + 1 + k) × (slice_get xs k ≡ Some found.1))
-        → (k : ℕ) × (found.0 ≡ i + k) × (slice_get (x ∷ xs) k ≡ Some found.1)
-    by_head true f later =
-        let pair : (i, x) ≡ found = cc in
-        let first : i ≡ found.0 = ap (λ q. q.0) pair in
-        (0, omega (arith, first), ap (λ q. Some q.1) pair)
-    by_head false f later = let (k, at, get) = later f in (suc k, omega (arith, at), get)
 
 pub found_get :
     {X : Type 0} (p : X → Bool) (xs : List X) (found : ℕ × X)
     → numbered_where p xs ≡ Some found
     → slice_get xs found.0 ≡ Some found.1
 found_get p xs found e =
-    let (k, at, get) = numbered_get p 0 xs found e in
+    let (k, at, get) = numbered_from-stands p 0 xs found e in
     let same : found.0 ≡ k = omega (arith, at) in
     ap (slice_get xs) same ∙ get
 
@@ -138,9 +122,9 @@ module _ (context : Context) (place : Place) (runs : context.runs ≡ Some place
       → IsOfOutput context.model.messages place.function.outputs (record { message = n; row = row })
   sent_output sight line word arguments n message is none row =
       let output : is_no_output context.runs message ≡ false
-      = no_fault (is_no_output context.runs message) context NotOutput line word
-      (second_none (fault_where false context NeedsIndex line word ++ fault_where (not (count arguments == wanted (sends n message))) context WrongCount line word) _
-      (first_none _ _ none)) in (
+      = fault_where-none (is_no_output context.runs message) context NotOutput line word
+      (append-is_nil_right (fault_where false context NeedsIndex line word ++ fault_where (not (count arguments == wanted (sends n message))) context WrongCount line word) _
+      (append-is_nil_left _ _ none)) in (
         message,
         found_get (λ (m : MessageType). bytes_eq (codes "add_" ++ (m.name ++ codes "_message")) word) context.model.messages (n, message)
             (sends_found context word n message is),

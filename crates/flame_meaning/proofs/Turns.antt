@@ -7,7 +7,7 @@ use Rattle.flame_spec.specs.Definitions.{Definition}
 use Rattle.flame_spec.specs.Trees.{Statements, Assigned}
 use Rattle.flame_meaning.specs.Scenes.{Scene, Progress, gave, Calls}
 use Rattle.flame_meaning.specs.Expressions.{holds}
-use Rattle.flame_meaning.specs.Ends.{End, went_on, broke, continued, returned, faulted, no_fuel, with_value, on_to, as_scope}
+use Rattle.flame_meaning.specs.Ends.{End, went_on, broke, continued, returned, faulted, with_value, on_to, as_scope}
 use Rattle.flame_meaning.specs.Loops.{pay_from, after_turn, turn, turns, loop}
 use Rattle.flame_meaning.specs.Statements.{meanings, step_of}
 use Rattle.flame_meaning.specs.HelperCalls.{gives, entered, helper_scene, calls_within}
@@ -228,13 +228,6 @@ test_holds line test body step scene s v fall e h =
     unrolled line test body step scene s fall
     ∙ ap (λ r. with_value r (rolled line test body step scene s)) e
     ∙ ap (λ b. cond b (turn line (as_scope (meanings body scene)) (stepped line test body step scene) s) (went_on s)) h
-
--- without a unit no turn can be paid
-pub not_paid :
-    (line : ℕ) (body next : Progress → End) (s : Progress)
-    → s.fuel ≡ 0
-    → turn line body next s ≡ faulted (no_fuel line)
-not_paid line body next s e = ap (λ f. pay_from f line s (λ t. after_turn (body t) next)) e
 
 -- a turn that is paid for
 pub paid :

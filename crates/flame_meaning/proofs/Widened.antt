@@ -1,5 +1,5 @@
 -- Rows have their widths.
-use Rattle.std.proofs.Common.{◌≡◌, ℕ, zero, suc, ◌+◌, List, [], ◌∷◌, length, refl, sym, ap, ◌∙◌, subst, Bool, true, false, cond, Option, Some, arith}
+use Rattle.std.proofs.Common.{◌≡◌, ℕ, zero, suc, List, [], ◌∷◌, length, refl, sym, ap, ◌∙◌, subst, Bool, Option, Some, arith}
 use Rattle.std.specs.Prelude.{ℤ, All, slice_get, IsSomeAnd}
 use Rattle.std.proofs.lemmas.List.{length-set}
 use Rattle.std.proofs.lemmas.List.Elements.{All-append, All-cons}
@@ -8,6 +8,7 @@ use Rattle.flame_spec.specs.declared.models.MessageType.{MessageType}
 use Rattle.flame_spec.specs.declared.models.AgentType.{AgentType}
 use Rattle.flame_spec.specs.Columns.{width}
 use Rattle.flame_spec.specs.Lists.{numbered_from}
+use Rattle.flame_spec.proofs.Numbered.{numbered_from-stands}
 use Rattle.flame_meaning.specs.Scenes.{Progress, Calls}
 use Rattle.flame_meaning.specs.Statements.{fitted}
 use Rattle.flame_meaning.specs.Kept.{IsKept, IsKeptByPaying}
@@ -18,32 +19,12 @@ length-fitted zero values = refl
 length-fitted (suc n) [] = ap suc (length-fitted n [])
 length-fitted (suc n) (v ∷ values) = ap suc (length-fitted n values)
 
--- what is found stands at its number
-stands :
-    {X : Type 0} (passes : X → Bool) (n : ℕ) (xs : List X) (found : ℕ × X)
-    → numbered_from passes n xs ≡ Some found
-    → (k : ℕ) × (found.0 ≡ n + k) × (slice_get xs k ≡ Some found.1)
-stands passes n [] found h = cc
-stands {X} passes n (x ∷ xs) found h = by_test (passes x) h (stands passes (n + 1) xs found)
-  where
-    by_test :
-        (b : Bool)
-        → cond b (Some (n, x)) (numbered_from passes (n + 1) xs) ≡ Some found
-        → (numbered_from passes (n + 1) xs ≡ Some found
-        → (k : ℕ) × (found.0 ≡ (n + 1) + k) × (slice_get xs k ≡ Some found.1))
-        → (k : ℕ) × (found.0 ≡ n + k) × (slice_get (x ∷ xs) k ≡ Some found.1)
-    by_test true g more =
-        let same : (n, x) ≡ found = cc in
-        let number : n ≡ found.0 = ap (λ f. f.0) same in
-        (0, omega arith, ap (λ f. Some f.1) same)
-    by_test false g more = let m = more g in (suc m.0, omega (arith, m.1), m.2)
-
 pub found_at :
     {X : Type 0} (passes : X → Bool) (xs : List X) (found : ℕ × X)
     → numbered_from passes 0 xs ≡ Some found
     → slice_get xs found.0 ≡ Some found.1
 found_at passes xs found h =
-    let m = stands passes 0 xs found h in
+    let m = numbered_from-stands passes 0 xs found h in
     let same : found.0 ≡ m.0 = omega (arith, m.1) in
     ap (slice_get xs) same ∙ m.2
 

@@ -1,18 +1,15 @@
 -- Variables that are looked up in a table.
-use Rattle.std.proofs.Common.{◌≡◌, ℕ, ◌+◌, List, [], ◌∷◌, refl, ap, Bool, true, false, cond, Bor}
-use Rattle.std.proofs.Common.{Option, Some, None, option_map}
+use Rattle.std.proofs.Common.{◌≡◌, ℕ, ◌+◌, List, [], ◌∷◌, refl, Bool, true, false, cond, Bor}
+use Rattle.std.proofs.Common.{Option, Some, option_map}
 use Rattle.std.specs.Prelude.{◌||◌}
 use Rattle.std.specs.Option.{is_some}
 use Rattle.std.specs.Map.{lookup}
 use Rattle.std.specs.Str.{bytes_eq}
-use Rattle.flame_spec.specs.declared.faults.NameKind.TheVariants.{NotSingle, UnknownVariable}
+use Rattle.flame_rows.proofs.Bytes.{bytes_eq-sym}
 use Rattle.flame_spec.specs.declared.models.Variable.{Variable}
 use Rattle.flame_spec.specs.Columns.{columned_from, variable_named, width_of, is_array}
 use Rattle.flame_spec.specs.KnownNames.{is_among, variable_names}
-use Rattle.flame_spec.specs.Leaves.{found_faults}
-use Rattle.flame_spec.specs.Refusals.{name_fault}
 use Rattle.flame_names.specs.VariableTables.{variables_in_table}
-use Rattle.flame_names.proofs.Among.{bytes_eq_comm}
 
 array_step : (b c : Bool) (variable : Variable) (from : ℕ) (rest : Option (ℕ × Variable)) (more : Option (Option ℕ))
     → b ≡ c
@@ -36,7 +33,7 @@ array_from from name (entry ∷ entries) =
     from
     _
     (lookup (λ key. bytes_eq name key.now) entries)
-    (bytes_eq_comm entry.0.now name)
+    (bytes_eq-sym entry.0.now name)
     (array_from (from + width_of (let v : Variable = record { name = entry.0.now; length = entry.1 } in v)) name entries)
 
 -- whether the variable of a name is an array
@@ -62,28 +59,3 @@ there-is name (entry ∷ entries) =
     entry.1
     (lookup (λ key. bytes_eq name key.now) entries)
     (there-is name entries)
-
--- a variable that is not there
-pub found_faults-none : (o : Option (ℕ × Variable)) (path text : List ℕ)
-    → option_map (λ found. is_array found.1) o ≡ None
-    → found_faults o path text ≡ name_fault UnknownVariable path text ∷ []
-found_faults-none None path text h = refl
-found_faults-none (Some found) path text h = cc
-
--- an array
-pub found_faults-array : (o : Option (ℕ × Variable)) (path text : List ℕ)
-    → option_map (λ found. is_array found.1) o ≡ Some true
-    → found_faults o path text ≡ name_fault NotSingle path text ∷ []
-found_faults-array None path text h = cc
-found_faults-array (Some found) path text h =
-    let array : is_array found.1 ≡ true = cc in
-    ap (λ b. cond b (name_fault NotSingle path text ∷ []) []) array
-
--- a single variable
-pub found_faults-single : (o : Option (ℕ × Variable)) (path text : List ℕ)
-    → option_map (λ found. is_array found.1) o ≡ Some false
-    → found_faults o path text ≡ []
-found_faults-single None path text h = cc
-found_faults-single (Some found) path text h =
-    let array : is_array found.1 ≡ false = cc in
-    ap (λ b. cond b (name_fault NotSingle path text ∷ []) []) array

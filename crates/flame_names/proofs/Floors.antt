@@ -1,6 +1,7 @@
 -- Lengths below the least number of 32 bits.
-use Rattle.std.proofs.Common.{◌≡◌, ℕ, ◌*◌, ◌≤◌, ◌<◌, suc, zero, ℤ, pos, negsuc, ◌*ℤ◌, refl, sym, ap, ◌∙◌, Bool, true, false, cond, true≢false, nat_lt, arith, neg_ℤ}
+use Rattle.std.proofs.Common.{◌≡◌, ℕ, ◌*◌, ◌≤◌, suc, zero, ℤ, pos, negsuc, ◌*ℤ◌, refl, sym, ap, ◌∙◌, Bool, true, false, cond, true≢false, nat_lt, arith, neg_ℤ}
 use Rattle.std.proofs.Math.IntN.{zero-*ℤ}
+use Rattle.std.proofs.lemmas.Bool.{lt-ltb}
 use Rattle.flame_spec.specs.UnitFaults.{is_long}
 use Rattle.flame_names.specs.UnitTables.{floored}
 
@@ -9,9 +10,6 @@ not_below m k h = grind arith
 
 at_least : (a m : ℕ) → suc m ≤ suc a * suc m
 at_least a m = omega arith
-
-above : (n x : ℕ) → n < x → nat_lt n x ≡ true
-above n x h = grind arith
 
 not_above : (n x : ℕ) → x ≤ n → nat_lt n x ≡ false
 not_above n x h = grind arith
@@ -22,7 +20,7 @@ short zero = refl
 short (suc n) = refl
 
 long : (a m : ℕ) → 2147483647 ≤ m → is_long (negsuc a *ℤ negsuc m) ≡ true
-long a m h = let k = at_least a m in above 2147483647 (suc a * suc m) (omega arith)
+long a m h = let k = at_least a m in lt-ltb 2147483647 (suc a * suc m) (omega arith)
 
 low : (x : ℕ) → 2147483648 ≤ x → floored (neg_ℤ (pos x)) ≡ negsuc 2147483647
 low zero h = absurd (omega arith)

@@ -3,6 +3,8 @@ use Rattle.std.proofs.Common.{◌≡◌, ℕ, ℤ, ◌*ℤ◌, List, [], ◌∷�
 use Rattle.std.specs.Option.{is_some, option_map_or}
 use Rattle.std.specs.Str.{bytes_eq}
 use Rattle.std.proofs.lemmas.List.{reverse-append, map_push}
+use Rattle.flame_rows.proofs.Bytes.{bytes_eq-sym}
+use Rattle.flame_rows.proofs.Truths.{is_some-false}
 use Rattle.flame_spec.specs.declared.faults.NameFault.{NameFault}
 use Rattle.flame_spec.specs.declared.faults.NameKind.{NameKind}
 use Rattle.flame_spec.specs.declared.faults.NameKind.TheVariants.{Duplicate, UnknownUnit, LongUnit}
@@ -14,8 +16,7 @@ use Rattle.flame_spec.specs.Refusals.{fault_where}
 use Rattle.flame_spec.specs.UnitFaults.{is_long, length_after, unit_faults}
 use Rattle.flame_names.specs.NameLooks.{look, names_of}
 use Rattle.flame_names.specs.UnitTables.{floored, measure_at, unit_at, length_of, with_unit}
-use Rattle.flame_names.proofs.Among.{bytes_eq_comm}
-use Rattle.flame_names.proofs.Looks.{none-is, is_some-look, look-push, names_of-push}
+use Rattle.flame_names.proofs.Looks.{is_some-look, look-push, names_of-push}
 use Rattle.flame_names.proofs.Floors.{is_long-floored, floored-floored}
 
 -- the table has the names of the units, and their lengths
@@ -75,7 +76,7 @@ unit_length-push : (units : List TimeUnit) (unit : TimeUnit) (name : List ℕ)
     ≡ cond (bytes_eq name unit.name) (length_after units unit) (unit_length units name)
 unit_length-push units unit name =
     ap (λ l. length_back l name) (reverse-append units (unit ∷ []))
-    ∙ ap (λ b. cond b (length_after units unit) (unit_length units name)) (bytes_eq_comm unit.name name)
+    ∙ ap (λ b. cond b (length_after units unit) (unit_length units name)) (bytes_eq-sym unit.name name)
 
 choice : {A : Type 0} (b : Bool) (x y u v : A) → x ≡ u → y ≡ v → cond b x y ≡ cond b u v
 choice true x y u v p q = p
@@ -97,7 +98,7 @@ knows-push table units path unit knows none =
     unit.name
     (measure_at path unit (look unit.unit table))
     none in
-    let new = none-is (look unit.name table) parts.0 in
+    let new = is_some-false (look unit.name table) parts.0 in
     let own = knows.lengths unit.unit in
     let found = measure-none path unit (unit_length units unit.unit) (ap (measure_at path unit) (sym own) ∙ parts.1) in
     let z = found.0 in

@@ -14,10 +14,6 @@ width-push (first ∷ variables) variable = let e = width-push variables variabl
 pub counted-more : (a b : ℕ) → min (counted a + b) 18446744073709551615 ≡ counted (a + b)
 counted-more a b = omega arith
 
--- what stands still at a great number is above a small one exactly where the width is
-pub wide-counted : (a : ℕ) → nat_lt 4096 (counted a) ≡ nat_lt 4096 a
-wide-counted a = grind arith
-
 -- with the last variable the row is too wide
 pub wide-push : (variables : List Variable) (variable : Variable)
     → (is_array variable && nat_lt 4096 (width (variables ++ variable ∷ [])))

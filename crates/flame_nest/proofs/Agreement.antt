@@ -1,4 +1,5 @@
 -- Whether declarations agree.
+use mathlib.Core.Bool.{or-false}
 use Rattle.std.proofs.Common.{◌≡◌, ℕ, List, [], ◌∷◌, ◌++◌, map, refl, sym, ap, ◌∙◌, Bool, true, false, cond, Option, Some, None, true≢false, not, nat_eq, append_assoc}
 use Rattle.std.specs.Prelude.{◌&&◌, ◌||◌, IsTrue, ◌↔◌}
 use Rattle.std.specs.Option.{option_eq, is_some}
@@ -9,12 +10,13 @@ use Rattle.std.proofs.lemmas.Slice.Eq.{bytes_eq-Decides}
 use Rattle.std.proofs.lemmas.Bool.Decides.{Decides-eqb}
 use Rattle.std.proofs.lemmas.List.{map-append, append-nil}
 use Rattle.std.proofs.lemmas.List.Folds.{list_any-append}
+use Rattle.std.proofs.lemmas.Bool.{and_parts}
 use Rattle.flame_spec.specs.declared.wide.WideVariable.{WideVariable}
 use Rattle.flame_spec.specs.KnownNames.{is_among}
 use Rattle.flame_nest.specs.NestFaults.{is_alike, Declaration, given_by, differs, is_given}
 use Rattle.flame_nest.specs.KindTables.{look}
 use Rattle.flame_nest.specs.GivenTables.{Agreed, GivenTable, agreed_with, differs_from, given_in, with_entry, with_declaration}
-use Rattle.flame_nest.proofs.Looks.{and_first, and_rest, look-with_entry}
+use Rattle.flame_nest.proofs.Looks.{look-with_entry}
 
 -- ---- alike is the same
 
@@ -30,10 +32,10 @@ own_length (Some m) = (Decides-eqb m m).1 refl
 
 alike_same : (v w : WideVariable) → is_alike v w ≡ true → v ≡ w
 alike_same v w h =
-    let rest = and_rest (bytes_eq v.name w.name) (bytes_eq v.kind w.kind && option_eq nat_eq v.length w.length) h in
-    let n = (bytes_eq-Decides v.name w.name).0 (and_first _ (bytes_eq v.kind w.kind && option_eq nat_eq v.length w.length) h) in
-    let k = (bytes_eq-Decides v.kind w.kind).0 (and_first _ (option_eq nat_eq v.length w.length) rest) in
-    let l = same_length v.length w.length (and_rest (bytes_eq v.kind w.kind) _ rest) in
+    let rest = (and_parts (bytes_eq v.name w.name) (bytes_eq v.kind w.kind && option_eq nat_eq v.length w.length) h).1 in
+    let n = (bytes_eq-Decides v.name w.name).0 (and_parts _ (bytes_eq v.kind w.kind && option_eq nat_eq v.length w.length) h).0 in
+    let k = (bytes_eq-Decides v.kind w.kind).0 (and_parts _ (option_eq nat_eq v.length w.length) rest).0 in
+    let l = same_length v.length w.length (and_parts (bytes_eq v.kind w.kind) _ rest).1 in
     λ i. record { name = n i; kind = k i; length = l i }
 
 alike_own : (v : WideVariable) → is_alike v v ≡ true
@@ -47,8 +49,8 @@ all_same [] [] h = refl
 all_same [] (y ∷ ys) h = absurd (true≢false (sym h))
 all_same (x ∷ xs) [] h = absurd (true≢false (sym h))
 all_same (x ∷ xs) (y ∷ ys) h =
-    let first = alike_same x y (and_first (is_alike x y) (pointwise is_alike xs ys) h) in
-    let rest = all_same xs ys (and_rest (is_alike x y) (pointwise is_alike xs ys) h) in
+    let first = alike_same x y (and_parts (is_alike x y) (pointwise is_alike xs ys) h).0 in
+    let rest = all_same xs ys (and_parts (is_alike x y) (pointwise is_alike xs ys) h).1 in
     λ i. first i ∷ rest i
 
 pub all_own : (xs : List WideVariable) → pointwise is_alike xs xs ≡ true
@@ -112,10 +114,6 @@ has_cases true false x o h = refl
 has_cases false true x o h = h
 has_cases false false x o h = h
 
-or_nil : (b : Bool) → b ≡ (b || false)
-or_nil true = refl
-or_nil false = refl
-
 differs_cases : (b c : Bool) (name other : List ℕ) (e d : List WideVariable) (table : GivenTable)
     → bytes_eq name other ≡ b
     → differs_from e (look name table) ≡ c
@@ -125,8 +123,8 @@ differs_cases true c name other e d table same h =
     ap (λ n. differs_from e (Some (agreed_with d (look n table)))) (sym ((bytes_eq-Decides name other).0 same))
     ∙ agreed-differs e d (look name table)
     ∙ ap (λ x. x || not (pointwise is_alike d e)) h
-    ∙ ap (λ x. c || x) (or_nil (not (pointwise is_alike d e)))
-differs_cases false c name other e d table same h = h ∙ or_nil c
+    ∙ ap (λ x. c || x) (sym (or-false (not (pointwise is_alike d e))))
+differs_cases false c name other e d table same h = h ∙ (sym (or-false c))
 
 -- a table with one declaration more tells what these declarations give
 given-push : (table : GivenTable) (earlier : List Declaration) (d : Declaration)

@@ -6,6 +6,9 @@ use Rattle.std.specs.Str.{bytes_eq}
 use Rattle.std.proofs.Math.Seq.{take-append_seam}
 use Rattle.std.proofs.lemmas.List.{map-append, append-nil}
 use Rattle.std.proofs.lemmas.List.Elements.{filter-append}
+use Rattle.std.proofs.lemmas.Bool.{and_parts, and_from, not-false}
+use Rattle.std.proofs.lemmas.List.Folds.{list_any-append}
+use Rattle.flame_rows.proofs.Lists.{append-is_nil}
 use Rattle.flame_spec.specs.declared.wide.Wide.{Wide}
 use Rattle.flame_spec.specs.declared.wide.WideVariable.{WideVariable}
 use Rattle.flame_spec.specs.declared.wide.DataType.{DataType}
@@ -17,14 +20,12 @@ use Rattle.flame_nest.specs.declared.faults.NestKind.TheVariants.{Differs, Twice
 use Rattle.flame_nest.specs.FlatModels.{inside, replaced, spread, new_behind, with_new, joined_types, joined_messages}
 use Rattle.flame_nest.specs.NestFaults.{is_int, nest_where, nest_faults, types_faults, type_faults, fields_faults, messages_faults, message_faults, agents_faults, variables_faults, variable_faults, meant_by, Given, given_by, types_given, messages_given, of_type, of_message, type_names}
 use Rattle.flame_nest.specs.FlatLaws.{are_int}
-use Rattle.flame_nest.proofs.Looks.{and_first, and_rest}
 use Rattle.flame_nest.proofs.Firsts.{none-false}
-use Rattle.flame_nest.proofs.Joins.{joined_once-push, is_among-append}
-use Rattle.flame_nest.proofs.Typing.{append-none}
+use Rattle.flame_nest.proofs.Joins.{joined_once-push}
 use Rattle.flame_nest.proofs.Walks.{types-known, messages-known}
-use Rattle.flame_nest.proofs.Shapes.{and_both, list_all-flat_map, list_all-weaker}
+use Rattle.flame_nest.proofs.Shapes.{list_all-flat_map, list_all-weaker}
 use Rattle.flame_nest.proofs.LaterTypes.{is_known, types_with, known_more}
-use Rattle.flame_nest.proofs.FormedModels.{not_false, with_new_all, Walked, walked_from}
+use Rattle.flame_nest.proofs.FormedModels.{with_new_all, Walked, walked_from}
 
 -- the kinds of variables are `int` or these data types
 abbrev pub are_known : List DataType → List WideVariable → Bool
@@ -47,11 +48,11 @@ known_cases before type v true e fields h = all_inside type.variables fields
     all_inside : (fields : List WideVariable) → are_known before fields ≡ true → are_known before (map (inside v) fields) ≡ true
     all_inside [] g = refl
     all_inside (f ∷ fields) g =
-        and_both
+        and_from
         (is_known before f.kind)
         (are_known before (map (inside v) fields))
-        (and_first (is_known before f.kind) (are_known before fields) g)
-        (all_inside fields (and_rest (is_known before f.kind) (are_known before fields) g))
+        (and_parts (is_known before f.kind) (are_known before fields) g).0
+        (all_inside fields (and_parts (is_known before f.kind) (are_known before fields) g).1)
 known_cases before type v false e fields h =
     ap
     (λ b. b && true)
@@ -68,7 +69,7 @@ known_cases before type v false e fields h =
         ≡ (is_among v.kind (type_names before) || (bytes_eq v.kind type.name || false))
     names =
         ap (is_among v.kind) (map-append (λ type. type.name) before (type ∷ []))
-        ∙ is_among-append v.kind (type_names before) (type.name ∷ [])
+        ∙ (list_any-append (bytes_eq v.kind) (type_names before) (type.name ∷ []))
 
 spread_known : (before types : List DataType) (variables : List WideVariable)
     → are_based before types ≡ true
@@ -76,13 +77,13 @@ spread_known : (before types : List DataType) (variables : List WideVariable)
     → are_known before (spread types variables) ≡ true
 spread_known before [] variables based h = ap (λ l. are_known l variables) (sym (append-nil before)) ∙ h
 spread_known before (type ∷ types) variables based h =
-    let fields = and_first (are_known before type.variables) (are_based (before ++ type ∷ []) types) based in
+    let fields = (and_parts (are_known before type.variables) (are_based (before ++ type ∷ []) types) based).0 in
     let rest =
     spread_known
     (before ++ type ∷ [])
     types
     variables
-    (and_rest (are_known before type.variables) (are_based (before ++ type ∷ []) types) based)
+    (and_parts (are_known before type.variables) (are_based (before ++ type ∷ []) types) based).1
     (ap (λ l. are_known l variables) (append_assoc before (type ∷ []) types) ∙ h) in
     list_all-flat_map
     (λ v. is_known before v.kind)
@@ -118,27 +119,27 @@ based_push : (before types : List DataType) (type : DataType)
 based_push before [] type based h =
     ap (λ b. b && true) (ap (λ l. are_known l type.variables) (sym (append-nil before)) ∙ h)
 based_push before (other ∷ types) type based h =
-    and_both
+    and_from
     (are_known before other.variables)
     (are_based (before ++ other ∷ []) (types ++ type ∷ []))
-    (and_first (are_known before other.variables) (are_based (before ++ other ∷ []) types) based)
+    (and_parts (are_known before other.variables) (are_based (before ++ other ∷ []) types) based).0
     (based_push
     (before ++ other ∷ [])
     types
     type
-    (and_rest (are_known before other.variables) (are_based (before ++ other ∷ []) types) based)
+    (and_parts (are_known before other.variables) (are_based (before ++ other ∷ []) types) based).1
     (ap (λ l. are_known l type.variables) (append_assoc before (other ∷ []) types) ∙ h))
 
 variables_known : (file : List ℕ) (known : List DataType) (variables : List WideVariable)
     → variables_faults file (meant_by known) variables ≡ [] → are_known known variables ≡ true
 variables_known file known [] none = refl
 variables_known file known (v ∷ variables) none =
-    let parts = append-none (variable_faults file (meant_by known) v) (variables_faults file (meant_by known) variables) none in
-    let first = append-none (nest_where (not (is_known known v.kind)) UnknownType file v.name) _ parts.0 in
-    and_both
+    let parts = append-is_nil (variable_faults file (meant_by known) v) (variables_faults file (meant_by known) variables) none in
+    let first = append-is_nil (nest_where (not (is_known known v.kind)) UnknownType file v.name) _ parts.0 in
+    and_from
     (is_known known v.kind)
     (are_known known variables)
-    (not_false (is_known known v.kind) (none-false (not (is_known known v.kind)) UnknownType file v.name first.0))
+    (not-false (is_known known v.kind) (none-false (not (is_known known v.kind)) UnknownType file v.name first.0))
     (variables_known file known variables parts.1)
 
 type_cases : (file : List ℕ) (known : List DataType) (type : DataType) (has : Bool)
@@ -147,7 +148,7 @@ type_cases : (file : List ℕ) (known : List DataType) (type : DataType) (has : 
     → are_based [] (known ++ cond (not has) (type ∷ []) []) ≡ true
 type_cases file known type true based none = ap (are_based []) (append-nil known) ∙ based
 type_cases file known type false based none =
-    let parts = append-none (variables_faults file (meant_by known) type.variables) _ none in
+    let parts = append-is_nil (variables_faults file (meant_by known) type.variables) _ none in
     based_push [] known type based (variables_known file known type.variables parts.0)
 
 with_new_push : (known pre : List DataType) (type : DataType)
@@ -187,7 +188,7 @@ types_based file given known all i pre (type ∷ rest) names n e none based =
     ap (take i) e ∙ ap (λ k. take k (pre ++ type ∷ rest)) n ∙ take-append_seam pre (type ∷ rest) in
     let now = with_new (λ type. type.name) known pre in
     let parts =
-    append-none
+    append-is_nil
     (type_faults
     file
     given
@@ -201,8 +202,8 @@ types_based file given known all i pre (type ∷ rest) names n e none based =
     (λ l. type_faults file given (type_names l) (meant_by (with_new (λ type. type.name) known l)) type)
     (sym taken)
     ∙ parts.0 in
-    let behind = append-none (nest_where (given.differs (of_type type)) Differs file type.name) _ here in
-    let last = append-none (nest_where (is_int type.name || is_among type.name (type_names pre)) TwiceType file type.name) _ behind.1 in
+    let behind = append-is_nil (nest_where (given.differs (of_type type)) Differs file type.name) _ here in
+    let last = append-is_nil (nest_where (is_int type.name || is_among type.name (type_names pre)) TwiceType file type.name) _ behind.1 in
     types_based
     file
     given
@@ -247,8 +248,8 @@ agents_known : (file : List ℕ) (known all : List DataType) (agents : List Wide
     → list_all (λ agent. are_known all agent.memory) agents ≡ true
 agents_known file known all [] more none = refl
 agents_known file known all (a ∷ agents) more none =
-    let parts = append-none (variables_faults file (meant_by known) a.memory) (agents_faults file (meant_by known) agents) none in
-    and_both
+    let parts = append-is_nil (variables_faults file (meant_by known) a.memory) (agents_faults file (meant_by known) agents) none in
+    and_from
     (are_known all a.memory)
     (list_all (λ agent. are_known all agent.memory) agents)
     (more_variables known all a.memory more (variables_known file known a.memory parts.0))
@@ -260,7 +261,7 @@ message_cases : (b : Bool) (all : List DataType) (message : WideMessage) (rest :
     → list_all (λ message. are_known all message.variables) (cond (not b) (message ∷ rest) rest) ≡ true
 message_cases true all message rest h e = e
 message_cases false all message rest h e =
-    and_both
+    and_from
     (are_known all message.variables)
     (list_all (λ message. are_known all message.variables) rest)
     (h refl)
@@ -274,11 +275,11 @@ messages_are_known : (file : List ℕ) (given : Given) (known all : List DataTyp
 messages_are_known file given known all kept [] names more none = refl
 messages_are_known file given known all kept (m ∷ messages) names more none =
     let parts =
-    append-none
+    append-is_nil
     (message_faults file given (meant_by known) m)
     (messages_faults file given (meant_by known) messages)
     none in
-    let behind = append-none (nest_where (given.differs (of_message m)) Differs file m.name) _ parts.0 in
+    let behind = append-is_nil (nest_where (given.differs (of_message m)) Differs file m.name) _ parts.0 in
     message_cases
     (is_among m.name (map (λ message. message.name) kept))
     all
@@ -324,12 +325,12 @@ walked_known all earlier (wide ∷ rest) walked e based kept =
     let pushed = joined_once-push (λ type. type.name) (λ wide. wide.types) earlier wide in
     let joined = joined_once-push (λ message. message.name) (λ wide. wide.messages) earlier wide in
     let parts =
-    append-none
+    append-is_nil
     (types_faults file declared (joined_types earlier) wide.types)
     (messages_faults file given (meant_by known) wide.messages ++ agents_faults file (meant_by known) wide.agents)
     walked.0.1 in
     let others =
-    append-none
+    append-is_nil
     (messages_faults file given (meant_by known) wide.messages)
     (agents_faults file (meant_by known) wide.agents)
     parts.1 in
@@ -380,7 +381,7 @@ walked_known all earlier (wide ∷ rest) walked e based kept =
           (sym joined)
           ∙ next.messages;
       agents =
-          and_both
+          and_from
           (list_all (λ agent. are_known all agent.memory) wide.agents)
           (list_all (λ wide. list_all (λ agent. are_known all agent.memory) wide.agents) rest)
           (agents_known file known all wide.agents more others.1)

@@ -1,12 +1,14 @@
 -- Looking up names in tables.
-use Rattle.std.proofs.Common.{◌≡◌, ℕ, List, [], ◌∷◌, ◌++◌, map, refl, sym, ap, ◌∙◌, Bool, true, false, cond, Option, Some, None, true≢false, not, Bor, option_map}
+use Rattle.std.proofs.Common.{◌≡◌, ℕ, List, [], ◌∷◌, ◌++◌, map, refl, sym, ap, ◌∙◌, Bool, true, false, cond, Option, Some, None, true≢false, Bor, option_map}
 use Rattle.std.specs.Prelude.{◌&&◌, ◌||◌}
-use Rattle.std.specs.Option.{is_some, option_copied}
+use Rattle.std.specs.Option.{is_some}
 use Rattle.std.specs.List.{list_all, list_any}
 use Rattle.std.specs.Map.{lookup}
 use Rattle.std.specs.Str.{bytes_eq}
 use Rattle.std.proofs.lemmas.Slice.Eq.{bytes_eq-Decides}
 use Rattle.std.proofs.lemmas.List.{map_push}
+use Rattle.std.proofs.lemmas.Bool.{and_parts}
+use Rattle.flame_rows.proofs.Truths.{option_map-none, option_map-cond, cond-cond}
 use Rattle.indexmap.specs.IndexMap.{insert_entry}
 use Rattle.indexmap.specs.IndexSet.{insert_key}
 use Rattle.flame_spec.specs.KnownNames.{is_among}
@@ -39,13 +41,6 @@ look-none name table h = by (look name table) (is_some-look name table ∙ h)
     by None e = refl
     by (Some x) e = absurd (true≢false e)
 
-push_step : {X : Type 0} (same front : Bool) (x y : X) (o : Option X)
-    → (same ≡ true → front ≡ false)
-    → cond front (Some y) (cond same (Some x) o) ≡ cond same (Some x) (cond front (Some y) o)
-push_step true true x y o h = absurd (true≢false (h refl))
-push_step true false x y o h = refl
-push_step false front x y o h = refl
-
 push_cases : {X : Type 0} (name other key : List ℕ) (x y : X) (table more : List (List ℕ × X)) (same : Bool)
     → bytes_eq name key ≡ same
     → cond (bytes_eq name key) (Some y) (look name table) ≡ None
@@ -55,7 +50,7 @@ push_cases : {X : Type 0} (name other key : List ℕ) (x y : X) (table more : Li
 push_cases name other key x y table more true e h rest = cc
 push_cases name other key x y table more false e h rest =
     ap (cond (bytes_eq other key) (Some y)) (rest (sym (ap (λ c. cond c (Some y) (look name table)) e) ∙ h))
-    ∙ push_step
+    ∙ cond-cond
     (bytes_eq other name)
     (bytes_eq other key)
     x
@@ -86,21 +81,13 @@ pub names_of-push : {X : Type 0} (table : List (List ℕ × X)) (name : List ℕ
     → names_of (table ++ (name, x) ∷ []) ≡ names_of table ++ name ∷ []
 names_of-push table name x = map_push (λ entry. entry.0) table (name, x)
 
-pub and_first : (b c : Bool) → (b && c) ≡ true → b ≡ true
-and_first true c h = refl
-and_first false c h = h
-
 all_step : {X : Type 0} (p : X → Bool) (b c : Bool) (x y : X) (o : Option X)
     → (o ≡ Some x → p x ≡ true)
     → (p y && c) ≡ true
     → cond b (Some y) o ≡ Some x
     → p x ≡ true
-all_step p true c x y o rest h e = let same : y ≡ x = cc in ap p (sym same) ∙ and_first (p y) c h
+all_step p true c x y o rest h e = let same : y ≡ x = cc in ap p (sym same) ∙ (and_parts (p y) c h).0
 all_step p false c x y o rest h e = rest e
-
-pub and_rest : (b c : Bool) → (b && c) ≡ true → c ≡ true
-and_rest true c h = h
-and_rest false c h = absurd (true≢false (sym h))
 
 -- what is found passes a test that all entries pass
 pub look-all : {X : Type 0} (p : X → Bool) (name : List ℕ) (x : X) (table : List (List ℕ × X))
@@ -114,15 +101,9 @@ look-all p name x (entry ∷ table) h e =
     x
     entry.1
     (look name table)
-    (look-all p name x table (and_rest (p entry.1) (list_all (λ entry. p entry.1) table) h))
+    (look-all p name x table (and_parts (p entry.1) (list_all (λ entry. p entry.1) table) h).1)
     h
     e
-
-shown_step : {X Y : Type 0} (shown : X → Y) (b : Bool) (x : X) (o : Option Y) (found : Option X)
-    → o ≡ option_map shown found
-    → cond b (Some (shown x)) o ≡ option_map shown (cond b (Some x) found)
-shown_step shown true x o found e = refl
-shown_step shown false x o found e = e
 
 -- looking up in the entries of a map, as its table shows them
 pub look-shown : {X Y : Type 0} (name : List ℕ) (shown : X → Y) (entries : List (Bor (List ℕ) × X))
@@ -130,7 +111,7 @@ pub look-shown : {X Y : Type 0} (name : List ℕ) (shown : X → Y) (entries : L
     ≡ option_map shown (lookup (λ key. bytes_eq name key.now) entries)
 look-shown name shown [] = refl
 look-shown name shown (entry ∷ entries) =
-    shown_step
+    option_map-cond
     shown
     (bytes_eq name entry.0.now)
     entry.1
@@ -138,23 +119,11 @@ look-shown name shown (entry ∷ entries) =
     (lookup (λ key. bytes_eq name key.now) entries)
     (look-shown name shown entries)
 
-pub is_some-copied : {X : Type 0} (o : Option (Bor X)) → is_some (option_copied o) ≡ is_some o
-is_some-copied None = refl
-is_some-copied (Some x) = refl
-
-pub not_true : (b : Bool) → not b ≡ true → b ≡ false
-not_true true h = absurd (true≢false (sym h))
-not_true false h = refl
-
-missing : {X Y : Type 0} (shown : X → Y) (o : Option X) → option_map shown o ≡ None → o ≡ None
-missing shown None e = refl
-missing shown (Some x) e = cc
-
 -- a name that the table does not show is not in the map
 pub look-missing : {X Y : Type 0} (name : List ℕ) (shown : X → Y) (entries : List (Bor (List ℕ) × X))
     → look name (map (λ entry. (entry.0.now, shown entry.1)) entries) ≡ None
     → lookup (λ key. bytes_eq name key.now) entries ≡ None
-look-missing name shown entries e = missing shown _ (sym (look-shown name shown entries) ∙ e)
+look-missing name shown entries e = option_map-none shown _ (sym (look-shown name shown entries) ∙ e)
 
 twice_cases : {X : Type 0} (b : Bool) (x y : X) (o : Option X)
     → cond b (Some x) o ≡ cond b (Some x) (cond b (Some y) o)
@@ -174,7 +143,7 @@ entry_cases name other x entry table more true e rest =
     same = (bytes_eq-Decides name entry.0).0 e
 entry_cases name other x entry table more false e rest =
     ap (cond (bytes_eq other entry.0) (Some entry.1)) rest
-    ∙ push_step
+    ∙ cond-cond
     (bytes_eq other name)
     (bytes_eq other entry.0)
     x
@@ -197,10 +166,6 @@ look-with_entry name other x (entry ∷ table) =
     (bytes_eq name entry.0)
     refl
     (look-with_entry name other x table)
-
-pub is_some-map : {X Y : Type 0} (f : X → Y) (o : Option X) → is_some (option_map f o) ≡ is_some o
-is_some-map f None = refl
-is_some-map f (Some x) = refl
 
 entry_shown : {X Y : Type 0} (shown : X → Y) (b : Bool) (x : X) (entry : Bor (List ℕ) × X)
     (entries more : List (Bor (List ℕ) × X)) (rest : List (List ℕ × Y))

@@ -9,13 +9,7 @@ use Rattle.flame_rows.specs.declared.fails.Fail.{Fail}
 use Rattle.flame_rows.specs.declared.fails.Fail.TheVariants.{Fault, NoMemory}
 use Rattle.flame_nest.specs.declared.faults.NestKind.{NestKind}
 use Rattle.flame_nest.specs.NestFaults.{nest_where}
-use Rattle.flame_spec.specs.FirstFaults.{FailsBy, FailsFirst}
-
--- a fault that is the first
-pub fails_first : {F : Type 0} (fault : F) (faults : List F) (fail : Fail F)
-    → first faults ≡ Some fault → FailsBy fault fail → FailsFirst faults fail
-fails_first fault faults (Fault other) h e = h ∙ ap Some (sym e)
-fails_first fault faults NoMemory h e = tt
+use Rattle.flame_spec.specs.FirstFaults.{FailsFirst}
 
 first-append : {F : Type 0} (xs ys : List F) (fault : F) → first xs ≡ Some fault → first (xs ++ ys) ≡ Some fault
 first-append [] ys fault h = cc
@@ -35,10 +29,6 @@ fails-skip NoMemory xs ys e h = tt
 pub fails-same : {F : Type 0} (fail : Fail F) (xs ys : List F) → xs ≡ ys → FailsFirst xs fail → FailsFirst ys fail
 fails-same (Fault fault) xs ys e h = ap first (sym e) ∙ h
 fails-same NoMemory xs ys e h = tt
-
--- no faults in both parts
-pub none-append : {F : Type 0} (xs ys : List F) → xs ≡ [] → ys ≡ [] → xs ++ ys ≡ []
-none-append xs ys p q = ap (λ l. l ++ ys) p ∙ q
 
 -- the first fault of an item is the first of the rest of the list
 pub fails-item : {X F : Type 0} (fail : Fail F) (f : X → List F) (xs : List X) (i : ℕ) (d item : X) (whole : List F)

@@ -1,9 +1,11 @@
 -- The flat model of well formed files without faults is well formed.
-use Rattle.std.proofs.Common.{◌≡◌, ℕ, ◌+◌, List, [], ◌∷◌, ◌++◌, length, take, map, refl, sym, ap, ◌∙◌, Bool, true, false, cond, true≢false, not, append_assoc, length-append}
+use Rattle.std.proofs.Common.{◌≡◌, ℕ, ◌+◌, List, [], ◌∷◌, ◌++◌, length, take, map, refl, sym, ap, ◌∙◌, Bool, true, false, cond, not, append_assoc, length-append}
 use Rattle.std.specs.Prelude.{◌&&◌, ◌||◌, IsTrue, slice_get, unwrap_or, is_some}
 use Rattle.std.specs.List.{filter, flat_map, fold, list_all}
 use Rattle.std.proofs.Math.Seq.{take-append_seam}
 use Rattle.std.proofs.lemmas.List.Folds.{list_all-append, list_all-map}
+use Rattle.std.proofs.lemmas.Bool.{and_parts, and_from, not-false}
+use Rattle.flame_rows.proofs.Lists.{append-is_nil}
 use Rattle.flame_spec.specs.declared.wide.Wide.{Wide}
 use Rattle.flame_spec.specs.declared.wide.WideVariable.{WideVariable}
 use Rattle.flame_spec.specs.declared.wide.DataType.{DataType}
@@ -18,20 +20,18 @@ use Rattle.flame_nest.specs.declared.faults.NestFault.{NestFault}
 use Rattle.flame_nest.specs.declared.faults.NestKind.TheVariants.{Differs, TwiceType, UnknownType, TypedArray, TooWide, LongName}
 use Rattle.flame_nest.specs.FlatModels.{flat, flat_message, flat_agent, flat_variables, new_behind, with_new, joined_types, joined_messages}
 use Rattle.flame_nest.specs.NestFaults.{is_int, is_wide, has_long, nest_where, nest_faults, file_faults, types_faults, type_faults, messages_faults, message_faults, agents_faults, variables_faults, variable_faults, meant_by, Given, given_by, types_given, messages_given, of_type, of_message, type_names}
-use Rattle.flame_nest.proofs.Looks.{and_first, and_rest}
 use Rattle.flame_nest.proofs.Firsts.{none-false}
 use Rattle.flame_nest.proofs.Joins.{or_first, joined_once-push}
-use Rattle.flame_nest.proofs.Typing.{append-none}
 use Rattle.flame_nest.proofs.Unfolding.{flat_variables-nil, flat_variables-append}
 use Rattle.flame_nest.proofs.Walks.{messages-known}
-use Rattle.flame_nest.proofs.Shapes.{and_both, list_all-flat_map, list_all-weaker, is_shaped, has_shape, variables_shaped, types_shaped, flat_formed}
+use Rattle.flame_nest.proofs.Shapes.{list_all-flat_map, list_all-weaker, is_shaped, has_shape, variables_shaped, types_shaped, flat_formed}
 use Rattle.flame_nest.proofs.LaterTypes.{is_known, are_named, types_with, later_same}
 
 -- ---- joined lists
 
 filter_cases : {X : Type 0} (p : X → Bool) (b : Bool) (x : X) (rest : List X)
     → p x ≡ true → list_all p rest ≡ true → list_all p (cond b (x ∷ rest) rest) ≡ true
-filter_cases p true x rest h e = and_both (p x) (list_all p rest) h e
+filter_cases p true x rest h e = and_from (p x) (list_all p rest) h e
 filter_cases p false x rest h e = e
 
 list_all-filter : {X : Type 0} (p q : X → Bool) (xs : List X)
@@ -43,8 +43,8 @@ list_all-filter p q (x ∷ xs) h =
     (q x)
     x
     (filter q xs)
-    (and_first (p x) (list_all p xs) h)
-    (list_all-filter p q xs (and_rest (p x) (list_all p xs) h))
+    (and_parts (p x) (list_all p xs) h).0
+    (list_all-filter p q xs (and_parts (p x) (list_all p xs) h).1)
 
 module _ {X : Type 0} (name_of : X → List ℕ) where
   pub with_new_all : (p : X → Bool) (earlier xs : List X)
@@ -53,7 +53,7 @@ module _ {X : Type 0} (name_of : X → List ℕ) where
       → list_all p (with_new name_of earlier xs) ≡ true
   with_new_all p earlier xs h e =
       list_all-append p earlier (new_behind name_of earlier xs)
-      ∙ and_both (list_all p earlier) (list_all p (new_behind name_of earlier xs)) h e
+      ∙ and_from (list_all p earlier) (list_all p (new_behind name_of earlier xs)) h e
 
   fold_all : (p : X → Bool) (list_of : Wide → List X) (earlier : List X) (wides : List Wide)
       → list_all p earlier ≡ true
@@ -75,8 +75,8 @@ module _ {X : Type 0} (name_of : X → List ℕ) where
       p
       (λ member. not (is_among (name_of member) (map name_of earlier)))
       (list_of wide)
-      (and_first (list_all p (list_of wide)) (list_all (λ wide. list_all p (list_of wide)) wides) e)))
-      (and_rest (list_all p (list_of wide)) (list_all (λ wide. list_all p (list_of wide)) wides) e)
+      (and_parts (list_all p (list_of wide)) (list_all (λ wide. list_all p (list_of wide)) wides) e).0))
+      (and_parts (list_all p (list_of wide)) (list_all (λ wide. list_all p (list_of wide)) wides) e).1
 
 -- ---- parts of a well formed file
 
@@ -96,25 +96,21 @@ formed wide h =
     let d = list_all is_well_formed_type wide.types && e in
     let c = list_all is_well_formed_unit wide.units && d in
     let b = list_all is_filled wide.files && c in
-    let hb = and_rest (list_all is_name wide.constants) b h in
-    let hc = and_rest (list_all is_filled wide.files) c hb in
-    let hd = and_rest (list_all is_well_formed_unit wide.units) d hc in
-    let he = and_rest (list_all is_well_formed_type wide.types) e hd in
-    let hf = and_rest (list_all is_well_formed_wide_message wide.messages) f he in
+    let hb = (and_parts (list_all is_name wide.constants) b h).1 in
+    let hc = (and_parts (list_all is_filled wide.files) c hb).1 in
+    let hd = (and_parts (list_all is_well_formed_unit wide.units) d hc).1 in
+    let he = (and_parts (list_all is_well_formed_type wide.types) e hd).1 in
+    let hf = (and_parts (list_all is_well_formed_wide_message wide.messages) f he).1 in
     record {
-      constants = and_first (list_all is_name wide.constants) b h;
-      files = and_first (list_all is_filled wide.files) c hb;
-      units = and_first (list_all is_well_formed_unit wide.units) d hc;
-      types = and_first (list_all is_well_formed_type wide.types) e hd;
-      messages = and_first (list_all is_well_formed_wide_message wide.messages) f he;
-      agents = and_first (list_all is_well_formed_wide_agent wide.agents) g hf;
+      constants = (and_parts (list_all is_name wide.constants) b h).0;
+      files = (and_parts (list_all is_filled wide.files) c hb).0;
+      units = (and_parts (list_all is_well_formed_unit wide.units) d hc).0;
+      types = (and_parts (list_all is_well_formed_type wide.types) e hd).0;
+      messages = (and_parts (list_all is_well_formed_wide_message wide.messages) f he).0;
+      agents = (and_parts (list_all is_well_formed_wide_agent wide.agents) g hf).0;
     }
 
 -- ---- variables without a fault
-
-pub not_false : (b : Bool) → not b ≡ false → b ≡ true
-not_false true h = refl
-not_false false h = absurd (true≢false h)
 
 -- what is flat alike before and behind
 abbrev Same : List DataType → List DataType → Type 0
@@ -130,10 +126,10 @@ variable_formed file known all v same shapes shaped none =
     let typed = is_among v.kind (type_names known) in
     let wide = is_wide (flat_variables known (v ∷ [])) in
     let long = has_long (flat_variables known (v ∷ [])) in
-    let first = append-none (nest_where (not (is_known known v.kind)) UnknownType file v.name) _ none in
-    let second = append-none (nest_where (typed && is_some v.length) TypedArray file v.name) _ first.1 in
-    let third = append-none (nest_where (typed && wide) TooWide file v.name) _ second.1 in
-    let known_kind = not_false (is_known known v.kind) (none-false (not (is_known known v.kind)) UnknownType file v.name first.0) in
+    let first = append-is_nil (nest_where (not (is_known known v.kind)) UnknownType file v.name) _ none in
+    let second = append-is_nil (nest_where (typed && is_some v.length) TypedArray file v.name) _ first.1 in
+    let third = append-is_nil (nest_where (typed && wide) TooWide file v.name) _ second.1 in
+    let known_kind = not-false (is_known known v.kind) (none-false (not (is_known known v.kind)) UnknownType file v.name first.0) in
     ap (list_all is_well_formed_variable) (same v known_kind)
     ∙ flat_formed known (v ∷ []) shapes (ap (λ b. b && true) shaped) (none-false long LongName file v.name third.1)
 
@@ -146,13 +142,13 @@ variables_formed : (file : List ℕ) (known all : List DataType) (variables : Li
 variables_formed file known all [] same shapes shaped none =
     ap (list_all is_well_formed_variable) (flat_variables-nil all)
 variables_formed file known all (v ∷ variables) same shapes shaped none =
-    let parts = append-none (variable_faults file (meant_by known) v) (variables_faults file (meant_by known) variables) none in
+    let parts = append-is_nil (variable_faults file (meant_by known) v) (variables_faults file (meant_by known) variables) none in
     ap (list_all is_well_formed_variable) (flat_variables-append all (v ∷ []) variables)
     ∙ list_all-append is_well_formed_variable (flat_variables all (v ∷ [])) (flat_variables all variables)
-    ∙ and_both
+    ∙ and_from
     (list_all is_well_formed_variable (flat_variables all (v ∷ [])))
     (list_all is_well_formed_variable (flat_variables all variables))
-    (variable_formed file known all v same shapes (and_first (is_shaped v) (list_all is_shaped variables) shaped) parts.0)
+    (variable_formed file known all v same shapes (and_parts (is_shaped v) (list_all is_shaped variables) shaped).0 parts.0)
     (variables_formed
     file
     known
@@ -160,7 +156,7 @@ variables_formed file known all (v ∷ variables) same shapes shaped none =
     variables
     same
     shapes
-    (and_rest (is_shaped v) (list_all is_shaped variables) shaped)
+    (and_parts (is_shaped v) (list_all is_shaped variables) shaped).1
     parts.1)
 
 -- ---- agents and messages of a file
@@ -174,16 +170,16 @@ agent_formed : (file : List ℕ) (known all : List DataType) (agent : WideAgent)
 agent_formed file known all agent same shapes h none =
     let memory = list_all is_well_formed_wide_variable agent.memory in
     let functions = list_all is_well_formed_function agent.functions in
-    let rest = and_rest (is_name agent.name) (memory && functions) h in
-    and_both
+    let rest = (and_parts (is_name agent.name) (memory && functions) h).1 in
+    and_from
     (is_name agent.name)
     (list_all is_well_formed_variable (flat_variables all agent.memory) && functions)
-    (and_first (is_name agent.name) (memory && functions) h)
-    (and_both
+    (and_parts (is_name agent.name) (memory && functions) h).0
+    (and_from
     (list_all is_well_formed_variable (flat_variables all agent.memory))
     functions
-    (variables_formed file known all agent.memory same shapes (variables_shaped agent.memory (and_first memory functions rest)) none)
-    (and_rest memory functions rest))
+    (variables_formed file known all agent.memory same shapes (variables_shaped agent.memory (and_parts memory functions rest).0) none)
+    (and_parts memory functions rest).1)
 
 agents_formed : (file : List ℕ) (known all : List DataType) (agents : List WideAgent)
     → Same known all
@@ -193,8 +189,8 @@ agents_formed : (file : List ℕ) (known all : List DataType) (agents : List Wid
     → list_all (λ agent. is_well_formed_agent (flat_agent all agent)) agents ≡ true
 agents_formed file known all [] same shapes h none = refl
 agents_formed file known all (a ∷ agents) same shapes h none =
-    let parts = append-none (variables_faults file (meant_by known) a.memory) (agents_faults file (meant_by known) agents) none in
-    and_both
+    let parts = append-is_nil (variables_faults file (meant_by known) a.memory) (agents_faults file (meant_by known) agents) none in
+    and_from
     (is_well_formed_agent (flat_agent all a))
     (list_all (λ agent. is_well_formed_agent (flat_agent all agent)) agents)
     (agent_formed
@@ -204,7 +200,7 @@ agents_formed file known all (a ∷ agents) same shapes h none =
     a
     same
     shapes
-    (and_first (is_well_formed_wide_agent a) (list_all is_well_formed_wide_agent agents) h)
+    (and_parts (is_well_formed_wide_agent a) (list_all is_well_formed_wide_agent agents) h).0
     parts.0)
     (agents_formed
     file
@@ -213,7 +209,7 @@ agents_formed file known all (a ∷ agents) same shapes h none =
     agents
     same
     shapes
-    (and_rest (is_well_formed_wide_agent a) (list_all is_well_formed_wide_agent agents) h)
+    (and_parts (is_well_formed_wide_agent a) (list_all is_well_formed_wide_agent agents) h).1
     parts.1)
 
 message_formed : (file : List ℕ) (known all : List DataType) (message : WideMessage)
@@ -224,10 +220,10 @@ message_formed : (file : List ℕ) (known all : List DataType) (message : WideMe
     → is_well_formed_message (flat_message all message) ≡ true
 message_formed file known all message same shapes h none =
     let variables = list_all is_well_formed_wide_variable message.variables in
-    and_both
+    and_from
     (is_name message.name)
     (list_all is_well_formed_variable (flat_variables all message.variables))
-    (and_first (is_name message.name) variables h)
+    (and_parts (is_name message.name) variables h).0
     (variables_formed
     file
     known
@@ -235,7 +231,7 @@ message_formed file known all message same shapes h none =
     message.variables
     same
     shapes
-    (variables_shaped message.variables (and_rest (is_name message.name) variables h))
+    (variables_shaped message.variables (and_parts (is_name message.name) variables h).1)
     none)
 
 message_cases : (b : Bool) (all : List DataType) (message : WideMessage) (rest : List WideMessage)
@@ -244,7 +240,7 @@ message_cases : (b : Bool) (all : List DataType) (message : WideMessage) (rest :
     → list_all (λ message. is_well_formed_message (flat_message all message)) (cond (not b) (message ∷ rest) rest) ≡ true
 message_cases true all message rest h e = e
 message_cases false all message rest h e =
-    and_both
+    and_from
     (is_well_formed_message (flat_message all message))
     (list_all (λ message. is_well_formed_message (flat_message all message)) rest)
     (h refl)
@@ -263,11 +259,11 @@ messages_formed : (file : List ℕ) (given : Given) (known all : List DataType) 
 messages_formed file given known all kept [] names same shapes h none = refl
 messages_formed file given known all kept (m ∷ messages) names same shapes h none =
     let parts =
-    append-none
+    append-is_nil
     (message_faults file given (meant_by known) m)
     (messages_faults file given (meant_by known) messages)
     none in
-    let behind = append-none (nest_where (given.differs (of_message m)) Differs file m.name) _ parts.0 in
+    let behind = append-is_nil (nest_where (given.differs (of_message m)) Differs file m.name) _ parts.0 in
     message_cases
     (is_among m.name (map (λ message. message.name) kept))
     all
@@ -281,7 +277,7 @@ messages_formed file given known all kept (m ∷ messages) names same shapes h n
     m
     same
     shapes
-    (and_first (is_well_formed_wide_message m) (list_all is_well_formed_wide_message messages) h)
+    (and_parts (is_well_formed_wide_message m) (list_all is_well_formed_wide_message messages) h).0
     (ap (λ b. cond b [] (variables_faults file (meant_by known) m.variables)) (sym new ∙ names m.name) ∙ behind.1))
     (messages_formed
     file
@@ -293,7 +289,7 @@ messages_formed file given known all kept (m ∷ messages) names same shapes h n
     names
     same
     shapes
-    (and_rest (is_well_formed_wide_message m) (list_all is_well_formed_wide_message messages) h)
+    (and_parts (is_well_formed_wide_message m) (list_all is_well_formed_wide_message messages) h).1
     parts.1)
 
 -- ---- data types of a file
@@ -301,8 +297,8 @@ messages_formed file given known all kept (m ∷ messages) names same shapes h n
 type_named : (file : List ℕ) (given : Given) (here : List (List ℕ)) (known : List DataType) (type : DataType)
     → type_faults file given here (meant_by known) type ≡ [] → not (is_int type.name) ≡ true
 type_named file given here known type h =
-    let behind = append-none (nest_where (given.differs (of_type type)) Differs file type.name) _ h in
-    let twice = append-none (nest_where (is_int type.name || is_among type.name here) TwiceType file type.name) _ behind.1 in
+    let behind = append-is_nil (nest_where (given.differs (of_type type)) Differs file type.name) _ h in
+    let twice = append-is_nil (nest_where (is_int type.name || is_among type.name here) TwiceType file type.name) _ behind.1 in
     ap
     not
     (or_first
@@ -316,8 +312,8 @@ each_named : (f : ℕ → DataType → List NestFault) (i : ℕ) (types : List D
     → are_named types ≡ true
 each_named f i [] named h = refl
 each_named f i (type ∷ types) named h =
-    let parts = append-none (f i type) (each_from f (i + 1) types) h in
-    and_both
+    let parts = append-is_nil (f i type) (each_from f (i + 1) types) h in
+    and_from
     (not (is_int type.name))
     (are_named types)
     (named i type parts.0)
@@ -361,7 +357,7 @@ pub walked_from : (files : List (List ℕ)) (all : List Wide) (i : ℕ) (earlier
 walked_from files all i earlier [] n e h = tt
 walked_from files all i earlier (wide ∷ rest) n e h =
     let name = unwrap_or (slice_get files i) [] in
-    let parts = append-none (file_faults name (take i all) wide) _ h in
+    let parts = append-is_nil (file_faults name (take i all) wide) _ h in
     let taken : take i all ≡ earlier =
     ap (take i) e ∙ ap (λ k. take k (earlier ++ wide ∷ rest)) n ∙ take-append_seam earlier (wide ∷ rest) in (
       (name, ap (λ l. file_faults name l wide) (sym taken) ∙ parts.0),
@@ -382,8 +378,8 @@ walked_named earlier [] walked = refl
 walked_named earlier (wide ∷ rest) walked =
     let file = walked.0.0 in
     let given = given_by (types_given earlier) in
-    let parts = append-none (types_faults file given (joined_types earlier) wide.types) _ walked.0.1 in
-    and_both
+    let parts = append-is_nil (types_faults file given (joined_types earlier) wide.types) _ walked.0.1 in
+    and_from
     (are_named wide.types)
     (list_all (λ wide. are_named wide.types) rest)
     (types_named file given (joined_types earlier) wide.types parts.0)
@@ -412,18 +408,18 @@ walked_all : (all : List DataType) (earlier rest : List Wide)
 walked_all all earlier [] walked e shapes h kept = (refl, kept)
 walked_all all earlier (wide ∷ rest) walked e shapes h kept =
     let file = walked.0.0 in
-    let now = formed wide (and_first (is_well_formed_wide wide) (list_all is_well_formed_wide rest) h) in
+    let now = formed wide (and_parts (is_well_formed_wide wide) (list_all is_well_formed_wide rest) h).0 in
     let known = joined_types (earlier ++ wide ∷ []) in
     let given = given_by (messages_given earlier) in
     let pushed = joined_once-push (λ type. type.name) (λ wide. wide.types) earlier wide in
     let joined = joined_once-push (λ message. message.name) (λ wide. wide.messages) earlier wide in
     let parts =
-    append-none
+    append-is_nil
     (types_faults file (given_by (types_given earlier)) (joined_types earlier) wide.types)
     (messages_faults file given (meant_by known) wide.messages ++ agents_faults file (meant_by known) wide.agents)
     walked.0.1 in
     let others =
-    append-none
+    append-is_nil
     (messages_faults file given (meant_by known) wide.messages)
     (agents_faults file (meant_by known) wide.agents)
     parts.1 in
@@ -470,9 +466,9 @@ walked_all all earlier (wide ∷ rest) walked e shapes h kept =
     walked.1
     behind
     fields
-    (and_rest (is_well_formed_wide wide) (list_all is_well_formed_wide rest) h)
+    (and_parts (is_well_formed_wide wide) (list_all is_well_formed_wide rest) h).1
     messages in (
-      and_both
+      and_from
           (are_agents all wide.agents)
           (list_all (λ wide. are_agents all wide.agents) rest)
           (agents_formed file known all wide.agents same fields now.agents others.1)
@@ -520,4 +516,4 @@ model_formed files wides h none =
     (λ wide. wide.agents)
     wides
     both.0 in
-    and_both _ _ constants (and_both _ _ names (and_both _ _ units (and_both _ _ messages agents)))
+    and_from _ _ constants (and_from _ _ names (and_from _ _ units (and_from _ _ messages agents)))

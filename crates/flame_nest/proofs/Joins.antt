@@ -1,4 +1,5 @@
 -- Lists of all files, and of data types that come one after another.
+use mathlib.Core.Bool.{or_assoc, or-false}
 use Rattle.std.proofs.Common.{◌≡◌, ℕ, ◌+◌, ◌<◌, List, [], ◌∷◌, ◌++◌, length, take, get_or, map, refl, sym, ap, ◌∙◌, Bool, true, false, cond, true≢false, not, append_assoc}
 use Rattle.std.specs.Prelude.{◌||◌}
 use Rattle.std.specs.List.{filter, flat_map, fold}
@@ -8,6 +9,7 @@ use Rattle.std.proofs.lemmas.List.{map-append, append-nil, take_more}
 use Rattle.std.proofs.lemmas.List.Elements.{filter-append}
 use Rattle.std.proofs.lemmas.List.Folds.{list_any-append}
 use Rattle.std.proofs.lemmas.List.Sums.{fold-append}
+use Rattle.std.proofs.lemmas.Bool.{or_parts}
 use Rattle.flame_spec.specs.declared.wide.Wide.{Wide}
 use Rattle.flame_spec.specs.KnownNames.{is_among}
 use Rattle.flame_nest.specs.FlatModels.{new_behind, with_new, joined_once}
@@ -16,24 +18,8 @@ pub or_first : (b c : Bool) → (b || c) ≡ false → b ≡ false
 or_first true c h = h
 or_first false c h = refl
 
-pub or_second : (b c : Bool) → (b || c) ≡ false → c ≡ false
-or_second true c h = absurd (true≢false h)
-or_second false c h = h
-
 pub or_none : (b c : Bool) → b ≡ false → c ≡ false → (b || c) ≡ false
 or_none b c p q = ap (λ b. b || c) p ∙ q
-
-pub is_among-append : (name : List ℕ) (xs ys : List (List ℕ))
-    → is_among name (xs ++ ys) ≡ (is_among name xs || is_among name ys)
-is_among-append name xs ys = list_any-append (bytes_eq name) xs ys
-
-pub or_nil : (b : Bool) → b ≡ (b || false)
-or_nil true = refl
-or_nil false = refl
-
-or_assoc : (a b c : Bool) → ((a || b) || c) ≡ (a || (b || c))
-or_assoc true b c = refl
-or_assoc false b c = refl
 
 module _ {X : Type 0} (name_of : X → List ℕ) where
   filter_step : (name : List ℕ) (b : Bool) (x : X) (rest : List X)
@@ -54,7 +40,7 @@ module _ {X : Type 0} (name_of : X → List ℕ) where
       x
       (filter p xs)
       (or_first (bytes_eq name (name_of x)) (is_among name (map name_of xs)) h)
-      (among-filter p name xs (or_second (bytes_eq name (name_of x)) (is_among name (map name_of xs)) h))
+      (among-filter p name xs (or_parts (bytes_eq name (name_of x)) (is_among name (map name_of xs)) h).1)
 
   -- a name that is neither given nor one of the members is none of both
   pub with_new-none : (name : List ℕ) (earlier xs : List X)
@@ -63,7 +49,7 @@ module _ {X : Type 0} (name_of : X → List ℕ) where
       → is_among name (map name_of (with_new name_of earlier xs)) ≡ false
   with_new-none name earlier xs p q =
       ap (is_among name) (map-append name_of earlier (new_behind name_of earlier xs))
-      ∙ is_among-append name (map name_of earlier) (map name_of (new_behind name_of earlier xs))
+      ∙ (list_any-append (bytes_eq name) (map name_of earlier) (map name_of (new_behind name_of earlier xs)))
       ∙ or_none
       (is_among name (map name_of earlier))
       (is_among name (map name_of (new_behind name_of earlier xs)))
@@ -129,7 +115,7 @@ module _ {X : Type 0} (name_of : X → List ℕ) where
       ≡ (is_among name (map name_of earlier) || is_among name (map name_of xs))
   among-with_new name earlier xs =
       ap (is_among name) (map-append name_of earlier (new_behind name_of earlier xs))
-      ∙ is_among-append name (map name_of earlier) (map name_of (new_behind name_of earlier xs))
+      ∙ (list_any-append (bytes_eq name) (map name_of earlier) (map name_of (new_behind name_of earlier xs)))
       ∙ gathered name earlier xs
 
   -- joining the lists of one file more
@@ -142,7 +128,7 @@ module _ {X : Type 0} (name_of : X → List ℕ) where
   joined_names : (list_of : Wide → List X) (name : List ℕ) (earlier : List X) (wides : List Wide)
       → is_among name (map name_of (fold (λ joined wide. with_new name_of joined (list_of wide)) earlier wides))
       ≡ (is_among name (map name_of earlier) || is_among name (flat_map (λ wide. map name_of (list_of wide)) wides))
-  joined_names list_of name earlier [] = or_nil (is_among name (map name_of earlier))
+  joined_names list_of name earlier [] = (sym (or-false (is_among name (map name_of earlier))))
   joined_names list_of name earlier (wide ∷ wides) =
       joined_names list_of name (with_new name_of earlier (list_of wide)) wides
       ∙ ap
@@ -155,10 +141,7 @@ module _ {X : Type 0} (name_of : X → List ℕ) where
       ∙ ap
       (λ b. is_among name (map name_of earlier) || b)
       (sym
-      (is_among-append
-      name
-      (map name_of (list_of wide))
-      (flat_map (λ wide. map name_of (list_of wide)) wides)))
+      (list_any-append (bytes_eq name) (map name_of (list_of wide)) (flat_map (λ wide. map name_of (list_of wide)) wides)))
 
   -- the names of joined lists are those that the files give
   pub among-joined : (list_of : Wide → List X) (name : List ℕ) (wides : List Wide)

@@ -4,14 +4,14 @@ use Rattle.std.specs.Prelude.{◌||◌}
 use Rattle.std.specs.List.{flat_map, fold, list_all}
 use Rattle.std.specs.Str.{bytes_eq}
 use Rattle.std.proofs.lemmas.Slice.Eq.{bytes_eq-Decides}
+use Rattle.std.proofs.lemmas.Bool.{and_parts, or_parts, not-true}
 use Rattle.flame_spec.specs.declared.wide.Wide.{Wide}
 use Rattle.flame_spec.specs.declared.wide.WideVariable.{WideVariable}
 use Rattle.flame_spec.specs.declared.wide.DataType.{DataType}
 use Rattle.flame_spec.specs.KnownNames.{is_among}
 use Rattle.flame_nest.specs.FlatModels.{inside, replaced, spread, single, flat_variables, new_behind, with_new}
 use Rattle.flame_nest.specs.NestFaults.{type_names, is_int}
-use Rattle.flame_nest.proofs.Looks.{and_first, and_rest, not_true}
-use Rattle.flame_nest.proofs.Joins.{or_first, or_second, or_none, among-with_new}
+use Rattle.flame_nest.proofs.Joins.{or_first, or_none, among-with_new}
 
 spread_split : (types later : List DataType) (variables : List WideVariable)
     → spread (types ++ later) variables ≡ spread types (spread later variables)
@@ -25,7 +25,7 @@ spread_own [] v h = refl
 spread_own (type ∷ later) v h =
     ap
     (flat_map (replaced type))
-    (spread_own later v (or_second (bytes_eq v.kind type.name) (is_among v.kind (type_names later)) h))
+    (spread_own later v (or_parts (bytes_eq v.kind type.name) (is_among v.kind (type_names later)) h).1)
     ∙ ap
     (λ b. cond b (map (inside v) type.variables) (v ∷ []) ++ [])
     (or_first (bytes_eq v.kind type.name) (is_among v.kind (type_names later)) h)
@@ -73,8 +73,8 @@ not_new known (type ∷ types) name h e =
     refl
     refl
     h
-    (not_true (is_int type.name) (and_first (not (is_int type.name)) (are_named types) e))
-    (not_new known types name h (and_rest (not (is_int type.name)) (are_named types) e))
+    (not-true (is_int type.name) (and_parts (not (is_int type.name)) (are_named types) e).0)
+    (not_new known types name h (and_parts (not (is_int type.name)) (are_named types) e).1)
 
 flat_same : (known types : List DataType) (v : WideVariable)
     → is_known known v.kind ≡ true
@@ -113,5 +113,5 @@ later_same known (wide ∷ rest) v h e =
     rest
     v
     (known_more known wide.types v.kind h)
-    (and_rest (are_named wide.types) (list_all (λ wide. are_named wide.types) rest) e)
-    ∙ flat_same known wide.types v h (and_first (are_named wide.types) (list_all (λ wide. are_named wide.types) rest) e)
+    (and_parts (are_named wide.types) (list_all (λ wide. are_named wide.types) rest) e).1
+    ∙ flat_same known wide.types v h (and_parts (are_named wide.types) (list_all (λ wide. are_named wide.types) rest) e).0

@@ -1,4 +1,5 @@
 -- Widths and longest names of flat fields.
+use mathlib.Core.Bool.{or_assoc}
 use Rattle.std.proofs.Common.{◌≡◌, ℕ, ◌+◌, ◌<◌, ◌≤◌, List, [], ◌∷◌, ◌++◌, length, map, codes, refl, sym, ap, ◌∙◌, Bool, true, false, arith, nat_lt, length-append}
 use Rattle.std.specs.Prelude.{◌&&◌, ◌||◌, max, min}
 use Rattle.std.specs.List.{fold}
@@ -21,10 +22,6 @@ is_far bytes most = nat_lt 0 most && nat_lt 100 (bytes + most)
 
 far_max : (bytes a b : ℕ) → is_far bytes (max a (b + 1)) ≡ (is_far bytes a || nat_lt 100 (bytes + (b + 1)))
 far_max bytes a b = grind arith
-
-or_assoc : (a b c : Bool) → ((a || b) || c) ≡ (a || (b || c))
-or_assoc true b c = refl
-or_assoc false b c = refl
 
 abbrev further : ℕ → Variable → ℕ
 further most variable = max most (length variable.name + 1)
@@ -55,10 +52,6 @@ far_true bytes most h = grind arith
 
 pub far_false : (bytes most : ℕ) → most ≤ 0 → is_far bytes most ≡ nat_lt 0 most
 far_false bytes most h = grind arith
-
-pub or_false : (b : Bool) → (b || false) ≡ b
-or_false true = refl
-or_false false = refl
 
 pub capped-more : (w more : ℕ) → min (min w 4097 + more) 4097 ≡ min (w + more) 4097
 capped-more w more = omega arith

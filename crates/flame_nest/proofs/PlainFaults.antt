@@ -2,6 +2,8 @@
 use Rattle.std.proofs.Common.{◌≡◌, ℕ, List, [], ◌∷◌, length, refl, sym, ap, ◌∙◌, Bool, true, false, true≢false, not, arith, nat_lt}
 use Rattle.std.specs.Prelude.{◌&&◌, ◌||◌, IsTrue, nat_le, slice_index}
 use Rattle.std.specs.List.{list_all}
+use Rattle.std.proofs.lemmas.Bool.{and_parts}
+use Rattle.flame_rows.proofs.Lists.{append-nils}
 use Rattle.flame_spec.specs.declared.wide.Wide.{Wide}
 use Rattle.flame_spec.specs.declared.wide.WideVariable.{WideVariable}
 use Rattle.flame_spec.specs.declared.wide.WideMessage.{WideMessage}
@@ -14,8 +16,7 @@ use Rattle.flame_nest.specs.declared.faults.NestKind.TheVariants.{UnknownType, L
 use Rattle.flame_nest.specs.FlatModels.{new_behind}
 use Rattle.flame_nest.specs.NestFaults.{is_int, nest_faults, variable_faults, variables_faults, messages_faults, agents_faults, types_faults, meant_by, given_by}
 use Rattle.flame_nest.specs.FlatLaws.{are_int, IsPlain}
-use Rattle.flame_nest.proofs.Looks.{and_first, and_rest}
-use Rattle.flame_nest.proofs.Firsts.{where-false, none-append}
+use Rattle.flame_nest.proofs.Firsts.{where-false}
 
 second_of : (a b c d : Bool) → (a && b && c && d) ≡ true → b ≡ true
 second_of true true c d h = refl
@@ -42,7 +43,7 @@ variable_none : (file : List ℕ) (v : WideVariable)
     → is_well_formed_wide_variable v ≡ true
     → variable_faults file (meant_by []) v ≡ []
 variable_none file v int formed =
-    none-append
+    append-nils
     _
     _
     (where-false (not (is_int v.kind || false)) UnknownType file v.name (ap (λ b. not (b || false)) int))
@@ -51,7 +52,7 @@ variable_none file v int formed =
     LongName
     file
     v.name
-    (ap (λ b. b || false) (short v.name (and_first (is_name v.name) _ formed))))
+    (ap (λ b. b || false) (short v.name (and_parts (is_name v.name) _ formed).0)))
 
 variables_none : (file : List ℕ) (variables : List WideVariable)
     → are_int variables ≡ true
@@ -59,19 +60,19 @@ variables_none : (file : List ℕ) (variables : List WideVariable)
     → variables_faults file (meant_by []) variables ≡ []
 variables_none file [] int formed = refl
 variables_none file (v ∷ variables) int formed =
-    none-append
+    append-nils
     (variable_faults file (meant_by []) v)
     (variables_faults file (meant_by []) variables)
     (variable_none
     file
     v
-    (and_first (is_int v.kind) (are_int variables) int)
-    (and_first (is_well_formed_wide_variable v) (list_all is_well_formed_wide_variable variables) formed))
+    (and_parts (is_int v.kind) (are_int variables) int).0
+    (and_parts (is_well_formed_wide_variable v) (list_all is_well_formed_wide_variable variables) formed).0)
     (variables_none
     file
     variables
-    (and_rest (is_int v.kind) (are_int variables) int)
-    (and_rest (is_well_formed_wide_variable v) (list_all is_well_formed_wide_variable variables) formed))
+    (and_parts (is_int v.kind) (are_int variables) int).1
+    (and_parts (is_well_formed_wide_variable v) (list_all is_well_formed_wide_variable variables) formed).1)
 
 messages_none : (file : List ℕ) (messages : List WideMessage)
     → list_all (λ message. are_int message.variables) messages ≡ true
@@ -79,22 +80,19 @@ messages_none : (file : List ℕ) (messages : List WideMessage)
     → messages_faults file (given_by []) (meant_by []) messages ≡ []
 messages_none file [] int formed = refl
 messages_none file (m ∷ messages) int formed =
-    none-append
+    append-nils
     (variables_faults file (meant_by []) m.variables)
     (messages_faults file (given_by []) (meant_by []) messages)
     (variables_none
     file
     m.variables
-    (and_first (are_int m.variables) (list_all (λ message. are_int message.variables) messages) int)
-    (and_rest
-    (is_name m.name)
-    (list_all is_well_formed_wide_variable m.variables)
-    (and_first (is_well_formed_wide_message m) (list_all is_well_formed_wide_message messages) formed)))
+    (and_parts (are_int m.variables) (list_all (λ message. are_int message.variables) messages) int).0
+    (and_parts (is_name m.name) (list_all is_well_formed_wide_variable m.variables) (and_parts (is_well_formed_wide_message m) (list_all is_well_formed_wide_message messages) formed).0).1)
     (messages_none
     file
     messages
-    (and_rest (are_int m.variables) (list_all (λ message. are_int message.variables) messages) int)
-    (and_rest (is_well_formed_wide_message m) (list_all is_well_formed_wide_message messages) formed))
+    (and_parts (are_int m.variables) (list_all (λ message. are_int message.variables) messages) int).1
+    (and_parts (is_well_formed_wide_message m) (list_all is_well_formed_wide_message messages) formed).1)
 
 agents_none : (file : List ℕ) (agents : List WideAgent)
     → list_all (λ agent. are_int agent.memory) agents ≡ true
@@ -102,25 +100,19 @@ agents_none : (file : List ℕ) (agents : List WideAgent)
     → agents_faults file (meant_by []) agents ≡ []
 agents_none file [] int formed = refl
 agents_none file (a ∷ agents) int formed =
-    none-append
+    append-nils
     (variables_faults file (meant_by []) a.memory)
     (agents_faults file (meant_by []) agents)
     (variables_none
     file
     a.memory
-    (and_first (are_int a.memory) (list_all (λ agent. are_int agent.memory) agents) int)
-    (and_first
-    (list_all is_well_formed_wide_variable a.memory)
-    _
-    (and_rest
-    (is_name a.name)
-    _
-    (and_first (is_well_formed_wide_agent a) (list_all is_well_formed_wide_agent agents) formed))))
+    (and_parts (are_int a.memory) (list_all (λ agent. are_int agent.memory) agents) int).0
+    (and_parts (list_all is_well_formed_wide_variable a.memory) _ (and_parts (is_name a.name) _ (and_parts (is_well_formed_wide_agent a) (list_all is_well_formed_wide_agent agents) formed).0).1).0)
     (agents_none
     file
     agents
-    (and_rest (are_int a.memory) (list_all (λ agent. are_int agent.memory) agents) int)
-    (and_rest (is_well_formed_wide_agent a) (list_all is_well_formed_wide_agent agents) formed))
+    (and_parts (are_int a.memory) (list_all (λ agent. are_int agent.memory) agents) int).1
+    (and_parts (is_well_formed_wide_agent a) (list_all is_well_formed_wide_agent agents) formed).1)
 
 pub plain_none : (file : List ℕ) (wide : Wide)
     → IsPlain wide → IsTrue (is_well_formed_wide wide) → nest_faults (file ∷ []) (wide ∷ []) ≡ []
@@ -132,28 +124,19 @@ plain_none file wide plain formed =
     let units = list_all is_well_formed_unit wide.units && types in
     let files = list_all is_filled wide.files && units in
     let behind =
-    and_rest
-    (list_all is_well_formed_type wide.types)
-    messages
-    (and_rest
-    (list_all is_well_formed_unit wide.units)
-    types
-    (and_rest (list_all is_filled wide.files) units (and_rest (list_all is_name wide.constants) files formed))) in
-    none-append
+    (and_parts (list_all is_well_formed_type wide.types) messages (and_parts (list_all is_well_formed_unit wide.units) types (and_parts (list_all is_filled wide.files) units (and_parts (list_all is_name wide.constants) files formed).1).1).1).1 in
+    append-nils
     _
     []
-    (none-append
+    (append-nils
     (types_faults file (given_by []) [] wide.types)
     _
     (ap (types_faults file (given_by []) []) plain.types)
-    (none-append
+    (append-nils
     (messages_faults file (given_by []) (meant_by (new_behind (λ type. type.name) [] wide.types)) wide.messages)
     (agents_faults file (meant_by (new_behind (λ type. type.name) [] wide.types)) wide.agents)
     (ap (λ types. messages_faults file (given_by []) (meant_by types) wide.messages) none
-    ∙ messages_none file wide.messages plain.messages (and_first (list_all is_well_formed_wide_message wide.messages) agents behind))
+    ∙ messages_none file wide.messages plain.messages (and_parts (list_all is_well_formed_wide_message wide.messages) agents behind).0)
     (ap (λ types. agents_faults file (meant_by types) wide.agents) none
-    ∙ agents_none file wide.agents plain.agents (and_first
-    (list_all is_well_formed_wide_agent wide.agents)
-    (list_all is_filled wide.nested)
-    (and_rest (list_all is_well_formed_wide_message wide.messages) agents behind)))))
+    ∙ agents_none file wide.agents plain.agents (and_parts (list_all is_well_formed_wide_agent wide.agents) (list_all is_filled wide.nested) (and_parts (list_all is_well_formed_wide_message wide.messages) agents behind).1).0)))
     refl

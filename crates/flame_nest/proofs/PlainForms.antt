@@ -4,6 +4,7 @@ use Rattle.std.specs.Prelude.{◌&&◌}
 use Rattle.std.specs.List.{filter, list_all}
 use Rattle.std.proofs.lemmas.Slice.Eq.{bytes_eq-Decides}
 use Rattle.std.proofs.lemmas.List.{append-nil}
+use Rattle.std.proofs.lemmas.Bool.{and_parts}
 use Rattle.flame_spec.specs.declared.models.Model.{Model}
 use Rattle.flame_spec.specs.declared.models.Variable.{Variable}
 use Rattle.flame_spec.specs.declared.models.MessageType.{MessageType}
@@ -15,7 +16,6 @@ use Rattle.flame_spec.specs.declared.wide.WideAgent.{WideAgent}
 use Rattle.flame_nest.specs.FlatModels.{single, flat, flat_message, flat_agent, new_behind}
 use Rattle.flame_nest.specs.NestFaults.{is_int}
 use Rattle.flame_nest.specs.FlatLaws.{int_variable, int_message, int_agent, as_file, are_int, IsPlain}
-use Rattle.flame_nest.proofs.Looks.{and_first, and_rest}
 
 -- ---- models
 
@@ -76,8 +76,8 @@ again : (variables : List WideVariable)
     → are_int variables ≡ true → map int_variable (map single variables) ≡ variables
 again [] h = refl
 again (v ∷ variables) h =
-    let kind = (bytes_eq-Decides v.kind (codes "int")).0 (and_first (is_int v.kind) (are_int variables) h) in
-    let rest = again variables (and_rest (is_int v.kind) (are_int variables) h) in
+    let kind = (bytes_eq-Decides v.kind (codes "int")).0 (and_parts (is_int v.kind) (are_int variables) h).0 in
+    let rest = again variables (and_parts (is_int v.kind) (are_int variables) h).1 in
     λ i. record { name = v.name; kind = sym kind i; length = v.length } ∷ rest i
 
 again_messages : (messages : List WideMessage)
@@ -86,8 +86,8 @@ again_messages : (messages : List WideMessage)
 again_messages [] h = refl
 again_messages (m ∷ messages) h =
     let all = list_all (λ message. are_int message.variables) messages in
-    let first = again m.variables (and_first (are_int m.variables) all h) in
-    let rest = again_messages messages (and_rest (are_int m.variables) all h) in
+    let first = again m.variables (and_parts (are_int m.variables) all h).0 in
+    let rest = again_messages messages (and_parts (are_int m.variables) all h).1 in
     λ i. record { name = m.name; variables = first i } ∷ rest i
 
 again_agents : (agents : List WideAgent)
@@ -96,8 +96,8 @@ again_agents : (agents : List WideAgent)
 again_agents [] h = refl
 again_agents (a ∷ agents) h =
     let all = list_all (λ agent. are_int agent.memory) agents in
-    let first = again a.memory (and_first (are_int a.memory) all h) in
-    let rest = again_agents agents (and_rest (are_int a.memory) all h) in
+    let first = again a.memory (and_parts (are_int a.memory) all h).0 in
+    let rest = again_agents agents (and_parts (are_int a.memory) all h).1 in
     λ i. record { name = a.name; memory = first i; functions = a.functions } ∷ rest i
 
 pub plain_flat : (wide : Wide) → IsPlain wide → as_file (flat (wide ∷ [])) ≡ wide

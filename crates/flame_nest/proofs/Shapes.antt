@@ -5,6 +5,7 @@ use Rattle.std.specs.List.{flat_map, list_all}
 use Rattle.std.specs.Option.{option_map_or}
 use Rattle.std.specs.Str.{bytes_eq}
 use Rattle.std.proofs.lemmas.List.Folds.{list_all-append, list_all-map}
+use Rattle.std.proofs.lemmas.Bool.{and_parts, and_from, or_parts}
 use Rattle.flame_ops.specs.Ascii.{begins_word, is_word_byte}
 use Rattle.flame_spec.specs.declared.wide.WideVariable.{WideVariable}
 use Rattle.flame_spec.specs.declared.wide.DataType.{DataType}
@@ -13,11 +14,7 @@ use Rattle.flame_spec.specs.WellFormed.{is_array_length, is_well_formed_variable
 use Rattle.flame_spec.specs.WideModels.{is_well_formed_type, is_well_formed_wide_variable}
 use Rattle.flame_nest.specs.FlatModels.{inside, replaced, spread, single, flat_variables}
 use Rattle.flame_nest.specs.NestFaults.{has_long}
-use Rattle.flame_nest.proofs.Looks.{and_first, and_rest}
-use Rattle.flame_nest.proofs.Joins.{or_first, or_second}
-
-pub and_both : (b c : Bool) → b ≡ true → c ≡ true → (b && c) ≡ true
-and_both b c p q = ap (λ b. b && c) p ∙ q
+use Rattle.flame_nest.proofs.Joins.{or_first}
 
 -- what passes in all lists passes in their joined list
 pub list_all-flat_map : {X Y : Type 0} (p : Y → Bool) (f : X → List Y) (xs : List X)
@@ -25,22 +22,22 @@ pub list_all-flat_map : {X Y : Type 0} (p : Y → Bool) (f : X → List Y) (xs :
 list_all-flat_map p f [] h = refl
 list_all-flat_map p f (x ∷ xs) h =
     list_all-append p (f x) (flat_map f xs)
-    ∙ and_both
+    ∙ and_from
     (list_all p (f x))
     (list_all p (flat_map f xs))
-    (and_first (list_all p (f x)) (list_all (λ x. list_all p (f x)) xs) h)
-    (list_all-flat_map p f xs (and_rest (list_all p (f x)) (list_all (λ x. list_all p (f x)) xs) h))
+    (and_parts (list_all p (f x)) (list_all (λ x. list_all p (f x)) xs) h).0
+    (list_all-flat_map p f xs (and_parts (list_all p (f x)) (list_all (λ x. list_all p (f x)) xs) h).1)
 
 -- what passes one test passes another that follows from it
 pub list_all-weaker : {X : Type 0} (p q : X → Bool) → ((x : X) → p x ≡ true → q x ≡ true) → (xs : List X)
     → list_all p xs ≡ true → list_all q xs ≡ true
 list_all-weaker p q weaker [] h = refl
 list_all-weaker p q weaker (x ∷ xs) h =
-    and_both
+    and_from
     (q x)
     (list_all q xs)
-    (weaker x (and_first (p x) (list_all p xs) h))
-    (list_all-weaker p q weaker xs (and_rest (p x) (list_all p xs) h))
+    (weaker x (and_parts (p x) (list_all p xs) h).0)
+    (list_all-weaker p q weaker xs (and_parts (p x) (list_all p xs) h).1)
 
 -- a name, however long
 abbrev pub is_word : List ℕ → Bool
@@ -89,36 +86,33 @@ filled b name = grind arith
 word_inside : (name field : List ℕ) → is_word name ≡ true → is_word field ≡ true → is_word (name ++ (codes "_" ++ field)) ≡ true
 word_inside [] field h e = absurd (true≢false (sym h))
 word_inside (b ∷ name) field h e =
-    let rest = and_rest (is_filled (b ∷ name)) (begins_word b && list_all is_word_byte (b ∷ name)) h in
-    and_both
+    let rest = (and_parts (is_filled (b ∷ name)) (begins_word b && list_all is_word_byte (b ∷ name)) h).1 in
+    and_from
     (is_filled (b ∷ (name ++ (codes "_" ++ field))))
     (begins_word b && list_all is_word_byte (b ∷ (name ++ (codes "_" ++ field))))
     (filled b (name ++ (codes "_" ++ field)))
-    (and_both
+    (and_from
     (begins_word b)
     (list_all is_word_byte (b ∷ (name ++ (codes "_" ++ field))))
-    (and_first (begins_word b) (list_all is_word_byte (b ∷ name)) rest)
+    (and_parts (begins_word b) (list_all is_word_byte (b ∷ name)) rest).0
     (list_all-append is_word_byte (b ∷ name) (codes "_" ++ field)
-    ∙ and_both
+    ∙ and_from
     (list_all is_word_byte (b ∷ name))
     (list_all is_word_byte field)
-    (and_rest (begins_word b) (list_all is_word_byte (b ∷ name)) rest)
-    (and_rest
-    (begins_word (slice_index field 0))
-    (list_all is_word_byte field)
-    (and_rest (is_filled field) (begins_word (slice_index field 0) && list_all is_word_byte field) e))))
+    (and_parts (begins_word b) (list_all is_word_byte (b ∷ name)) rest).1
+    (and_parts (begins_word (slice_index field 0)) (list_all is_word_byte field) (and_parts (is_filled field) (begins_word (slice_index field 0) && list_all is_word_byte field) e).1).1))
 
 inside_shaped : (v f : WideVariable) → is_shaped v ≡ true → is_shaped f ≡ true → is_shaped (inside v f) ≡ true
 inside_shaped v f h e =
-    and_both
+    and_from
     (is_word (inside v f).name)
     (option_map_or is_array_length f.length true)
     (word_inside
     v.name
     f.name
-    (and_first (is_word v.name) (option_map_or is_array_length v.length true) h)
-    (and_first (is_word f.name) (option_map_or is_array_length f.length true) e))
-    (and_rest (is_word f.name) (option_map_or is_array_length f.length true) e)
+    (and_parts (is_word v.name) (option_map_or is_array_length v.length true) h).0
+    (and_parts (is_word f.name) (option_map_or is_array_length f.length true) e).0)
+    (and_parts (is_word f.name) (option_map_or is_array_length f.length true) e).1
 
 all_inside : (v : WideVariable) (fields : List WideVariable)
     → is_shaped v ≡ true → list_all is_shaped fields ≡ true → list_all is_shaped (map (inside v) fields) ≡ true
@@ -143,8 +137,8 @@ pub spread_shaped : (types : List DataType) (variables : List WideVariable)
     → list_all is_shaped (spread types variables) ≡ true
 spread_shaped [] variables shapes h = h
 spread_shaped (type ∷ types) variables shapes h =
-    let fields = and_first (has_shape type) (list_all has_shape types) shapes in
-    let rest = spread_shaped types variables (and_rest (has_shape type) (list_all has_shape types) shapes) h in
+    let fields = (and_parts (has_shape type) (list_all has_shape types) shapes).0 in
+    let rest = spread_shaped types variables (and_parts (has_shape type) (list_all has_shape types) shapes).1 h in
     list_all-flat_map
     is_shaped
     (replaced type)
@@ -159,11 +153,11 @@ spread_shaped (type ∷ types) variables shapes h =
 single_formed : (v : WideVariable)
     → is_shaped v ≡ true → nat_lt 100 (length v.name) ≡ false → is_well_formed_variable (single v) ≡ true
 single_formed v h e =
-    and_both
+    and_from
     (is_name v.name)
     (option_map_or is_array_length v.length true)
-    (word_name v.name (and_first (is_word v.name) (option_map_or is_array_length v.length true) h) e)
-    (and_rest (is_word v.name) (option_map_or is_array_length v.length true) h)
+    (word_name v.name (and_parts (is_word v.name) (option_map_or is_array_length v.length true) h).0 e)
+    (and_parts (is_word v.name) (option_map_or is_array_length v.length true) h).1
 
 pub all_formed : (variables : List WideVariable)
     → list_all is_shaped variables ≡ true
@@ -171,29 +165,26 @@ pub all_formed : (variables : List WideVariable)
     → list_all is_well_formed_variable (map single variables) ≡ true
 all_formed [] h e = refl
 all_formed (v ∷ variables) h e =
-    and_both
+    and_from
     (is_well_formed_variable (single v))
     (list_all is_well_formed_variable (map single variables))
     (single_formed
     v
-    (and_first (is_shaped v) (list_all is_shaped variables) h)
+    (and_parts (is_shaped v) (list_all is_shaped variables) h).0
     (or_first (nat_lt 100 (length v.name)) (has_long (map single variables)) e))
     (all_formed
     variables
-    (and_rest (is_shaped v) (list_all is_shaped variables) h)
-    (or_second (nat_lt 100 (length v.name)) (has_long (map single variables)) e))
+    (and_parts (is_shaped v) (list_all is_shaped variables) h).1
+    (or_parts (nat_lt 100 (length v.name)) (has_long (map single variables)) e).1)
 
 -- a well formed variable has the shape
 variable_shaped : (v : WideVariable) → is_well_formed_wide_variable v ≡ true → is_shaped v ≡ true
 variable_shaped v h =
-    and_both
+    and_from
     (is_word v.name)
     (option_map_or is_array_length v.length true)
-    (name_word v.name (and_first (is_name v.name) (is_name v.kind && option_map_or is_array_length v.length true) h))
-    (and_rest
-    (is_name v.kind)
-    (option_map_or is_array_length v.length true)
-    (and_rest (is_name v.name) (is_name v.kind && option_map_or is_array_length v.length true) h))
+    (name_word v.name (and_parts (is_name v.name) (is_name v.kind && option_map_or is_array_length v.length true) h).0)
+    (and_parts (is_name v.kind) (option_map_or is_array_length v.length true) (and_parts (is_name v.name) (is_name v.kind && option_map_or is_array_length v.length true) h).1).1
 
 pub variables_shaped : (variables : List WideVariable)
     → list_all is_well_formed_wide_variable variables ≡ true → list_all is_shaped variables ≡ true
@@ -203,7 +194,7 @@ type_shaped : (type : DataType) → is_well_formed_type type ≡ true → has_sh
 type_shaped type h =
     variables_shaped
     type.variables
-    (and_rest (is_name type.name) (list_all is_well_formed_wide_variable type.variables) h)
+    (and_parts (is_name type.name) (list_all is_well_formed_wide_variable type.variables) h).1
 
 pub types_shaped : (types : List DataType)
     → list_all is_well_formed_type types ≡ true → list_all has_shape types ≡ true

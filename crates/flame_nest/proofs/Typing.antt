@@ -1,29 +1,23 @@
 -- Data types of a file, one after another.
-use Rattle.std.proofs.Common.{◌≡◌, ℕ, ◌+◌, ◌<◌, List, [], ◌∷◌, ◌++◌, length, take, get_or, refl, sym, ap, ◌∙◌, false, cond}
+use Rattle.std.proofs.Common.{◌≡◌, ℕ, ◌+◌, ◌<◌, List, [], ◌∷◌, ◌++◌, length, take, get_or, sym, ap, ◌∙◌, false, cond}
 use Rattle.std.specs.Prelude.{◌||◌}
 use Rattle.std.proofs.lemmas.List.{map_push, take_more}
+use Rattle.std.proofs.lemmas.Bool.{or_parts}
+use Rattle.flame_rows.proofs.Lists.{append-is_nil}
 use Rattle.flame_spec.specs.declared.wide.DataType.{DataType}
 use Rattle.flame_spec.specs.KnownNames.{is_among}
 use Rattle.flame_nest.specs.declared.faults.NestKind.TheVariants.{Differs, TwiceType}
 use Rattle.flame_nest.specs.NestFaults.{Given, Meant, meant_by, is_int, nest_where, type_names, type_faults, of_type}
 use Rattle.flame_nest.specs.KindTables.{with_name}
 use Rattle.flame_nest.proofs.Firsts.{none-false}
-use Rattle.flame_nest.proofs.Joins.{or_second}
-
-pub append-none : {X : Type 0} (xs ys : List X) → xs ++ ys ≡ [] → (xs ≡ []) × (ys ≡ [])
-append-none [] ys h = (refl, h)
-append-none (x ∷ xs) ys h = cc
 
 -- a data type without a fault has the name of no earlier one of its file
 pub type_once : (file : List ℕ) (given : Given) (here : List (List ℕ)) (meant : Meant) (type : DataType)
     → type_faults file given here meant type ≡ [] → is_among type.name here ≡ false
 type_once file given here meant type h =
-    let behind = append-none (nest_where (given.differs (of_type type)) Differs file type.name) _ h in
-    let twice = append-none (nest_where (is_int type.name || is_among type.name here) TwiceType file type.name) _ behind.1 in
-    or_second
-    (is_int type.name)
-    (is_among type.name here)
-    (none-false (is_int type.name || is_among type.name here) TwiceType file type.name twice.0)
+    let behind = append-is_nil (nest_where (given.differs (of_type type)) Differs file type.name) _ h in
+    let twice = append-is_nil (nest_where (is_int type.name || is_among type.name here) TwiceType file type.name) _ behind.1 in
+    (or_parts (is_int type.name) (is_among type.name here) (none-false (is_int type.name || is_among type.name here) TwiceType file type.name twice.0)).1
 
 -- the names of one data type more
 pub here-more : (types : List DataType) (i : ℕ) (d item : DataType) (here : List (List ℕ))

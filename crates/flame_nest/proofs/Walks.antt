@@ -1,4 +1,5 @@
 -- What is known behind one file more.
+use mathlib.Core.Bool.{or-false}
 use Rattle.std.proofs.Common.{◌≡◌, ℕ, ◌+◌, ◌<◌, List, [], ◌∷◌, ◌++◌, length, take, get_or, map, refl, sym, ap, ◌∙◌, Bool, true, false, true≢false, cond, not}
 use Rattle.std.specs.Prelude.{◌||◌, slice_get, unwrap_or}
 use Rattle.std.specs.Str.{bytes_eq}
@@ -7,6 +8,7 @@ use Rattle.std.specs.List.{filter, flat_map, fold}
 use Rattle.std.proofs.lemmas.List.{map-append, append-nil, take_more, get_or_default}
 use Rattle.std.proofs.lemmas.Grind.{flat_map-append}
 use Rattle.std.proofs.lemmas.Option.{unwrap_or-slice_get}
+use Rattle.std.proofs.lemmas.List.Folds.{list_any-append}
 use Rattle.flame_spec.specs.declared.wide.Wide.{Wide}
 use Rattle.flame_spec.specs.declared.wide.DataType.{DataType}
 use Rattle.flame_spec.specs.declared.wide.WideMessage.{WideMessage}
@@ -17,7 +19,7 @@ use Rattle.flame_nest.specs.GivenTables.{GivenTable, given_in, with_declaration}
 use Rattle.flame_nest.specs.KindTables.{with_name}
 use Rattle.flame_nest.specs.FileWalks.{known_with, walk_faults}
 use Rattle.flame_nest.proofs.Agreement.{given-fold}
-use Rattle.flame_nest.proofs.Joins.{among-joined, joined_once-push, or_nil, is_among-append, among-with_new}
+use Rattle.flame_nest.proofs.Joins.{among-joined, joined_once-push, among-with_new}
 
 -- what each of a list gives, one more
 pub flat_map-more : {X Y : Type 0} (f : X → List Y) (xs : List X) (i : ℕ) (d item : X)
@@ -187,13 +189,13 @@ among_choice name false xs ys = refl
 -- a name is among names and more of them
 pub among-noted : (name : List ℕ) (there names : List (List ℕ))
     → is_among name (fold with_name there names) ≡ (is_among name there || is_among name names)
-among-noted name there [] = or_nil (is_among name there)
+among-noted name there [] = (sym (or-false (is_among name there)))
 among-noted name there (n ∷ names) =
     among-noted name (with_name there n) names
     ∙ ap
     (λ b. b || is_among name names)
     (among_choice name (is_among n there) there (there ++ n ∷ [])
-    ∙ ap (cond (is_among n there) (is_among name there)) (is_among-append name there (n ∷ [])))
+    ∙ ap (cond (is_among n there) (is_among name there)) (list_any-append (bytes_eq name) there (n ∷ [])))
     ∙ name_cases
     (is_among name there)
     (bytes_eq name n)

@@ -2,7 +2,7 @@ pub mod FrameLemmas
 pub mod ScriptLemmas
 pub mod TellingLemmas
 mod AnswerLemmas
-mod PutLemmas
+pub mod PutLemmas
 mod RaisedLemmas
 mod StoredLemmas
 mod TotalLemmas

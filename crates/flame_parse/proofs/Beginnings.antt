@@ -15,6 +15,7 @@ use Rattle.flame_expr.proofs.Heads.{One}
 use Rattle.flame_expr.proofs.Parts.{any_heads, any_all, pasts, clean, none, ends_here, joins_on, go_on, GoesAny}
 use Rattle.flame_parse.specs.HeadSymbols.{initial_symbol}
 use Rattle.flame_parse.specs.AssignmentOperators.{set_op, step_op, starts, joins_stmts}
+use Rattle.flame_expr.proofs.LevelFacts.{or_right}
 
 -- the rests behind the place of an assignment
 abbrev pub operations : List (List Symbol)
@@ -97,10 +98,6 @@ starts_stmt d e = absurd (false≢true e)
 abbrev no_more_stmt : Lexeme → Bool
 no_more_stmt d = or (starts d) (ends_here (any_heads ((many (form a_stmt) ∷ []) ∷ []) d))
 
-or_right : (a b : Bool) → or a b ≡ true → a ≡ false → b ≡ true
-or_right true b h e = absurd (false≢true (sym e))
-or_right false b h e = h
-
 pub stmts_end : (d : Lexeme) → starts d ≡ false → ends_here (any_heads ((many (form a_stmt) ∷ []) ∷ []) d) ≡ true
 stmts_end d e = or_right (starts d) (ends_here (any_heads ((many (form a_stmt) ∷ []) ∷ []) d)) (everywhere no_more_stmt refl d) e
 
@@ -172,12 +169,14 @@ pub else_alike : AlikeBut If ((form a_body ∷ []) ∷ []) ((lexeme If ∷ lexem
 else_alike If n = absurd (n refl)
 else_alike d n = refl
 
-pub first_alike : (d : Lexeme) → (d ≡ Semicolon → ⊥) → (d ≡ Int → ⊥) → any_heads ((form an_assign ∷ lexeme Semicolon ∷ []) ∷ []) d ≡ any_heads ((maybe (either (form an_assign) (form a_decl)) ∷ lexeme Semicolon ∷ []) ∷ []) d
+pub first_alike : (d : Lexeme) → (d ≡ Semicolon → ⊥) → (d ≡ Int → ⊥) → any_heads ((form an_assign ∷ lexeme Semicolon ∷ []) ∷ []) d ≡ any_heads
+    ((maybe (either (form an_assign) (form a_decl)) ∷ lexeme Semicolon ∷ []) ∷ []) d
 first_alike Semicolon m n = absurd (m refl)
 first_alike Int m n = absurd (n refl)
 first_alike d m n = refl
 
-pub simple_alike : (d : Lexeme) → (d ≡ Semicolon → ⊥) → (d ≡ Return → ⊥) → (d ≡ Break → ⊥) → (d ≡ Continue → ⊥) → (d ≡ Word → ⊥) → any_heads ((form an_assign ∷ lexeme Semicolon ∷ []) ∷ []) d ≡ any_heads ((form a_simple ∷ []) ∷ []) d
+pub simple_alike : (d : Lexeme) → (d ≡ Semicolon → ⊥) → (d ≡ Return → ⊥) → (d ≡ Break → ⊥) → (d ≡ Continue → ⊥) → (d ≡ Word → ⊥) → any_heads
+    ((form an_assign ∷ lexeme Semicolon ∷ []) ∷ []) d ≡ any_heads ((form a_simple ∷ []) ∷ []) d
 simple_alike Semicolon a b c e f = absurd (a refl)
 simple_alike Return a b c e f = absurd (b refl)
 simple_alike Break a b c e f = absurd (c refl)
@@ -185,7 +184,8 @@ simple_alike Continue a b c e f = absurd (e refl)
 simple_alike Word a b c e f = absurd (f refl)
 simple_alike d a b c e f = refl
 
-pub stmt_alike : (d : Lexeme) → (d ≡ Int → ⊥) → (d ≡ OpenBrace → ⊥) → (d ≡ If → ⊥) → (d ≡ While → ⊥) → (d ≡ For → ⊥) → (d ≡ Do → ⊥) → (d ≡ Start → ⊥) → any_heads ((form a_simple ∷ []) ∷ []) d ≡ any_heads ((form a_stmt ∷ []) ∷ []) d
+pub stmt_alike : (d : Lexeme) → (d ≡ Int → ⊥) → (d ≡ OpenBrace → ⊥) → (d ≡ If → ⊥) → (d ≡ While → ⊥) → (d ≡ For → ⊥) → (d ≡ Do → ⊥) → (d ≡ Start → ⊥)
+    → any_heads ((form a_simple ∷ []) ∷ []) d ≡ any_heads ((form a_stmt ∷ []) ∷ []) d
 stmt_alike Int a b c e f g h = absurd (a refl)
 stmt_alike OpenBrace a b c e f g h = absurd (b refl)
 stmt_alike If a b c e f g h = absurd (c refl)
@@ -202,13 +202,17 @@ Words = (index ∷ one_of setters ∷ form a_value ∷ lexeme Semicolon ∷ []) 
 assign_words : (K : List Symbol) (ts : List Token) (e : End) → first ts ≡ Word → GoesAny Words K (behind ts) e → Goes (form an_assign ∷ lexeme Semicolon ∷ K) ts e
 assign_words K ts e f h = go_on (form an_assign ∷ lexeme Semicolon ∷ []) K ts e Word f h
 
-word_heads : (K : List Symbol) (ts : List Token) (e : End) → first ts ≡ Word → Goes (form a_simple ∷ K) ts e → (e ≡ left ts) ⊎ (Goes (index ∷ one_of setters ∷ form a_value ∷ lexeme Semicolon ∷ K) (behind ts) e ⊎ (Goes (index ∷ one_of steppers ∷ lexeme Semicolon ∷ K) (behind ts) e ⊎ (Goes (lexeme Open ∷ maybe (form some_args) ∷ lexeme Close ∷ lexeme Semicolon ∷ K) (behind ts) e ⊎ ⊥)))
+word_heads : (K : List Symbol) (ts : List Token) (e : End) → first ts ≡ Word → Goes (form a_simple ∷ K) ts e → (e ≡ left ts) ⊎
+    (Goes (index ∷ one_of setters ∷ form a_value ∷ lexeme Semicolon ∷ K) (behind ts) e ⊎
+    (Goes (index ∷ one_of steppers ∷ lexeme Semicolon ∷ K) (behind ts) e ⊎
+    (Goes (lexeme Open ∷ maybe (form some_args) ∷ lexeme Close ∷ lexeme Semicolon ∷ K) (behind ts) e ⊎ ⊥)))
 word_heads K ts e f h = elim (any_all ((form a_simple ∷ []) ∷ []) K ts e (inl h)) [
   | inl i ↦ inl i
   | inr i ↦ inr (subst (λ d. One (any_heads ((form a_simple ∷ []) ∷ []) d) K ts e) f i)
 ]
 
-word_cases : (K : List Symbol) (ts : List Token) (e : End) → first ts ≡ Word → Goes (form a_simple ∷ K) ts e → (e ≡ left ts) ⊎ (GoesAny Words K (behind ts) e ⊎ Goes (lexeme Open ∷ maybe (form some_args) ∷ lexeme Close ∷ lexeme Semicolon ∷ K) (behind ts) e)
+word_cases : (K : List Symbol) (ts : List Token) (e : End) → first ts ≡ Word → Goes (form a_simple ∷ K) ts e → (e ≡ left ts) ⊎
+    (GoesAny Words K (behind ts) e ⊎ Goes (lexeme Open ∷ maybe (form some_args) ∷ lexeme Close ∷ lexeme Semicolon ∷ K) (behind ts) e)
 word_cases K ts e f h = elim (word_heads K ts e f h) [
   | inl i ↦ inl i
   | inr i ↦ elim i [
@@ -223,7 +227,8 @@ word_cases K ts e f h = elim (word_heads K ts e f h) [
 pub assign_is_simple : (K : List Symbol) (ts : List Token) (e : End) → Goes (form an_assign ∷ lexeme Semicolon ∷ K) ts e → Goes (form a_simple ∷ K) ts e
 assign_is_simple K ts e h = expand (second_part (first_part (in_turn h)))
 
-pub simple_is_assign : (K : List Symbol) (ts : List Token) (e : End) → first ts ≡ Word → (first (behind ts) ≡ Open → ⊥) → Goes (form a_simple ∷ K) ts e → Goes (form an_assign ∷ lexeme Semicolon ∷ K) ts e
+pub simple_is_assign : (K : List Symbol) (ts : List Token) (e : End) → first ts ≡ Word → (first (behind ts) ≡ Open → ⊥) → Goes (form a_simple ∷ K) ts
+    e → Goes (form an_assign ∷ lexeme Semicolon ∷ K) ts e
 simple_is_assign K ts e f n h = elim (word_cases K ts e f h) [
   | inl i ↦ subst (Goes (form an_assign ∷ lexeme Semicolon ∷ K) ts) (sym i) stay
   | inr i ↦ elim i [
@@ -235,7 +240,8 @@ simple_is_assign K ts e f n h = elim (word_cases K ts e f h) [
   ]
 ]
 
-pub word_ended : (tokens : List Token) (at end : ℕ) → first (drop at tokens) ≡ Word → (first (behind (drop at tokens)) ≡ Open → ⊥) → Ended [] (form an_assign ∷ lexeme Semicolon ∷ []) tokens at end → Ended [] (form a_simple ∷ []) tokens at end
+pub word_ended : (tokens : List Token) (at end : ℕ) → first (drop at tokens) ≡ Word → (first (behind (drop at tokens)) ≡ Open → ⊥) → Ended []
+    (form an_assign ∷ lexeme Semicolon ∷ []) tokens at end → Ended [] (form a_simple ∷ []) tokens at end
 word_ended tokens at end f n p = record {
   ahead = p.ahead;
   within = p.within;
@@ -246,7 +252,8 @@ word_ended tokens at end f n p = record {
   };
 }
 
-pub word_stopped : (tokens : List Token) (at stop : ℕ) → first (drop at tokens) ≡ Word → (first (behind (drop at tokens)) ≡ Open → ⊥) → Stopped [] (form an_assign ∷ lexeme Semicolon ∷ []) tokens at stop → Stopped [] (form a_simple ∷ []) tokens at stop
+pub word_stopped : (tokens : List Token) (at stop : ℕ) → first (drop at tokens) ≡ Word → (first (behind (drop at tokens)) ≡ Open → ⊥) → Stopped []
+    (form an_assign ∷ lexeme Semicolon ∷ []) tokens at stop → Stopped [] (form a_simple ∷ []) tokens at stop
 word_stopped tokens at stop f n p = record {
   ahead = p.ahead;
   within = p.within;

@@ -41,23 +41,34 @@ block_stopped tokens at stop p = record {
   };
 }
 
-brace_body : (tokens : List Token) (at : ℕ) → first (drop at tokens) ≡ OpenBrace → any_heads ((form a_block ∷ []) ∷ []) (first (drop at tokens)) ≡ any_heads ((form a_body ∷ []) ∷ []) (first (drop at tokens))
+brace_body : (tokens : List Token) (at : ℕ) → first (drop at tokens) ≡ OpenBrace → any_heads ((form a_block ∷ []) ∷ []) (first (drop at tokens)) ≡
+    any_heads ((form a_body ∷ []) ∷ []) (first (drop at tokens))
 brace_body tokens at f = ap (any_heads ((form a_block ∷ []) ∷ [])) f ∙ sym (ap (any_heads ((form a_body ∷ []) ∷ [])) f)
 
-brace_stmt : (tokens : List Token) (at : ℕ) → first (drop at tokens) ≡ OpenBrace → any_heads ((form a_block ∷ []) ∷ []) (first (drop at tokens)) ≡ any_heads ((form a_stmt ∷ []) ∷ []) (first (drop at tokens))
+brace_stmt : (tokens : List Token) (at : ℕ) → first (drop at tokens) ≡ OpenBrace → any_heads ((form a_block ∷ []) ∷ []) (first (drop at tokens)) ≡
+    any_heads ((form a_stmt ∷ []) ∷ []) (first (drop at tokens))
 brace_stmt tokens at f = ap (any_heads ((form a_block ∷ []) ∷ [])) f ∙ sym (ap (any_heads ((form a_stmt ∷ []) ∷ [])) f)
 
 pub brace_body_ended : (tokens : List Token) (at end : ℕ) → first (drop at tokens) ≡ OpenBrace → Ended [] (form a_block ∷ []) tokens at end → Ended [] (form a_body ∷ []) tokens at end
 brace_body_ended tokens at end f p = one_ended (alike_ended [] ((form a_block ∷ []) ∷ []) ((form a_body ∷ []) ∷ []) tokens at end (omega arith) (omega arith) (brace_body tokens at f) (any_ended p))
 
 pub brace_body_stopped : (tokens : List Token) (at stop : ℕ) → first (drop at tokens) ≡ OpenBrace → Stopped [] (form a_block ∷ []) tokens at stop → Stopped [] (form a_body ∷ []) tokens at stop
-brace_body_stopped tokens at stop f p = one_stopped (alike_stopped [] ((form a_block ∷ []) ∷ []) ((form a_body ∷ []) ∷ []) tokens at stop (omega arith) (omega arith) (brace_body tokens at f) (any_stopped p))
+brace_body_stopped tokens at stop f p =
+    one_stopped
+    (alike_stopped [] ((form a_block ∷ []) ∷ []) ((form a_body ∷ []) ∷ []) tokens at stop (omega arith) (omega arith) (brace_body tokens at f)
+    (any_stopped p))
 
 pub brace_stmt_ended : (tokens : List Token) (at end : ℕ) → first (drop at tokens) ≡ OpenBrace → Ended [] (form a_block ∷ []) tokens at end → Ended joins_stmt (form a_stmt ∷ []) tokens at end
-brace_stmt_ended tokens at end f p = one_ended (alike_ended joins_stmt ((form a_block ∷ []) ∷ []) ((form a_stmt ∷ []) ∷ []) tokens at end (omega arith) (omega arith) (brace_stmt tokens at f) (any_ended (ended_weaker [] joins_stmt (form a_block ∷ []) tokens at end refl p)))
+brace_stmt_ended tokens at end f p =
+    one_ended
+    (alike_ended joins_stmt ((form a_block ∷ []) ∷ []) ((form a_stmt ∷ []) ∷ []) tokens at end (omega arith) (omega arith) (brace_stmt tokens at f)
+    (any_ended (ended_weaker [] joins_stmt (form a_block ∷ []) tokens at end refl p)))
 
 pub brace_stmt_stopped : (tokens : List Token) (at stop : ℕ) → first (drop at tokens) ≡ OpenBrace → Stopped [] (form a_block ∷ []) tokens at stop → Stopped joins_stmt (form a_stmt ∷ []) tokens at stop
-brace_stmt_stopped tokens at stop f p = one_stopped (alike_stopped joins_stmt ((form a_block ∷ []) ∷ []) ((form a_stmt ∷ []) ∷ []) tokens at stop (omega arith) (omega arith) (brace_stmt tokens at f) (any_stopped (stopped_weaker [] joins_stmt (form a_block ∷ []) tokens at stop refl p)))
+brace_stmt_stopped tokens at stop f p =
+    one_stopped
+    (alike_stopped joins_stmt ((form a_block ∷ []) ∷ []) ((form a_stmt ∷ []) ∷ []) tokens at stop (omega arith) (omega arith) (brace_stmt tokens at f)
+    (any_stopped (stopped_weaker [] joins_stmt (form a_block ∷ []) tokens at stop refl p)))
 
 abbrev Others : List Symbol
 Others = else_ifs ∷ else_body ∷ []
@@ -86,7 +97,12 @@ before_none : (found : List Arm) → arms_before found [] ≡ map tested found
 before_none [] = refl
 before_none (x ∷ found) = ap (λ ys. tested x ∷ ys) (before_none found)
 
-pub arms_step : (tokens : List Token) (at place mid : ℕ) (found : List Arm) (a : Arm) → ArmsOn tokens at place found → place ≤ mid → mid ≤ length tokens → ((ds : List Tested) (os : Statements) (rest : List Token) → Elses (drop mid tokens) (arms_of ds) os rest → Elses (drop place tokens) (arms_of (tested a ∷ ds)) os rest) → ((end : ℕ) → Ended joins_stmt Others tokens mid end → Ended joins_stmt Others tokens place end) → ((n : ℕ) → Stopped joins_stmt Others tokens mid n → Stopped joins_stmt Others tokens place n) → ArmsOn tokens at mid (found ++ a ∷ [])
+pub arms_step : (tokens : List Token) (at place mid : ℕ) (found : List Arm) (a : Arm) → ArmsOn tokens at place found → place ≤ mid → mid ≤ length
+    tokens →
+    ((ds : List Tested) (os : Statements) (rest : List Token) → Elses (drop mid tokens) (arms_of ds) os rest → Elses (drop place tokens)
+    (arms_of (tested a ∷ ds)) os rest)
+    → ((end : ℕ) → Ended joins_stmt Others tokens mid end → Ended joins_stmt Others tokens place end) →
+    ((n : ℕ) → Stopped joins_stmt Others tokens mid n → Stopped joins_stmt Others tokens place n) → ArmsOn tokens at mid (found ++ a ∷ [])
 arms_step tokens at place mid found a i le within t e s = record {
   ahead = omega (arith, i.ahead, le);
   within = within;
@@ -95,7 +111,8 @@ arms_step tokens at place mid found a i le within t e s = record {
   stopped = λ n p. i.stopped n (s n p);
 }
 
-pub arms_with : (tokens : List Token) (at place : ℕ) (found : List Arm) (os : Statements) (rest : List Token) → ArmsOn tokens at place found → Elses (drop place tokens) (arms_of []) os rest → Elses (drop at tokens) (arms found) os rest
+pub arms_with : (tokens : List Token) (at place : ℕ) (found : List Arm) (os : Statements) (rest : List Token) → ArmsOn tokens at place found → Elses
+    (drop place tokens) (arms_of []) os rest → Elses (drop at tokens) (arms found) os rest
 arms_with tokens at place found os rest i p = subst (λ ys. Elses (drop at tokens) (arms_of ys) os rest) (before_none found) (i.tree [] os rest p)
 
 pub arms_read : (tokens : List Token) (at place : ℕ) (found : List Arm) → ArmsOn tokens at place found → Elses (drop at tokens) (arms found) no_more (drop place tokens)

@@ -44,7 +44,10 @@ pub def_starts : (d : Lexeme) → d ≡ Int → 0 < length (pasts (any_heads ((f
 def_starts Int f = omega arith
 def_starts d f = cc
 
-pub definition_read : (tokens : List Token) (at word bracket inside close end : ℕ) (ps : List Parameter) (ss : Statements) → first (drop at tokens) ≡ Int → word ≡ at + 1 → first (drop word tokens) ≡ Word → bracket ≡ word + 1 → first (drop bracket tokens) ≡ Open → inside ≡ bracket + 1 → Parameters (drop inside tokens) ps (drop close tokens) → Block (drop close tokens) ss (drop end tokens) → Definition (drop at tokens) (record { line = line (drop at tokens); name = text (drop word tokens); parameters = ps; body = ss }) (drop end tokens)
+pub definition_read : (tokens : List Token) (at word bracket inside close end : ℕ) (ps : List Parameter) (ss : Statements) → first (drop at tokens) ≡
+    Int → word ≡ at + 1 → first (drop word tokens) ≡ Word → bracket ≡ word + 1 → first (drop bracket tokens) ≡ Open → inside ≡ bracket + 1 → Parameters
+    (drop inside tokens) ps (drop close tokens) → Block (drop close tokens) ss (drop end tokens) → Definition (drop at tokens)
+    (record { line = line (drop at tokens); name = text (drop word tokens); parameters = ps; body = ss }) (drop end tokens)
 definition_read tokens at word bracket inside close end ps ss f a g b h c r s =
     let x : behind (drop at tokens) ≡ drop word tokens = behind-drop tokens at ∙ ap (λ n. drop n tokens) (sym a) in
     let y : behind (behind (drop at tokens)) ≡ drop bracket tokens = ap behind x ∙ behind-drop tokens word ∙ ap (λ n. drop n tokens) (sym b) in
@@ -52,7 +55,8 @@ definition_read tokens at word bracket inside close end ps ss f a g b h c r s =
     subst (λ ts. Definition (drop at tokens) (record { line = line (drop at tokens); name = text ts; parameters = ps; body = ss }) (drop end tokens)) x
     (definition f (ap first x ∙ g) (ap first y ∙ h) (subst (λ ts. Parameters ts ps (drop close tokens)) (sym z) r) s)
 
-pub parameter_read : (tokens : List Token) (at word end : ℕ) → first (drop at tokens) ≡ Int → word ≡ at + 1 → first (drop word tokens) ≡ Word → end ≡ word + 1 → OneParameter (drop at tokens) (record { line = line (drop at tokens); name = text (drop word tokens) }) (drop end tokens)
+pub parameter_read : (tokens : List Token) (at word end : ℕ) → first (drop at tokens) ≡ Int → word ≡ at + 1 → first (drop word tokens) ≡ Word → end ≡
+    word + 1 → OneParameter (drop at tokens) (record { line = line (drop at tokens); name = text (drop word tokens) }) (drop end tokens)
 parameter_read tokens at word end f a g b =
     let x : behind (drop at tokens) ≡ drop word tokens = behind-drop tokens at ∙ ap (λ n. drop n tokens) (sym a) in
     let y : behind (behind (drop at tokens)) ≡ drop end tokens = ap behind x ∙ behind-drop tokens word ∙ ap (λ n. drop n tokens) (sym b) in

@@ -19,7 +19,8 @@ any_on A K ts e a f h = any_from A K ts e (pasts_one (any_heads A (first ts)) K 
 
 more_args_go : (K : List Symbol) (ts mid : List Token) (us : Expressions) (e : End) → MoreArgs ts us mid → Goes K mid e → Goes (more_args ∷ K) ts e
 more_args_go K ts mid us e no_arg h = enough h
-more_args_go K ts mid us e (arg_more {mid = m} {e = t} {us = vs} f a b) h = more (in_turn (matched Comma (expr ∷ more_args ∷ K) ts e refl (sym f) (reads_go 6 (more_args ∷ K) (behind ts) m t e a (more_args_go K m mid vs e b h))))
+more_args_go K ts mid us e (arg_more {mid = m} {e = t} {us = vs} f a b) h = more
+    (in_turn (matched Comma (expr ∷ more_args ∷ K) ts e refl (sym f) (reads_go 6 (more_args ∷ K) (behind ts) m t e a (more_args_go K m mid vs e b h))))
 
 args_go : (K : List Symbol) (ts mid : List Token) (us : Expressions) (e : End) → Args ts us mid → Goes K mid e → Goes (form some_args ∷ K) ts e
 args_go K ts mid us e (args {mid = m} {e = t} {us = vs} a b) h = expand (in_turn (reads_go 6 (more_args ∷ K) ts m t e a (more_args_go K m mid vs e b h)))
@@ -39,7 +40,9 @@ item_goes K ts mid d e (item_read {v = v} f a) h = expand (in_turn (matched Word
 
 more_items_go : (K : List Symbol) (ts mid : List Token) (ds : List Declared) (e : End) → MoreItems ts ds mid → Goes K mid e → Goes (more_items ∷ K) ts e
 more_items_go K ts mid ds e no_item h = enough h
-more_items_go K ts mid ds e (item_more {mid = m} {d = d} {ds = es} f a b) h = more (in_turn (matched Comma (form an_item ∷ more_items ∷ K) ts e refl (sym f) (item_goes (more_items ∷ K) (behind ts) m d e a (more_items_go K m mid es e b h))))
+more_items_go K ts mid ds e (item_more {mid = m} {d = d} {ds = es} f a b) h = more
+    (in_turn
+    (matched Comma (form an_item ∷ more_items ∷ K) ts e refl (sym f) (item_goes (more_items ∷ K) (behind ts) m d e a (more_items_go K m mid es e b h))))
 
 items_go : (K : List Symbol) (ts mid : List Token) (ds : List Declared) (e : End) → Items ts ds mid → Goes K mid e → Goes (form an_item ∷ more_items ∷ K) ts e
 items_go K ts mid ds e (items {mid = m} {d = d} {ds = es} a b) h = item_goes (more_items ∷ K) ts m d e a (more_items_go K m mid es e b h)
@@ -80,8 +83,14 @@ called_goes K ts mid us e (args_read {mid = m} a f) h = with_it (args_go (lexeme
 simple_goes : (K : List Symbol) (ts mid : List Token) (s : Statement) (e : End) → Simple ts s mid → Goes K mid e → Goes (form a_simple ∷ K) ts e
 simple_goes K ts mid s e (nothing f) h = go_on (form a_simple ∷ []) K ts e Semicolon f (inl h)
 simple_goes K ts mid s e (assigning {a = a} x) h = expand (second_part (first_part (in_turn (assigned_goes K ts mid a e x h))))
-simple_goes K ts mid s e (calling {mid = m} {us = us} f g a i) h = go_on (form a_simple ∷ []) K ts e Word f (inr (inr (inl (matched Open (maybe (form some_args) ∷ lexeme Close ∷ lexeme Semicolon ∷ K) (behind ts) e refl (sym g) (called_goes (lexeme Semicolon ∷ K) (behind (behind ts)) m us e a (matched Semicolon K m e refl (sym i) h))))))
-simple_goes K ts mid s e (returning {mid = m} {e = t} f a i) h = go_on (form a_simple ∷ []) K ts e Return f (inl (reads_go 6 (lexeme Semicolon ∷ K) (behind ts) m t e a (matched Semicolon K m e refl (sym i) h)))
+simple_goes K ts mid s e (calling {mid = m} {us = us} f g a i) h = go_on (form a_simple ∷ []) K ts e Word f
+    (inr
+    (inr
+    (inl
+    (matched Open (maybe (form some_args) ∷ lexeme Close ∷ lexeme Semicolon ∷ K) (behind ts) e refl (sym g)
+    (called_goes (lexeme Semicolon ∷ K) (behind (behind ts)) m us e a (matched Semicolon K m e refl (sym i) h))))))
+simple_goes K ts mid s e (returning {mid = m} {e = t} f a i) h = go_on (form a_simple ∷ []) K ts e Return f
+    (inl (reads_go 6 (lexeme Semicolon ∷ K) (behind ts) m t e a (matched Semicolon K m e refl (sym i) h)))
 simple_goes K ts mid s e (breaking f g) h = go_on (form a_simple ∷ []) K ts e Break f (inl (matched Semicolon K (behind ts) e refl (sym g) h))
 simple_goes K ts mid s e (continuing f g) h = go_on (form a_simple ∷ []) K ts e Continue f (inl (matched Semicolon K (behind ts) e refl (sym g) h))
 
@@ -101,7 +110,8 @@ step_goes : (K : List Symbol) (ts mid : List Token) (v : Option Assigned) (e : E
 step_goes K ts mid v e (no_step f) h = without (matched Close K ts e refl (sym f) h)
 step_goes K ts mid v e (a_step {mid = m} {a = a} x f) h = with_it (assignment_goes (lexeme Close ∷ K) ts m a e x (matched Close K m e refl (sym f) h))
 
-heading_goes : (K : List Symbol) (ts mid : List Token) (fs : Statements) (t : Option Expression) (a : Option Assigned) (e : End) → Heading ts fs t a mid → Goes K mid e → Goes (lexeme Open ∷ Firsts ∷ lexeme Semicolon ∷ maybe expr ∷ lexeme Semicolon ∷ maybe (form an_assign) ∷ lexeme Close ∷ K) ts e
+heading_goes : (K : List Symbol) (ts mid : List Token) (fs : Statements) (t : Option Expression) (a : Option Assigned) (e : End) → Heading ts fs t a
+    mid → Goes K mid e → Goes (lexeme Open ∷ Firsts ∷ lexeme Semicolon ∷ maybe expr ∷ lexeme Semicolon ∷ maybe (form an_assign) ∷ lexeme Close ∷ K) ts e
 heading_goes K ts mid fs t a e (heading {l = l} {m = m} f x y z) h =
     matched Open (Firsts ∷ lexeme Semicolon ∷ maybe expr ∷ lexeme Semicolon ∷ maybe (form an_assign) ∷ lexeme Close ∷ K) ts e refl (sym f)
     (first_goes (maybe expr ∷ lexeme Semicolon ∷ maybe (form an_assign) ∷ lexeme Close ∷ K) (behind ts) l fs e x
@@ -109,7 +119,11 @@ heading_goes K ts mid fs t a e (heading {l = l} {m = m} f x y z) h =
 
 mutual
   pub block_goes : (K : List Symbol) (ts mid : List Token) (ss : Statements) (e : End) → Block ts ss mid → Goes K mid e → Goes (form a_block ∷ K) ts e
-  block_goes K ts mid ss e (braces {mid = m} f a g) h = expand (in_turn (in_turn (matched OpenBrace (many (form a_stmt) ∷ lexeme CloseBrace ∷ K) ts e refl (sym f) (stmts_go (lexeme CloseBrace ∷ K) (behind ts) m ss e a (matched CloseBrace K m e refl (sym g) h)))))
+  block_goes K ts mid ss e (braces {mid = m} f a g) h = expand
+      (in_turn
+      (in_turn
+      (matched OpenBrace (many (form a_stmt) ∷ lexeme CloseBrace ∷ K) ts e refl (sym f)
+      (stmts_go (lexeme CloseBrace ∷ K) (behind ts) m ss e a (matched CloseBrace K m e refl (sym g) h)))))
 
   stmts_go : (K : List Symbol) (ts mid : List Token) (ss : Statements) (e : End) → Stmts ts ss mid → Goes K mid e → Goes (many (form a_stmt) ∷ K) ts e
   stmts_go K ts mid ss e no_stmt h = enough h
@@ -118,16 +132,29 @@ mutual
   stmt_goes : (K : List Symbol) (ts mid : List Token) (s : Statement) (e : End) → Stmt ts s mid → Goes K mid e → Goes (form a_stmt ∷ K) ts e
   stmt_goes K ts mid s e (declaring {mid = m} {ds = ds} a f) h = expand (first_part (in_turn (declaration_goes (lexeme Semicolon ∷ K) ts m ds e a (matched Semicolon K m e refl (sym f) h))))
   stmt_goes K ts mid s e (blocking {ss = ss} a) h = expand (second_part (first_part (block_goes K ts mid ss e a h)))
-  stmt_goes K ts mid s e (branching {m = m} {n = n} {e = t} {ss = ss} {os = os} {as' = rs} f a b c) h = go_on (form a_stmt ∷ []) K ts e If f (inl (brackets_go (form a_body ∷ else_ifs ∷ else_body ∷ K) (behind ts) m t e a (body_goes (else_ifs ∷ else_body ∷ K) m n ss e b (elses_go K n mid rs os e c h))))
+  stmt_goes K ts mid s e (branching {m = m} {n = n} {e = t} {ss = ss} {os = os} {as' = rs} f a b c) h = go_on (form a_stmt ∷ []) K ts e If f
+      (inl
+      (brackets_go (form a_body ∷ else_ifs ∷ else_body ∷ K) (behind ts) m t e a
+      (body_goes (else_ifs ∷ else_body ∷ K) m n ss e b (elses_go K n mid rs os e c h))))
   stmt_goes K ts mid s e (whiling {m = m} {e = t} {ss = ss} f a b) h = go_on (form a_stmt ∷ []) K ts e While f (inl (brackets_go (form a_body ∷ K) (behind ts) m t e a (body_goes K m mid ss e b h)))
-  stmt_goes K ts mid s e (repeating {m = m} {fs = fs} {ss = ss} {e = t} {a = v} f a b) h = go_on (form a_stmt ∷ []) K ts e For f (inl (heading_goes (form a_body ∷ K) (behind ts) m fs t v e a (body_goes K m mid ss e b h)))
-  stmt_goes K ts mid s e (doing {m = m} {n = n} {e = t} {ss = ss} f a g b i) h = go_on (form a_stmt ∷ []) K ts e Do f (inl (body_goes (lexeme While ∷ lexeme Open ∷ expr ∷ lexeme Close ∷ lexeme Semicolon ∷ K) (behind ts) m ss e a (matched While (lexeme Open ∷ expr ∷ lexeme Close ∷ lexeme Semicolon ∷ K) m e refl (sym g) (brackets_go (lexeme Semicolon ∷ K) (behind m) n t e b (matched Semicolon K n e refl (sym i) h)))))
+  stmt_goes K ts mid s e (repeating {m = m} {fs = fs} {ss = ss} {e = t} {a = v} f a b) h = go_on (form a_stmt ∷ []) K ts e For f
+      (inl (heading_goes (form a_body ∷ K) (behind ts) m fs t v e a (body_goes K m mid ss e b h)))
+  stmt_goes K ts mid s e (doing {m = m} {n = n} {e = t} {ss = ss} f a g b i) h = go_on (form a_stmt ∷ []) K ts e Do f
+      (inl
+      (body_goes (lexeme While ∷ lexeme Open ∷ expr ∷ lexeme Close ∷ lexeme Semicolon ∷ K) (behind ts) m ss e a
+      (matched While (lexeme Open ∷ expr ∷ lexeme Close ∷ lexeme Semicolon ∷ K) m e refl (sym g)
+      (brackets_go (lexeme Semicolon ∷ K) (behind m) n t e b (matched Semicolon K n e refl (sym i) h)))))
   stmt_goes K ts mid s e (looping {m = m} {ss = ss} f a g) h = go_on (form a_stmt ∷ []) K ts e Start f (inl (stmts_go (lexeme Finish ∷ K) (behind ts) m ss e a (matched Finish K m e refl (sym g) h)))
   stmt_goes K ts mid s e (simply {s = x} a) h = expand (second_part (second_part (second_part (second_part (second_part (second_part (second_part (simple_goes K ts mid x e a h))))))))
 
   elses_go : (K : List Symbol) (ts mid : List Token) (rs : Arms) (os : Statements) (e : End) → Elses ts rs os mid → Goes K mid e → Goes (else_ifs ∷ else_body ∷ K) ts e
   elses_go K ts mid rs os e no_else h = enough (without h)
-  elses_go K ts mid rs os e (else_if {m = m} {n = n} {e = t} {ss = ss} {os = ps} {as' = qs} f g a b c) h = go_on (else_ifs ∷ else_body ∷ []) K ts e Else f (inl (matched If (lexeme Open ∷ expr ∷ lexeme Close ∷ form a_body ∷ else_ifs ∷ else_body ∷ K) (behind ts) e refl (sym g) (brackets_go (form a_body ∷ else_ifs ∷ else_body ∷ K) (behind (behind ts)) m t e a (body_goes (else_ifs ∷ else_body ∷ K) m n ss e b (elses_go K n mid qs ps e c h)))))
+  elses_go K ts mid rs os e (else_if {m = m} {n = n} {e = t} {ss = ss} {os = ps} {as' = qs} f g a b c) h = go_on (else_ifs ∷ else_body ∷ []) K ts e
+      Else f
+      (inl
+      (matched If (lexeme Open ∷ expr ∷ lexeme Close ∷ form a_body ∷ else_ifs ∷ else_body ∷ K) (behind ts) e refl (sym g)
+      (brackets_go (form a_body ∷ else_ifs ∷ else_body ∷ K) (behind (behind ts)) m t e a
+      (body_goes (else_ifs ∷ else_body ∷ K) m n ss e b (elses_go K n mid qs ps e c h)))))
   elses_go K ts mid rs os e (an_else {ss = ss} f a) h = go_on (else_ifs ∷ else_body ∷ []) K ts e Else f (inr (inl (body_goes K (behind ts) mid ss e a h)))
 
   body_goes : (K : List Symbol) (ts mid : List Token) (ss : Statements) (e : End) → Body ts ss mid → Goes K mid e → Goes (form a_body ∷ K) ts e
@@ -139,7 +166,10 @@ parameter_goes K ts mid p e (a_parameter f g) h = in_turn (matched Int (lexeme W
 
 more_parameters_go : (K : List Symbol) (ts mid : List Token) (ps : List Parameter) (e : End) → MoreParameters ts ps mid → Goes K mid e → Goes (more_parameters ∷ K) ts e
 more_parameters_go K ts mid ps e no_parameter h = enough h
-more_parameters_go K ts mid ps e (parameter_more {mid = m} {p = p} {ps = qs} f a b) h = more (in_turn (matched Comma (parameter ∷ more_parameters ∷ K) ts e refl (sym f) (parameter_goes (more_parameters ∷ K) (behind ts) m p e a (more_parameters_go K m mid qs e b h))))
+more_parameters_go K ts mid ps e (parameter_more {mid = m} {p = p} {ps = qs} f a b) h = more
+    (in_turn
+    (matched Comma (parameter ∷ more_parameters ∷ K) ts e refl (sym f)
+    (parameter_goes (more_parameters ∷ K) (behind ts) m p e a (more_parameters_go K m mid qs e b h))))
 
 some_parameters_go : (K : List Symbol) (ts mid : List Token) (ps : List Parameter) (e : End) → SomeParameters ts ps mid → Goes K mid e → Goes (both parameter more_parameters ∷ K) ts e
 some_parameters_go K ts mid ps e (listed {mid = m} {p = p} {ps = qs} a b) h = in_turn (parameter_goes (more_parameters ∷ K) ts m p e a (more_parameters_go K m mid qs e b h))

@@ -180,13 +180,39 @@ mutual
       let e = means_bracketed (behind ts) us n refl g a h in
       let s = means_body j rest b in
       (while (line ts) e.0 s.0, grammar.whiling f e.1 s.1)
-  means_stmt ts rest (side (latter (latter (latter (latter (former (side (pair {mid = q} (pair {mid = p} (pair {mid = o} (pair {mid = n} (pair {mid = m} (pair {mid = l} (pair (pair (one f) (one {ts = us} g)) a) (one h)) b) (one i)) c) (one j)) d)))))))) =
+  means_stmt ts rest
+      (side
+      (latter
+      (latter
+      (latter
+      (latter
+      (former
+      (side
+      (pair {mid = q}
+      (pair {mid = p}
+      (pair {mid = o} (pair {mid = n} (pair {mid = m} (pair {mid = l} (pair (pair (one f) (one {ts = us} g)) a) (one h)) b) (one i)) c)
+      (one j))
+      d))))))))
+      =
       let x = means_first us l a h in
       let y = means_test m n b i in
       let z = means_step o p c j in
       let s = means_body q rest d in
       (for (line ts) x.0 y.0 z.0 s.0, grammar.repeating f (grammar.heading g x.1 y.1 z.1) s.1)
-  means_stmt ts rest (side (latter (latter (latter (latter (latter (former (side (pair {mid = p} (pair {mid = o} (pair {mid = n} (pair {mid = m} (pair {mid = l} (pair (one {ts = us} f) a) (one g)) (one {ts = vs} h)) b) (one i)) (one j)))))))))) =
+  means_stmt ts rest
+      (side
+      (latter
+      (latter
+      (latter
+      (latter
+      (latter
+      (former
+      (side
+      (pair {mid = p}
+      (pair {mid = o} (pair {mid = n} (pair {mid = m} (pair {mid = l} (pair (one {ts = us} f) a) (one g)) (one {ts = vs} h)) b)
+      (one i))
+      (one j))))))))))
+      =
       let s = means_body us l a in
       let e = means_bracketed m vs o refl h b i in
       (do_while (line ts) s.0 e.0, grammar.doing f s.1 g e.1 j)

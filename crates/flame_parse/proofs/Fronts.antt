@@ -26,14 +26,16 @@ front_goes X K (Y ∷ B) ts mid e f h = elim h [
 ]
 
 -- backwards: they end before the part's end, or go on behind it
-front_bound : (J G : List Lexeme) (X K : List Symbol) (B : List (List Symbol)) (ts mid : List Token) (e : End) → all_fine J G B ≡ true → Blocks G K → Passes J X ts mid → GoesAny (fronted X B) K ts e → (length mid < length (left_of e)) ⊎ GoesAny B K mid e
+front_bound : (J G : List Lexeme) (X K : List Symbol) (B : List (List Symbol)) (ts mid : List Token) (e : End) → all_fine J G B ≡ true → Blocks G K →
+    Passes J X ts mid → GoesAny (fronted X B) K ts e → (length mid < length (left_of e)) ⊎ GoesAny B K mid e
 front_bound J G X K [] ts mid e c b p h = absurd h
 front_bound J G X K (Y ∷ B) ts mid e c b p h = elim h [
   | inl i ↦ elim (p.bound (onto Y K) e (keeps J G Y K (and_left (fine J G Y) (all_fine J G B) c) b) (subst (λ Z. Goes Z ts e) (onto-onto X Y K) i)) [ inl j ↦ inl j | inr j ↦ inr (inl j) ]
   | inr i ↦ elim (front_bound J G X K B ts mid e (and_right (fine J G Y) (all_fine J G B) c) b p i) [ inl j ↦ inl j | inr j ↦ inr (inr j) ]
 ]
 
-pub front_ended : (J G : List Lexeme) (X : List Symbol) (B : List (List Symbol)) (tokens : List Token) (at mid end : ℕ) → all_fine J G B ≡ true → Ended J X tokens at mid → EndedAny G B tokens mid end → EndedAny G (fronted X B) tokens at end
+pub front_ended : (J G : List Lexeme) (X : List Symbol) (B : List (List Symbol)) (tokens : List Token) (at mid end : ℕ) → all_fine J G B ≡ true →
+    Ended J X tokens at mid → EndedAny G B tokens mid end → EndedAny G (fronted X B) tokens at end
 front_ended J G X B tokens at mid end c p q =
     let l : length (drop end tokens) ≤ length (drop mid tokens) = q.passes.shorter in
     record {
@@ -49,7 +51,8 @@ front_ended J G X B tokens at mid end c p q =
       };
     }
 
-pub front_stopped : (J G : List Lexeme) (X : List Symbol) (B : List (List Symbol)) (tokens : List Token) (at mid stop : ℕ) → all_fine J G B ≡ true → Ended J X tokens at mid → StoppedAny G B tokens mid stop → StoppedAny G (fronted X B) tokens at stop
+pub front_stopped : (J G : List Lexeme) (X : List Symbol) (B : List (List Symbol)) (tokens : List Token) (at mid stop : ℕ) → all_fine J G B ≡ true →
+    Ended J X tokens at mid → StoppedAny G B tokens mid stop → StoppedAny G (fronted X B) tokens at stop
 front_stopped J G X B tokens at mid stop c p q =
     let l : length (drop stop tokens) ≤ length (drop mid tokens) = q.halts.shorter in
     record {
@@ -70,14 +73,16 @@ stop_goes : (X K : List Symbol) (B : List (List Symbol)) (ts stop : List Token) 
 stop_goes X K [] ts stop n f = absurd (omega arith)
 stop_goes X K (Y ∷ B) ts stop n f = inl (subst (λ Z. Goes Z ts (left stop)) (sym (onto-onto X Y K)) (f (onto Y K)))
 
-stop_bound : (J G : List Lexeme) (X K : List Symbol) (B : List (List Symbol)) (ts stop : List Token) (e : End) → all_fine J G B ≡ true → Blocks G K → Halts J X ts stop → GoesAny (fronted X B) K ts e → StopsAt stop e
+stop_bound : (J G : List Lexeme) (X K : List Symbol) (B : List (List Symbol)) (ts stop : List Token) (e : End) → all_fine J G B ≡ true → Blocks G K →
+    Halts J X ts stop → GoesAny (fronted X B) K ts e → StopsAt stop e
 stop_bound J G X K [] ts stop e c b p h = absurd h
 stop_bound J G X K (Y ∷ B) ts stop e c b p h = elim h [
   | inl i ↦ p.bound (onto Y K) e (keeps J G Y K (and_left (fine J G Y) (all_fine J G B) c) b) (subst (λ Z. Goes Z ts e) (onto-onto X Y K) i)
   | inr i ↦ stop_bound J G X K B ts stop e (and_right (fine J G Y) (all_fine J G B) c) b p i
 ]
 
-pub front_stopped_before : (J G : List Lexeme) (X : List Symbol) (B : List (List Symbol)) (tokens : List Token) (at stop : ℕ) → 0 < length B → all_fine J G B ≡ true → Stopped J X tokens at stop → StoppedAny G (fronted X B) tokens at stop
+pub front_stopped_before : (J G : List Lexeme) (X : List Symbol) (B : List (List Symbol)) (tokens : List Token) (at stop : ℕ) → 0 < length B →
+    all_fine J G B ≡ true → Stopped J X tokens at stop → StoppedAny G (fronted X B) tokens at stop
 front_stopped_before J G X B tokens at stop n c p = record {
   ahead = p.ahead;
   within = p.within;

@@ -1,6 +1,7 @@
 -- A list of tokens is at most one function file.
-use Rattle.std.proofs.Common.{◌≡◌, ℕ, suc, pos, List, [], ◌∷◌, refl, sym, ap, ◌∙◌, subst, Bool, true, false, nat_eq, eq-eqb, Option, Some, None, unwrap_or}
+use Rattle.std.proofs.Common.{◌≡◌, ℕ, suc, pos, List, [], ◌∷◌, refl, sym, ap, ◌∙◌, subst, true, false, nat_eq, eq-eqb, Option, Some, None}
 use Rattle.std.proofs.lemmas.Bool.{false≢true}
+use Rattle.std.proofs.lemmas.Option.{same_Some}
 use Rattle.flame_ops.specs.declared.integers.Op.{Op}
 use Rattle.flame_spec.specs.declared.trees.Parameter.{Parameter}
 use Rattle.flame_spec.specs.declared.trees.Sign.{Sign}
@@ -12,8 +13,8 @@ use Rattle.flame_expr.specs.declared.lexemes.Lexeme.TheVariants.{Nothing, Word, 
 use Rattle.flame_expr.specs.Lexemes.{first, text, line, behind}
 use Rattle.flame_expr.specs.OperatorLevels.{joins, sign_of}
 use Rattle.flame_expr.specs.ExpressionGrammar.{Reads, a_unary, a_chain, a_conjunction, a_disjunction, Signs, no_sign, a_sign, Primary, a_number, a_name, a_field, a_get, in_brackets, Index, no_index, an_index, Bracketed, bracketed}
-use Rattle.flame_expr.proofs.LexemeFacts.{or, same, among}
-use Rattle.flame_expr.proofs.Uniqueness.{IsStop, stop_below, tail_stop, conjuncts_stop, disjuncts_stop, unlike_words, one_read, one_index, one_bracketed}
+use Rattle.flame_expr.proofs.LexemeFacts.{same, among}
+use Rattle.flame_expr.proofs.Uniqueness.{IsStop, stop_below, tail_stop, conjuncts_stop, disjuncts_stop, unlike_words, one_read, one_index, one_bracketed, or_right_false}
 use Rattle.flame_parse.specs.AssignmentOperators.{set_op, step_op, joins_item, joins_items, joins_args}
 use Rattle.flame_parse.specs.StatementGrammar.{Stores, an_expression, a_call, Initial, no_initial, an_initial, Place, placed, OneParameter, a_parameter, MoreParameters, no_parameter, parameter_more, SomeParameters, listed, Parameters, none_given, void_given, some_given, Item, an_item, MoreItems, no_item, item_more, Items, items, Declaration, declaration, Assignment, sets, steps_behind, steps_before, MoreArgs, no_arg, arg_more, Args, args, Called, no_args, some_args, AssignedTo, assigned_to, Simple, nothing, assigning, calling, returning, breaking, continuing, First, no_first, first_assign, first_decl, Test, no_test, a_test, Step, no_step, a_step, Heading, heading, Block, braces, Stmts, no_stmt, stmt_more, Stmt, declaring, blocking, branching, whiling, repeating, doing, looping, simply, Elses, no_else, else_if, an_else, Body, in_braces, one_simple, Defined, Definition, definition, Definitions, no_definition, definition_more}
 use Rattle.flame_parse.specs.Parsing.{IsUnit}
@@ -21,10 +22,6 @@ use Rattle.flame_parse.specs.Parsing.{IsUnit}
 -- none of these lexemes is next
 abbrev IsEnd : List Lexeme → List Token → Type 0
 IsEnd J ts = among (first ts) J ≡ false
-
-or_right_false : (a b : Bool) → or a b ≡ false → b ≡ false
-or_right_false true b h = absurd (false≢true (sym h))
-or_right_false false b h = h
 
 end_at : (J : List Lexeme) (d : Lexeme) (ts : List Token) → first ts ≡ d → among d J ≡ false → IsEnd J ts
 end_at J d ts f h = ap (λ x. among x J) f ∙ h
@@ -37,9 +34,6 @@ joins_no J d ts m h f = false≢true (sym h ∙ ap (λ x. among x J) f ∙ m)
 
 unlike_numbers : (m n : ℕ) → nat_eq m n ≡ false → m ≡ n → ⊥
 unlike_numbers m n c e = false≢true (sym c ∙ eq-eqb m n e)
-
-some_equal : {X : Type 0} (x y : X) → Some x ≡ Some y → x ≡ y
-some_equal x y h = ap (λ o. unwrap_or o x) h
 
 -- what begins an expression
 abbrev heads : List Lexeme
@@ -118,8 +112,10 @@ unary_closes ts m r ss t (a_sign {kind = k} s i) p h a b = absurd (word_no_sign 
 read_closes : (k : ℕ) (ts r : List Token) (t : Expression) → Reads k ts t r → IsStop k r → first ts ≡ Word → first (behind ts) ≡ Open → first (behind (behind ts)) ≡ Close
 read_closes k ts r t (a_unary {mid = m} {ss = ss} {e = e} x y) h a b = unary_closes ts m r ss e x y h a b
 read_closes k ts r t (a_chain {k = n} {mid = m} {e = e} {ls = ls} l x y) h a b = read_closes n ts m e x (tail_stop n m r ls y h) a b
-read_closes k ts r t (a_conjunction {k = n} {mid = m} {e = e} {us = us} l x y) h a b = read_closes n ts m e x (subst (λ i. IsStop i m) (sym l) (conjuncts_stop m r us y (subst (λ i. IsStop (suc i) r) l h))) a b
-read_closes k ts r t (a_disjunction {k = n} {mid = m} {e = e} {us = us} l x y) h a b = read_closes n ts m e x (subst (λ i. IsStop i m) (sym l) (disjuncts_stop m r us y (subst (λ i. IsStop (suc i) r) l h))) a b
+read_closes k ts r t (a_conjunction {k = n} {mid = m} {e = e} {us = us} l x y) h a b = read_closes n ts m e x
+    (subst (λ i. IsStop i m) (sym l) (conjuncts_stop m r us y (subst (λ i. IsStop (suc i) r) l h))) a b
+read_closes k ts r t (a_disjunction {k = n} {mid = m} {e = e} {us = us} l x y) h a b = read_closes n ts m e x
+    (subst (λ i. IsStop i m) (sym l) (disjuncts_stop m r us y (subst (λ i. IsStop (suc i) r) l h))) a b
 
 no_call : (ts r m : List Token) (t : Expression) (us : Expressions) → Reads 6 ts t r → IsStop 6 r → first ts ≡ Word → first (behind ts) ≡ Open → Args (behind (behind ts)) us m → ⊥
 no_call ts r m t us x h a b y = close_no_args (behind (behind ts)) m us (read_closes 6 ts r t x h a b) y
@@ -199,17 +195,27 @@ made n w s o m v = record { line = n; name = w; subscript = s; op = o; op_line =
 only_assignment : (ts r r' : List Token) (a a' : Assigned) → Assignment ts a r → Assignment ts a' r' → IsEnd (joins 6) r → IsEnd (joins 6) r' → (a ≡ a') × (r ≡ r')
 only_assignment ts r r' a a' (sets {mid = m} {s = s} {op = o} {v = v} (placed f x) g y) (sets {mid = m'} {s = s'} {op = o'} {v = v'} (placed f' x') g' y') h h' =
     let i = one_index (behind ts) m m' s s' x x' (set_stops (first m) o g) (set_stops (first m') o' g') in
-    let j : o ≡ o' = some_equal o o' (sym g ∙ ap (λ z. set_op (first z)) i.1 ∙ g') in
-    let k = only_stores (behind m') r r' v v' (subst (λ z. Stores (behind z) v r) i.1 y) y' h h' in
-    (ap (λ z. made (line ts) (text ts) z o (line m) v) i.0 ∙ ap (λ z. made (line ts) (text ts) s' z (line m) v) j ∙ ap (λ z. made (line ts) (text ts) s' o' (line z) v) i.1 ∙ ap (made (line ts) (text ts) s' o' (line m')) k.0, k.1)
+    let j : o ≡ o' = same_Some o o' (sym g ∙ ap (λ z. set_op (first z)) i.1 ∙ g') in
+    let k = only_stores (behind m') r r' v v' (subst (λ z. Stores (behind z) v r) i.1 y) y' h h' in (
+      ap (λ z. made (line ts) (text ts) z o (line m) v) i.0 ∙ ap (λ z. made (line ts) (text ts) s' z (line m) v) j ∙ ap
+          (λ z. made (line ts) (text ts) s' o' (line z) v) i.1 ∙ ap (made (line ts) (text ts) s' o' (line m')) k.0,
+      k.1,
+    )
 only_assignment ts r r' a a' (steps_behind {mid = m} {s = s} {op = o} (placed f x) g) (steps_behind {mid = m'} {s = s'} {op = o'} (placed f' x') g') h h' =
     let i = one_index (behind ts) m m' s s' x x' (step_stops (first m) o g) (step_stops (first m') o' g') in
-    let j : o ≡ o' = some_equal o o' (sym g ∙ ap (λ z. step_op (first z)) i.1 ∙ g') in
-    (ap (λ z. made (line ts) (text ts) z (Some o) (line m) (plain (number (pos 1)))) i.0 ∙ ap (λ z. made (line ts) (text ts) s' (Some z) (line m) (plain (number (pos 1)))) j ∙ ap (λ z. made (line ts) (text ts) s' (Some o') (line z) (plain (number (pos 1)))) i.1, ap behind i.1)
+    let j : o ≡ o' = same_Some o o' (sym g ∙ ap (λ z. step_op (first z)) i.1 ∙ g') in (
+      ap (λ z. made (line ts) (text ts) z (Some o) (line m) (plain (number (pos 1)))) i.0 ∙ ap
+          (λ z. made (line ts) (text ts) s' (Some z) (line m) (plain (number (pos 1)))) j ∙ ap
+          (λ z. made (line ts) (text ts) s' (Some o') (line z) (plain (number (pos 1)))) i.1,
+      ap behind i.1,
+    )
 only_assignment ts r r' a a' (steps_before {s = s} {op = o} g (placed f x)) (steps_before {s = s'} {op = o'} g' (placed f' x')) h h' =
     let i = one_index (behind (behind ts)) r r' s s' x x' (stop_all r h) (stop_all r' h') in
-    let j : o ≡ o' = some_equal o o' (sym g ∙ g') in
-    (ap (λ z. made (line (behind ts)) (text (behind ts)) z (Some o) (line ts) (plain (number (pos 1)))) i.0 ∙ ap (λ z. made (line (behind ts)) (text (behind ts)) s' (Some z) (line ts) (plain (number (pos 1)))) j, i.1)
+    let j : o ≡ o' = same_Some o o' (sym g ∙ g') in (
+      ap (λ z. made (line (behind ts)) (text (behind ts)) z (Some o) (line ts) (plain (number (pos 1)))) i.0 ∙ ap
+          (λ z. made (line (behind ts)) (text (behind ts)) s' (Some z) (line ts) (plain (number (pos 1)))) j,
+      i.1,
+    )
 only_assignment ts r r' a a' (sets {mid = m} {s = s} {op = o} (placed f x) g y) (steps_behind {mid = m'} {s = s'} {op = o'} (placed f' x') g') h h' =
     let i = one_index (behind ts) m m' s s' x x' (set_stops (first m) o g) (step_stops (first m') o' g') in
     absurd (set_no_step (first m) o o' g (ap (λ z. step_op (first z)) i.1 ∙ g'))
@@ -339,7 +345,8 @@ only_step ts r r' a a' (a_step {mid = m} {a = u} x g) (a_step {mid = m'} {a = u'
     let i = only_assignment ts m m' u u' x x' (end_at (joins 6) Close m g refl) (end_at (joins 6) Close m' g' refl) in
     (ap (λ z. Some z) i.0, ap behind i.1)
 
-only_heading : (ts r r' : List Token) (fs fs' : Statements) (e e' : Option Expression) (a a' : Option Assigned) → Heading ts fs e a r → Heading ts fs' e' a' r' → (fs ≡ fs') × (e ≡ e') × (a ≡ a') × (r ≡ r')
+only_heading : (ts r r' : List Token) (fs fs' : Statements) (e e' : Option Expression) (a a' : Option Assigned) → Heading ts fs e a r → Heading ts fs'
+    e' a' r' → (fs ≡ fs') × (e ≡ e') × (a ≡ a') × (r ≡ r')
 only_heading ts r r' fs fs' e e' a a' (heading {l = l} {m = m} f x y z) (heading {l = l'} {m = m'} f' x' y' z') =
     let i = only_first (behind ts) l l' fs fs' x x' in
     let j = only_test l' m m' e e' (subst (λ w. Test w e m) i.1 y) y' in

@@ -11,7 +11,8 @@ use Rattle.flame_expr.proofs.Parts.{any_heads, stay_any, pasts, joins_on, fine, 
 use Rattle.flame_expr.proofs.LongestPrefixes.{blocks_none}
 
 -- one more part of those that repeat
-many_passes : (I J : List Lexeme) (x : Symbol) (ts mid end : List Token) → joins_on (first ts) J ≡ true → fine I J (many x ∷ []) ≡ true → length mid < length ts → Passes I (x ∷ []) ts mid → Passes J (many x ∷ []) mid end → Passes J (many x ∷ []) ts end
+many_passes : (I J : List Lexeme) (x : Symbol) (ts mid end : List Token) → joins_on (first ts) J ≡ true → fine I J (many x ∷ []) ≡ true → length mid <
+    length ts → Passes I (x ∷ []) ts mid → Passes J (many x ∷ []) mid end → Passes J (many x ∷ []) ts end
 many_passes I J x ts mid end j c n p q =
     let l : length end < length ts = omega (arith, q.shorter, n) in
     let m : length end ≤ length mid = q.shorter in
@@ -24,7 +25,8 @@ many_passes I J x ts mid end j c n p q =
       ];
     }
 
-many_halts : (I J : List Lexeme) (x : Symbol) (ts mid stop : List Token) → joins_on (first ts) J ≡ true → fine I J (many x ∷ []) ≡ true → length mid < length ts → Passes I (x ∷ []) ts mid → Halts J (many x ∷ []) mid stop → Halts J (many x ∷ []) ts stop
+many_halts : (I J : List Lexeme) (x : Symbol) (ts mid stop : List Token) → joins_on (first ts) J ≡ true → fine I J (many x ∷ []) ≡ true → length mid <
+    length ts → Passes I (x ∷ []) ts mid → Halts J (many x ∷ []) mid stop → Halts J (many x ∷ []) ts stop
 many_halts I J x ts mid stop j c n p q =
     let l : length stop < length ts = omega (arith, q.shorter, n) in
     let m : length stop ≤ length mid = q.shorter in
@@ -37,7 +39,8 @@ many_halts I J x ts mid stop j c n p q =
       ];
     }
 
-first_halts : (I J : List Lexeme) (x : Symbol) (ts stop : List Token) → joins_on (first ts) J ≡ true → fine I J (many x ∷ []) ≡ true → length stop < length ts → Halts I (x ∷ []) ts stop → Halts J (many x ∷ []) ts stop
+first_halts : (I J : List Lexeme) (x : Symbol) (ts stop : List Token) → joins_on (first ts) J ≡ true → fine I J (many x ∷ []) ≡ true → length stop <
+    length ts → Halts I (x ∷ []) ts stop → Halts J (many x ∷ []) ts stop
 first_halts I J x ts stop j c n p = record {
   shorter = p.shorter;
   goes = λ K. more (p.goes (many x ∷ K));
@@ -48,7 +51,8 @@ first_halts I J x ts stop j c n p = record {
 }
 
 -- what begins with the next token stops behind it
-halts_behind : (I : List Lexeme) (x : Symbol) (ts stop : List Token) → is_real (first ts) ≡ true → 0 < length (pasts (any_heads ((x ∷ []) ∷ []) (first ts))) → Halts I (x ∷ []) ts stop → length stop < length ts
+halts_behind : (I : List Lexeme) (x : Symbol) (ts stop : List Token) → is_real (first ts) ≡ true → 0 < length
+    (pasts (any_heads ((x ∷ []) ∷ []) (first ts))) → Halts I (x ∷ []) ts stop → length stop < length ts
 halts_behind I x ts stop r n p =
     let h : Goes (x ∷ []) ts (left (behind ts)) = go_on (x ∷ []) [] ts (left (behind ts)) (first ts) refl (stay_any (pasts (any_heads ((x ∷ []) ∷ []) (first ts))) [] (behind ts) n) in
     omega (arith, p.bound [] (left (behind ts)) (blocks_none I) h, behind_shorter ts r)
@@ -56,21 +60,27 @@ halts_behind I x ts stop r n p =
 real_if : (d : Lexeme) (J : List Lexeme) → joins_on d J ≡ true → is_real d ≡ true
 real_if d J h = and_left (is_real d) _ h
 
-pub many_ended : (I J : List Lexeme) (x : Symbol) (tokens : List Token) (at mid end : ℕ) → fine I J (many x ∷ []) ≡ true → joins_on (first (drop at tokens)) J ≡ true → at < mid → Ended I (x ∷ []) tokens at mid → Ended J (many x ∷ []) tokens mid end → Ended J (many x ∷ []) tokens at end
+pub many_ended : (I J : List Lexeme) (x : Symbol) (tokens : List Token) (at mid end : ℕ) → fine I J (many x ∷ []) ≡ true → joins_on
+    (first (drop at tokens)) J ≡ true → at < mid → Ended I (x ∷ []) tokens at mid → Ended J (many x ∷ []) tokens mid end → Ended J (many x ∷ []) tokens
+    at end
 many_ended I J x tokens at mid end c j n p q = record {
   ahead = omega (arith, p.ahead, q.ahead);
   within = q.within;
   passes = many_passes I J x (drop at tokens) (drop mid tokens) (drop end tokens) j c (omega (arith, n, p.within, length-drop at tokens, length-drop mid tokens)) p.passes q.passes;
 }
 
-pub many_stopped : (I J : List Lexeme) (x : Symbol) (tokens : List Token) (at mid stop : ℕ) → fine I J (many x ∷ []) ≡ true → joins_on (first (drop at tokens)) J ≡ true → at < mid → Ended I (x ∷ []) tokens at mid → Stopped J (many x ∷ []) tokens mid stop → Stopped J (many x ∷ []) tokens at stop
+pub many_stopped : (I J : List Lexeme) (x : Symbol) (tokens : List Token) (at mid stop : ℕ) → fine I J (many x ∷ []) ≡ true → joins_on
+    (first (drop at tokens)) J ≡ true → at < mid → Ended I (x ∷ []) tokens at mid → Stopped J (many x ∷ []) tokens mid stop → Stopped J (many x ∷ [])
+    tokens at stop
 many_stopped I J x tokens at mid stop c j n p q = record {
   ahead = omega (arith, p.ahead, q.ahead);
   within = q.within;
   halts = many_halts I J x (drop at tokens) (drop mid tokens) (drop stop tokens) j c (omega (arith, n, p.within, length-drop at tokens, length-drop mid tokens)) p.passes q.halts;
 }
 
-pub first_stopped : (I J : List Lexeme) (x : Symbol) (tokens : List Token) (at stop : ℕ) → fine I J (many x ∷ []) ≡ true → joins_on (first (drop at tokens)) J ≡ true → 0 < length (pasts (any_heads ((x ∷ []) ∷ []) (first (drop at tokens)))) → Stopped I (x ∷ []) tokens at stop → Stopped J (many x ∷ []) tokens at stop
+pub first_stopped : (I J : List Lexeme) (x : Symbol) (tokens : List Token) (at stop : ℕ) → fine I J (many x ∷ []) ≡ true → joins_on
+    (first (drop at tokens)) J ≡ true → 0 < length (pasts (any_heads ((x ∷ []) ∷ []) (first (drop at tokens)))) → Stopped I (x ∷ []) tokens at stop →
+    Stopped J (many x ∷ []) tokens at stop
 first_stopped I J x tokens at stop c j n p = record {
   ahead = p.ahead;
   within = p.within;

@@ -29,7 +29,8 @@ close_no_args K ts e f h = elim (any_all ((form some_args ∷ []) ∷ []) K ts e
 ]
 
 -- a value that is no call with arguments goes where an expression goes
-third : (b : Bool) (K : List Symbol) (ts : List Token) (e : End) → same Close (first (behind (behind ts))) ≡ b → (IsCall ts → ⊥) → first ts ≡ Word → first (behind ts) ≡ Open → Goes (form some_args ∷ lexeme Close ∷ K) (behind (behind ts)) e → Goes (expr ∷ K) ts e
+third : (b : Bool) (K : List Symbol) (ts : List Token) (e : End) → same Close (first (behind (behind ts))) ≡ b → (IsCall ts → ⊥) → first ts ≡ Word →
+    first (behind ts) ≡ Open → Goes (form some_args ∷ lexeme Close ∷ K) (behind (behind ts)) e → Goes (expr ∷ K) ts e
 third true K ts e s n f g h =
     let c : Close ≡ first (behind (behind ts)) = same_equal Close (first (behind (behind ts))) s in
     let i : e ≡ left (behind (behind ts)) = close_no_args (lexeme Close ∷ K) (behind (behind ts)) e (sym c) h in
@@ -89,7 +90,8 @@ next_first tokens at d f = ap first (sym (behind-drop tokens at)) ∙ f
 third_close : (tokens : List Token) (at : ℕ) → (first (behind (behind (drop at tokens))) ≡ Close → ⊥) → first (drop (at + 1 + 1) tokens) ≡ Close → ⊥
 third_close tokens at n f = n (ap (λ ts. first (behind ts)) (behind-drop tokens at) ∙ ap first (behind-drop tokens (at + 1)) ∙ f)
 
-pub call_ended : (tokens : List Token) (at close end : ℕ) → IsCall (drop at tokens) → Ended joins_args (form some_args ∷ []) tokens (at + 1 + 1) close → Ended [] (lexeme Close ∷ []) tokens close end → Ended (joins 6) (form a_value ∷ []) tokens at end
+pub call_ended : (tokens : List Token) (at close end : ℕ) → IsCall (drop at tokens) → Ended joins_args (form some_args ∷ []) tokens (at + 1 + 1) close
+    → Ended [] (lexeme Close ∷ []) tokens close end → Ended (joins 6) (form a_value ∷ []) tokens at end
 call_ended tokens at close end c p q =
     one_ended (enter_ended (joins 6) ((form a_value ∷ []) ∷ []) tokens at end Word refl refl c.0
     (enter_ended (joins 6) (pasts (any_heads ((form a_value ∷ []) ∷ []) Word)) tokens (at + 1) end Open refl refl (next_first tokens at Open c.1)
@@ -103,28 +105,47 @@ call_halted tokens at stop c p =
     (alike_stopped (joins 6) (Inside ∷ []) arguments tokens (at + 1 + 1) stop (omega arith) (omega arith) (arguments_alike (first (drop (at + 1 + 1) tokens)) (third_close tokens at c.2))
     (any_stopped (stopped_weaker [] (joins 6) Inside tokens (at + 1 + 1) stop refl p)))))
 
-pub call_stopped : (tokens : List Token) (at stop : ℕ) → IsCall (drop at tokens) → Stopped joins_args (form some_args ∷ []) tokens (at + 1 + 1) stop → Stopped (joins 6) (form a_value ∷ []) tokens at stop
+pub call_stopped : (tokens : List Token) (at stop : ℕ) → IsCall (drop at tokens) → Stopped joins_args (form some_args ∷ []) tokens (at + 1 + 1) stop →
+    Stopped (joins 6) (form a_value ∷ []) tokens at stop
 call_stopped tokens at stop c p = call_halted tokens at stop c (stopped_before joins_args [] (form some_args ∷ []) (lexeme Close ∷ []) tokens (at + 1 + 1) stop refl p)
 
-pub call_end_stopped : (tokens : List Token) (at close stop : ℕ) → IsCall (drop at tokens) → Ended joins_args (form some_args ∷ []) tokens (at + 1 + 1) close → Stopped [] (lexeme Close ∷ []) tokens close stop → Stopped (joins 6) (form a_value ∷ []) tokens at stop
+pub call_end_stopped : (tokens : List Token) (at close stop : ℕ) → IsCall (drop at tokens) → Ended joins_args (form some_args ∷ []) tokens
+    (at + 1 + 1) close → Stopped [] (lexeme Close ∷ []) tokens close stop → Stopped (joins 6) (form a_value ∷ []) tokens at stop
 call_end_stopped tokens at close stop c p q = call_halted tokens at stop c (stopped_then joins_args [] (form some_args ∷ []) (lexeme Close ∷ []) tokens (at + 1 + 1) close stop refl p q)
 
 -- a place: its word, and an index where there is one
-pub place_ended : (tokens : List Token) (at mid end : ℕ) → Ended [] (lexeme Word ∷ []) tokens at mid → Ended joins_index (index ∷ []) tokens mid end → Ended joins_index (form a_place ∷ []) tokens at end
+pub place_ended : (tokens : List Token) (at mid end : ℕ) → Ended [] (lexeme Word ∷ []) tokens at mid → Ended joins_index (index ∷ []) tokens mid end →
+    Ended joins_index (form a_place ∷ []) tokens at end
 place_ended tokens at mid end p q = form_ended joins_index a_place (lexeme Word) index tokens at end refl (ended_then [] joins_index (lexeme Word ∷ []) (index ∷ []) tokens at mid end refl p q)
 
-pub place_stopped : (tokens : List Token) (at mid stop : ℕ) → Ended [] (lexeme Word ∷ []) tokens at mid → Stopped joins_index (index ∷ []) tokens mid stop → Stopped joins_index (form a_place ∷ []) tokens at stop
-place_stopped tokens at mid stop p q = form_stopped joins_index a_place (lexeme Word) index tokens at stop refl (stopped_then [] joins_index (lexeme Word ∷ []) (index ∷ []) tokens at mid stop refl p q)
+pub place_stopped : (tokens : List Token) (at mid stop : ℕ) → Ended [] (lexeme Word ∷ []) tokens at mid → Stopped joins_index (index ∷ []) tokens mid
+    stop → Stopped joins_index (form a_place ∷ []) tokens at stop
+place_stopped tokens at mid stop p q =
+    form_stopped joins_index a_place (lexeme Word) index tokens at stop refl
+    (stopped_then [] joins_index (lexeme Word ∷ []) (index ∷ []) tokens at mid stop refl p q)
 
 pub word_stopped : (tokens : List Token) (at stop : ℕ) → Stopped [] (lexeme Word ∷ []) tokens at stop → Stopped joins_index (form a_place ∷ []) tokens at stop
 word_stopped tokens at stop p = form_stopped joins_index a_place (lexeme Word) index tokens at stop refl (stopped_before [] joins_index (lexeme Word ∷ []) (index ∷ []) tokens at stop refl p)
 
 -- an assignment that begins with a place, and what stands behind the place
-pub assign_ended : (tokens : List Token) (at mid end : ℕ) → first (drop at tokens) ≡ Word → Ended joins_index (form a_place ∷ []) tokens at mid → EndedAny (joins 6) operations tokens mid end → Ended (joins 6) (form an_assign ∷ []) tokens at end
-assign_ended tokens at mid end f p q = one_ended (alike_ended (joins 6) (fronted (form a_place ∷ []) operations) ((form an_assign ∷ []) ∷ []) tokens at end (omega arith) (omega arith) (word_alike (first (drop at tokens)) f) (front_ended joins_index (joins 6) (form a_place ∷ []) operations tokens at mid end refl p q))
+pub assign_ended : (tokens : List Token) (at mid end : ℕ) → first (drop at tokens) ≡ Word → Ended joins_index (form a_place ∷ []) tokens at mid →
+    EndedAny (joins 6) operations tokens mid end → Ended (joins 6) (form an_assign ∷ []) tokens at end
+assign_ended tokens at mid end f p q =
+    one_ended
+    (alike_ended (joins 6) (fronted (form a_place ∷ []) operations) ((form an_assign ∷ []) ∷ []) tokens at end (omega arith) (omega arith)
+    (word_alike (first (drop at tokens)) f) (front_ended joins_index (joins 6) (form a_place ∷ []) operations tokens at mid end refl p q))
 
-pub assign_stopped : (tokens : List Token) (at mid stop : ℕ) → first (drop at tokens) ≡ Word → Ended joins_index (form a_place ∷ []) tokens at mid → StoppedAny (joins 6) operations tokens mid stop → Stopped (joins 6) (form an_assign ∷ []) tokens at stop
-assign_stopped tokens at mid stop f p q = one_stopped (alike_stopped (joins 6) (fronted (form a_place ∷ []) operations) ((form an_assign ∷ []) ∷ []) tokens at stop (omega arith) (omega arith) (word_alike (first (drop at tokens)) f) (front_stopped joins_index (joins 6) (form a_place ∷ []) operations tokens at mid stop refl p q))
+pub assign_stopped : (tokens : List Token) (at mid stop : ℕ) → first (drop at tokens) ≡ Word → Ended joins_index (form a_place ∷ []) tokens at mid →
+    StoppedAny (joins 6) operations tokens mid stop → Stopped (joins 6) (form an_assign ∷ []) tokens at stop
+assign_stopped tokens at mid stop f p q =
+    one_stopped
+    (alike_stopped (joins 6) (fronted (form a_place ∷ []) operations) ((form an_assign ∷ []) ∷ []) tokens at stop (omega arith) (omega arith)
+    (word_alike (first (drop at tokens)) f) (front_stopped joins_index (joins 6) (form a_place ∷ []) operations tokens at mid stop refl p q))
 
-pub assign_place_stopped : (tokens : List Token) (at stop : ℕ) → first (drop at tokens) ≡ Word → Stopped joins_index (form a_place ∷ []) tokens at stop → Stopped (joins 6) (form an_assign ∷ []) tokens at stop
-assign_place_stopped tokens at stop f p = one_stopped (alike_stopped (joins 6) (fronted (form a_place ∷ []) operations) ((form an_assign ∷ []) ∷ []) tokens at stop (omega arith) (omega arith) (word_alike (first (drop at tokens)) f) (front_stopped_before joins_index (joins 6) (form a_place ∷ []) operations tokens at stop (omega arith) refl p))
+pub assign_place_stopped : (tokens : List Token) (at stop : ℕ) → first (drop at tokens) ≡ Word → Stopped joins_index (form a_place ∷ []) tokens at
+    stop → Stopped (joins 6) (form an_assign ∷ []) tokens at stop
+assign_place_stopped tokens at stop f p =
+    one_stopped
+    (alike_stopped (joins 6) (fronted (form a_place ∷ []) operations) ((form an_assign ∷ []) ∷ []) tokens at stop (omega arith) (omega arith)
+    (word_alike (first (drop at tokens)) f)
+    (front_stopped_before joins_index (joins 6) (form a_place ∷ []) operations tokens at stop (omega arith) refl p))

@@ -52,6 +52,7 @@ failed tokens (Fault (TooDeep n)) g h = absurd h
 failed tokens (Fault (Syntax n)) g h = stopped_unit tokens n g h
 
 -- the fault of the reader of definitions, passed on
-pub fails_unit : {T : Type 0} (tokens : List Token) (r : Result T (Fail ParseFault)) (f : Fail ParseFault) → IsErrAnd r (λ e. e ≡ f) → NestsWithin 64 tokens → Fails f (Stopped joins_unit (many (form a_def) ∷ []) tokens 0) → IfErr r (FailsBy tokens)
+pub fails_unit : {T : Type 0} (tokens : List Token) (r : Result T (Fail ParseFault)) (f : Fail ParseFault) → IsErrAnd r (λ e. e ≡ f) → NestsWithin 64
+    tokens → Fails f (Stopped joins_unit (many (form a_def) ∷ []) tokens 0) → IfErr r (FailsBy tokens)
 fails_unit tokens (Ok x) f i g h = tt
 fails_unit tokens (Err e) f i g h = subst (FailsBy tokens) (sym i) (failed tokens f g h)

@@ -62,9 +62,9 @@ take-written xs ys n long all =
 
 -- ---- tests of all or any
 
-pub list_any-map : {X Y : Type 0} (p : Y → Bool) (f : X → Y) (xs : List X) → list_any p (map f xs) ≡ list_any (λ x. p (f x)) xs
-list_any-map p f [] = refl
-list_any-map p f (x ∷ xs) = ap (λ b. p (f x) || b) (list_any-map p f xs)
+pub list_any_map : {X Y : Type 0} (p : Y → Bool) (f : X → Y) (xs : List X) → list_any p (map f xs) ≡ list_any (λ x. p (f x)) xs
+list_any_map p f [] = refl
+list_any_map p f (x ∷ xs) = ap (λ b. p (f x) || b) (list_any_map p f xs)
 
 pub list_any-at : {X : Type 0} (p : X → Bool) (xs : List X) (k : ℕ) (x : X)
     → slice_get xs k ≡ Some x → p x ≡ true → list_any p xs ≡ true

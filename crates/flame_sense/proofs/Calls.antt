@@ -3,8 +3,6 @@ use Rattle.std.proofs.Common.{◌≡◌, ◌≢◌, ℕ, zero, suc, ◌-◌, Lis
 use Rattle.std.specs.Prelude.{ℤ}
 use Rattle.flame_spec.specs.declared.models.Model.{Model}
 use Rattle.flame_spec.specs.Definitions.{Definition}
-use Rattle.flame_meaning.specs.Scenes.{failed}
-use Rattle.flame_meaning.specs.Ends.{no_fuel}
 use Rattle.flame_meaning.specs.Statements.{meanings}
 use Rattle.flame_meaning.specs.HelperCalls.{gives, entered, helper_scene, calls_within}
 
@@ -29,22 +27,3 @@ opened (suc levels) model helpers constants iteration line helper values (suc fu
     ∙ ap (λ n. gives (meanings helper.body
     (helper_scene model helpers constants iteration (calls_within (suc levels - 1) model helpers constants iteration))
     (entered helper.parameters values n))) f
-
--- one without fuel
-pub unpaid :
-    (levels : ℕ) (model : Model) (helpers : List Definition) (constants : List ℤ) (iteration : ℤ)
-    (line : ℕ) (helper : Definition) (values : List ℤ) (fuel : ℕ)
-    → fuel ≡ 0
-    → calls_within levels model helpers constants iteration line helper values fuel ≡ failed (no_fuel line)
-unpaid levels model helpers constants iteration line helper values fuel e =
-    ap (calls_within levels model helpers constants iteration line helper values) e
-
--- one inside the last
-pub too_deep :
-    (levels : ℕ) (model : Model) (helpers : List Definition) (constants : List ℤ) (iteration : ℤ)
-    (line : ℕ) (helper : Definition) (values : List ℤ) (fuel : ℕ)
-    → levels ≡ 0
-    → calls_within levels model helpers constants iteration line helper values fuel ≡ failed (no_fuel line)
-too_deep levels model helpers constants iteration line helper values zero e = refl
-too_deep levels model helpers constants iteration line helper values (suc fuel) e =
-    ap (λ n. calls_within n model helpers constants iteration line helper values (suc fuel)) e

@@ -2,7 +2,7 @@
 use Rattle.std.proofs.Common.{◌≡◌, ℕ, List, refl, ap, Option, Some, None, option_map}
 use Rattle.std.specs.Prelude.{unwrap_or}
 use Rattle.flame_spec.specs.declared.models.Variable.{Variable}
-use Rattle.flame_spec.specs.LookUps.{Given, in_memory, constant, iteration, given_by, given_beside, constant_named}
+use Rattle.flame_spec.specs.LookUps.{Given, in_memory, constant, iteration, given_by}
 use Rattle.flame_sense.specs.declared.words.Span.{Span}
 use Rattle.flame_spec.specs.Scopes.{given_at}
 use Rattle.flame_sense.specs.declared.scene.Open.{Open}
@@ -16,13 +16,6 @@ pub in_memory_value :
     → value_found found s.memory ≡ value_given (given_by found constants word) scene s
 in_memory_value None constants word scene s span e = cc
 in_memory_value (Some found) constants word scene s span e = refl
-
-pub beside_memory :
-    (found : Option (ℕ × Variable)) (constants : List (List ℕ)) (word : List ℕ)
-    → None ≡ option_map span_of found
-    → given_by found constants word ≡ given_beside (constant_named constants word) word
-beside_memory None constants word e = refl
-beside_memory (Some found) constants word e = cc
 
 given_anywhere :
     (given : Option Given) (scene : code.Scene) (a b : Open) (s : Progress)

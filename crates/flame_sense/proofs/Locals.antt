@@ -15,9 +15,6 @@ visible-append xs ys = ap reverse (map-append local_of xs ys) ∙ reverse-append
 pub visible-cons : (x : variable.Local) (xs : List variable.Local) → visible (x ∷ xs) ≡ visible xs ++ local_of x ∷ []
 visible-cons x xs = reverse-append (local_of x ∷ []) (map local_of xs)
 
-pub visible-push : (xs : List variable.Local) (x : variable.Local) → visible (xs ++ x ∷ []) ≡ local_of x ∷ visible xs
-visible-push xs x = visible-append xs (x ∷ [])
-
 -- newer locals of other names hide nothing
 value_behind :
     (word : List ℕ) (xs ys : List Local)

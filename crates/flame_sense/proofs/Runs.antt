@@ -2,28 +2,26 @@
 use mir.Syntax.{w32}
 use mir.Val.{SFits, to_z, of_z}
 use Rattle.std.proofs.lemmas.Int.{to_z-of_z}
-use Rattle.std.proofs.Common.{◌≡◌, ◌≢◌, ℕ, ◌+◌, ◌<◌, ◌≤◌, List, ◌∷◌, length, drop, get_or, refl, sym, ap, ◌∙◌, subst, Bool, true, false, cond, Option, Some, None, option_map, rules, Bor, ◌⊎◌, inl, inr}
+use Rattle.std.proofs.Common.{◌≡◌, ◌≢◌, ℕ, ◌+◌, ◌<◌, ◌≤◌, List, ◌∷◌, length, drop, get_or, refl, sym, ap, ◌∙◌, subst, Bool, true, false, Option, Some, None, option_map, rules, Bor, ◌⊎◌, inl, inr}
 use Rattle.std.specs.Prelude.{ℤ, pos, Result, Ok, Err, IfOk, IfNone, map, not}
 use Rattle.std.specs.Ordering.{int_eq}
 use Rattle.std.specs.Option.{option_copied}
 use Rattle.std.proofs.lemmas.Bool.Decides.{Decides-int_eq}
-use Rattle.std.proofs.lemmas.List.{at_drop_more, at_drop_all}
-use Rattle.flame_spec.specs.declared.faults.Fault.{Fault}
+use Rattle.std.proofs.lemmas.List.{at_drop_more}
 use Rattle.flame_spec.specs.declared.trees.Stmt.{Stmt}
 use Rattle.flame_spec.specs.declared.trees.Expr.{Expr}
-use Rattle.flame_spec.specs.declared.trees.Arm.{Arm}
 use Rattle.flame_spec.specs.Trees.{Expression, Statements, Assigned}
-use Rattle.flame_spec.specs.Seen.{expression, statements, arms}
+use Rattle.flame_spec.specs.Seen.{expression, statements}
 use Rattle.flame_sense.specs.declared.ending.Ending.{Ending}
 use Rattle.flame_sense.specs.declared.ending.Ending.TheVariants.{WentOn, Broke, Continued, Returned, Faulted}
 use Rattle.flame_sense.specs.declared.scene.Scene as code
 use Rattle.flame_sense.specs.declared.scene.Open.{Open, the_lemmas}
 use Rattle.flame_sense.specs.declared.scene.Open.TheVariants.{Over}
 use Rattle.flame_meaning.specs.Scenes.{Scene, Progress, Current}
-use Rattle.flame_meaning.specs.Expressions.{holds, value_of}
-use Rattle.flame_meaning.specs.Ends.{End, went_on, faulted, with_value, on_to, outside, leave, as_scope}
+use Rattle.flame_meaning.specs.Expressions.{holds}
+use Rattle.flame_meaning.specs.Ends.{End, on_to, outside, leave, as_scope}
 use Rattle.flame_meaning.specs.Loops.{turn, each_row}
-use Rattle.flame_meaning.specs.Statements.{test_value, step_of, inside, meanings, first_arm}
+use Rattle.flame_meaning.specs.Statements.{test_value, step_of, inside, meanings}
 use Rattle.flame_meaning.specs.Kept.{Leaves}
 use Rattle.flame_sense.specs.StandsFor.{currents, scene_seen, end_of, after}
 use Rattle.flame_meaning.proofs.Turns.{Falls, Fall, body_falls, calls_fall, step_falls, whole}
@@ -80,15 +78,6 @@ block_falls body scene s t e fall h g =
 
 -- ---- branches
 
-pub arms_at :
-    (more : List Arm) (i : ℕ) (d : Arm) (otherwise : Progress → End) (scene : Scene) (s : Progress)
-    → i < length more
-    → first_arm (arms (drop i more)) otherwise scene s
-    ≡ with_value (value_of (expression (get_or more i d).test) scene s) (λ v.
-    cond (holds v) (as_scope (meanings (statements (get_or more i d).body) scene) s)
-    (first_arm (arms (drop (i + 1) more)) otherwise scene s))
-arms_at more i d otherwise scene s h = at_drop_more (λ l. first_arm (arms l) otherwise scene s) more i d h
-
 -- ---- message loops
 
 -- the body of a message loop at a row
@@ -116,68 +105,6 @@ nonzero_holds v f h = by_test (int_eq v (pos 0)) (Decides-int_eq v (pos 0)).0
 pub zero_fails : (v : ℤ) → SFits w32 v → of_z w32 v ≡ 0 → holds v ≡ false
 zero_fails v f e = ap holds (sym (to_z-of_z w32 v f) ∙ ap (to_z w32) e)
 
-arm_at :
-    (more : List Arm) (i : ℕ) (item : Arm) (otherwise : Progress → End) (scene : Scene) (s : Progress)
-    → i < length more
-    → item ≡ get_or more i item
-    → first_arm (arms (drop i more)) otherwise scene s
-    ≡ with_value (value_of (expression item.test) scene s) (λ v.
-    cond (holds v) (as_scope (meanings (statements item.body) scene) s)
-    (first_arm (arms (drop (i + 1) more)) otherwise scene s))
-arm_at more i item otherwise scene s h is =
-    arms_at more i item otherwise scene s h
-    ∙ ap (λ a. with_value (value_of (expression a.test) scene s) (λ v.
-    cond (holds v) (as_scope (meanings (statements a.body) scene) s)
-    (first_arm (arms (drop (i + 1) more)) otherwise scene s))) (sym is)
-
-pub arm_holds :
-    (more : List Arm) (i : ℕ) (item : Arm) (otherwise : Progress → End) (scene : Scene) (s : Progress) (v : ℤ)
-    → i < length more
-    → item ≡ get_or more i item
-    → Ok v ≡ value_of (expression item.test) scene s
-    → holds v ≡ true
-    → first_arm (arms (drop i more)) otherwise scene s ≡ as_scope (meanings (statements item.body) scene) s
-arm_holds more i item otherwise scene s v h is e holds_too =
-    arm_at more i item otherwise scene s h is
-    ∙ ap (λ r. with_value r (λ w.
-    cond (holds w) (as_scope (meanings (statements item.body) scene) s)
-    (first_arm (arms (drop (i + 1) more)) otherwise scene s))) (sym e)
-    ∙ ap (λ b. cond b (as_scope (meanings (statements item.body) scene) s)
-    (first_arm (arms (drop (i + 1) more)) otherwise scene s)) holds_too
-
-pub arm_fails :
-    (more : List Arm) (i : ℕ) (item : Arm) (otherwise : Progress → End) (scene : Scene) (s : Progress) (v : ℤ)
-    → i < length more
-    → item ≡ get_or more i item
-    → Ok v ≡ value_of (expression item.test) scene s
-    → holds v ≡ false
-    → first_arm (arms (drop i more)) otherwise scene s ≡ first_arm (arms (drop (i + 1) more)) otherwise scene s
-arm_fails more i item otherwise scene s v h is e fails =
-    arm_at more i item otherwise scene s h is
-    ∙ ap (λ r. with_value r (λ w.
-    cond (holds w) (as_scope (meanings (statements item.body) scene) s)
-    (first_arm (arms (drop (i + 1) more)) otherwise scene s))) (sym e)
-    ∙ ap (λ b. cond b (as_scope (meanings (statements item.body) scene) s)
-    (first_arm (arms (drop (i + 1) more)) otherwise scene s)) fails
-
-pub arm_faults :
-    (more : List Arm) (i : ℕ) (item : Arm) (otherwise : Progress → End) (scene : Scene) (s : Progress) (fault : Fault)
-    → i < length more
-    → item ≡ get_or more i item
-    → Err fault ≡ value_of (expression item.test) scene s
-    → first_arm (arms (drop i more)) otherwise scene s ≡ faulted fault
-arm_faults more i item otherwise scene s fault h is e =
-    arm_at more i item otherwise scene s h is
-    ∙ ap (λ r. with_value r (λ w.
-    cond (holds w) (as_scope (meanings (statements item.body) scene) s)
-    (first_arm (arms (drop (i + 1) more)) otherwise scene s))) (sym e)
-
-pub no_arm :
-    (more : List Arm) (i : ℕ) (otherwise : Progress → End) (scene : Scene) (s : Progress)
-    → length more ≤ i
-    → first_arm (arms (drop i more)) otherwise scene s ≡ otherwise s
-no_arm more i otherwise scene s h = at_drop_all (λ l. first_arm (arms l) otherwise scene s) more i h
-
 -- a turn over a row, where the program has the row at the front of the open loops
 pub row_turn :
     (line : ℕ) (body : List Stmt) (scene : code.Scene) (message : ℕ) (rows : List (Bor (List ℤ))) (i : ℕ)
@@ -194,12 +121,6 @@ row_turn line body scene message rows i row outer s o t h is means =
     ∙ ap (λ r. turn line (over_row body (scene_seen scene outer.now) (stands_at message r)) rest s) (sym is)
     ∙ ap (λ inner. turn line (as_scope (meanings (statements body) inner)) rest s) (sym (scene_inside scene message row outer))
     ∙ means rest
-
-pub no_row :
-    (line : ℕ) (body : Current → Progress → End) (message : ℕ) (rows : List (Bor (List ℤ))) (i : ℕ) (s : Progress)
-    → length rows ≤ i
-    → each_row line body (map (stands_at message) (drop i rows)) s ≡ went_on s
-no_row line body message rows i s h = at_drop_all (λ l. each_row line body (map (stands_at message) l) s) rows i h
 
 -- ---- `for`
 

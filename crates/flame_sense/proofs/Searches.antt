@@ -9,7 +9,7 @@ use Rattle.flame_spec.specs.declared.models.Model.{Model}
 use Rattle.flame_spec.specs.declared.models.Function.{Function}
 use Rattle.flame_spec.specs.declared.trees.Def.{Def}
 use Rattle.flame_spec.specs.declared.trees.Unit.{Unit}
-use Rattle.flame_spec.specs.Definitions.{Definition, definition, definitions_of, is_for, is_helper, helpers, helper_named, definitions}
+use Rattle.flame_spec.specs.Definitions.{Definition, definition, definitions_of, is_helper, helpers, helper_named, definitions}
 use Rattle.flame_spec.specs.Functions.{functions_from, at_type}
 use Rattle.flame_spec.specs.Lists.{each_from, numbered_from}
 use Rattle.flame_sense.specs.declared.found.Wanted.{Wanted}
@@ -134,17 +134,6 @@ pub helper_found :
     → find (λ d. bytes_eq d.name word && is_helper model d) (definitions units)
     ≡ option_map (λ found. found.1) (helper_named (helpers model units) word)
 helper_found model units word = found_among (λ d. bytes_eq d.name word) (is_helper model) 0 (definitions units)
-
-and_true : (b : Bool) → b && true ≡ b
-and_true true = refl
-and_true false = refl
-
-pub any_found :
-    (units : List Unit) (function : Function)
-    → find (λ d. bytes_eq d.name function.name && true) (definitions units) ≡ find (is_for function) (definitions units)
-any_found units function =
-    found_alike (λ d. bytes_eq d.name function.name && true) (is_for function) (definitions units)
-    (λ d. and_true (bytes_eq d.name function.name))
 
 -- ---- functions of the model
 

@@ -6,9 +6,6 @@ use Rattle.flame_spec.specs.declared.models.Variable.{Variable}
 use Rattle.flame_spec.specs.Columns.{width_of, width, column, columned_from}
 use Rattle.flame_sense.specs.StandsFor.{within_reach}
 
-reach : (at width column : ℕ) → within_reach (within_reach (at + width) + column) ≡ within_reach (at + (width + column))
-reach at width column = omega arith
-
 -- the variables that stand before
 pub width-append : (xs ys : List Variable) → width (xs ++ ys) ≡ width xs + width ys
 width-append [] ys = omega arith
@@ -39,36 +36,9 @@ next_found passes variables i variable h is fails =
     (columned_from passes (width (take i variables) + width_of variable) (drop (i + 1) variables))) fails
     ∙ ap (λ n. columned_from passes n (drop (i + 1) variables)) (sym (width_more variables i variable h is))
 
-pub this_found :
-    (passes : Variable → Bool) (variables : List Variable) (i : ℕ) (variable : Variable)
-    → i < length variables
-    → variable ≡ get_or variables i variable
-    → passes variable ≡ true
-    → columned_from passes (width (take i variables)) (drop i variables) ≡ Some (width (take i variables), variable)
-this_found passes variables i variable h is holds =
-    at_drop_more (columned_from passes (width (take i variables))) variables i variable h
-    ∙ ap (λ v. columned_from passes (width (take i variables)) (v ∷ drop (i + 1) variables)) (sym is)
-    ∙ ap (λ b. cond b (Some (width (take i variables), variable))
-    (columned_from passes (width (take i variables) + width_of variable) (drop (i + 1) variables))) holds
-
 -- the same for the column of a name
 abbrev pub named_behind : List ℕ → ℕ → List Variable → ℕ
 named_behind name at variables = within_reach (at + column name variables)
-
-pub next_named :
-    (name : List ℕ) (variables : List Variable) (i : ℕ) (variable : Variable) (at next whole : ℕ)
-    → i < length variables
-    → variable ≡ get_or variables i variable
-    → bytes_eq variable.name name ≡ false
-    → next ≡ within_reach (at + width_of variable)
-    → whole ≡ named_behind name at (drop i variables)
-    → whole ≡ named_behind name next (drop (i + 1) variables)
-next_named name variables i variable at next whole h is fails e w =
-    w ∙ at_drop_more (named_behind name at) variables i variable h
-    ∙ ap (λ v. named_behind name at (v ∷ drop (i + 1) variables)) (sym is)
-    ∙ ap (λ b. within_reach (at + cond b 0 (width_of variable + column name (drop (i + 1) variables)))) fails
-    ∙ sym (reach at (width_of variable) (column name (drop (i + 1) variables)))
-    ∙ ap (λ n. named_behind name n (drop (i + 1) variables)) (sym e)
 
 pub this_named :
     (name : List ℕ) (variables : List Variable) (i : ℕ) (variable : Variable) (at whole : ℕ)

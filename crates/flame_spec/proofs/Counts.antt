@@ -3,7 +3,6 @@ use Rattle.std.proofs.Common.{◌<◌, ◌^◌, List, length, IsTrue}
 use Rattle.std.specs.List.{list_all}
 use Rattle.std.proofs.lemmas.Bool.{ltb-true, and_parts}
 use Rattle.flame_spec.specs.declared.models.Model.{Model}
-use Rattle.flame_spec.specs.Before.{function_count}
 use Rattle.flame_spec.specs.Functions.{functions}
 use Rattle.flame_spec.specs.Counted.{is_numbered, is_counted_message, is_counted_agent, is_counted}
 
@@ -41,11 +40,3 @@ has_few model h =
       each_agent = g.0;
       functions = g.1;
     }
-
--- functions have numbers
-pub few_functions : (model : Model) → IsTrue (is_counted model) → function_count model < 2 ^ 32
-few_functions model h = few (functions model) (has_few model h).functions
-
--- agent types have numbers
-pub few_agents : (model : Model) → IsTrue (is_counted model) → length model.agents < 2 ^ 32
-few_agents model h = few model.agents (has_few model h).agents

@@ -7,3 +7,6 @@ pub mod Viewed
 pub mod Beginnings
 pub mod Alike
 pub mod Counts
+pub mod FaultTests
+pub mod Numbered
+pub mod OpenLoops

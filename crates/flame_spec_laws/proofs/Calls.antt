@@ -1,8 +1,11 @@
 -- What calls without faults are.
-use Rattle.std.proofs.Common.{◌≡◌, ℕ, ◌==◌, true, false, List, [], ◌++◌, codes, Contains, Option, Some, None, refl, ap}
-use Rattle.std.proofs.Common.{sym, ◌∙◌, subst, arith}
+use Rattle.std.proofs.Common.{◌≡◌, ℕ, true, false, List, [], ◌++◌, codes, Contains, Option, Some, None, refl, ap}
+use Rattle.std.proofs.Common.{sym, ◌∙◌, subst}
 use Rattle.std.specs.Str.{bytes_eq}
-use Rattle.std.proofs.lemmas.Bool.{not-false}
+use Rattle.std.proofs.lemmas.Bool.{not-false, eqb-true}
+use Rattle.flame_rows.proofs.Bytes.{bytes_eq-true}
+use Rattle.flame_rows.proofs.Lists.{append-is_nil_left, append-is_nil_right}
+use Rattle.flame_rows.proofs.Truths.{is_some-false}
 use Rattle.flame_spec.specs.declared.models.Variable.{Variable}
 use Rattle.flame_spec.specs.declared.models.MessageType.{MessageType}
 use Rattle.flame_spec.specs.declared.models.AgentType.{AgentType}
@@ -18,23 +21,19 @@ use Rattle.flame_spec.specs.CallFaults.{Deed, sets, sends, bears, calls, called_
 use Rattle.flame_spec.specs.CallFaults.{sent_or_else}
 use Rattle.flame_spec.specs.CallFaults.{set_or_else, deed_of, wanted, count, sets_array, is_no_output, sends_no_output}
 use Rattle.flame_spec.specs.CallFaults.{deed_faults}
+use Rattle.flame_spec.proofs.FaultTests.{fault_where-none}
 use Rattle.flame_spec_laws.specs.CheckLaws.{IsGetter, IsHelperCall, IsCall, stores_value, sends_output, bears_agent}
 use Rattle.flame_spec_laws.specs.CheckLaws.{calls_helper}
-use Rattle.flame_spec_laws.proofs.Found.{left-none, right-none, list_any-found}
-use Rattle.flame_spec_laws.proofs.NoFaults.{fault_where-none}
-use Rattle.flame_spec_laws.proofs.CheckedBodies.{same-bytes_eq}
-use Rattle.flame_spec_laws.proofs.LookedUp.{none-found, numbered-found, columned-found}
-
-same-number : (n m : ℕ) → n == m ≡ true → n ≡ m
-same-number n m e = grind arith
+use Rattle.flame_spec_laws.proofs.Found.{list_any-found}
+use Rattle.flame_spec_laws.proofs.LookedUp.{numbered-found, columned-found}
 
 among-Contains : (word : List ℕ) (names : List (List ℕ)) → is_among word names ≡ true → Contains names word
 among-Contains word names e =
     let (name, c, same) = list_any-found (bytes_eq word) names e in
-    subst (λ w. Contains names w) (sym (same-bytes_eq word name same)) c
+    subst (λ w. Contains names w) (sym (bytes_eq-true word name same)) c
 
 pub getter : (at : Context) (line : ℕ) (word : List ℕ) → get_faults at line word ≡ [] → IsGetter at word
-getter at line word none = by_variable (memory_got (memory_at at) word) refl (left-none _ _ none) (right-none _ _ none)
+getter at line word none = by_variable (memory_got (memory_at at) word) refl (append-is_nil_left _ _ none) (append-is_nil_right _ _ none)
   where
     by_variable :
         (o : Option (ℕ × Variable))
@@ -47,8 +46,8 @@ getter at line word none = by_variable (memory_got (memory_at at) word) refl (le
         let (c, same) = columned-found (λ v. bytes_eq (codes "get_" ++ v.name) word) 0 (memory_at at) got e in (
           got.1,
           c,
-          sym (same-bytes_eq (codes "get_" ++ got.1.name) word same),
-          none-found got.1.length (fault_where-none _ at NeedsIndex line word single),
+          sym (bytes_eq-true (codes "get_" ++ got.1.name) word same),
+          is_some-false got.1.length (fault_where-none _ at NeedsIndex line word single),
         )
 
 -- what a deed without faults is, but for its arguments
@@ -62,10 +61,10 @@ clear :
     → deed_faults at sight (Some deed) line word arguments ≡ []
     → IsClear at deed arguments
 clear at sight deed line word arguments none = record {
-  single = fault_where-none _ at NeedsIndex line word (left-none _ _ (left-none _ _ (left-none _ _ none)));
-  counted = same-number _ _
-      (not-false _ (fault_where-none _ at WrongCount line word (right-none _ _ (left-none _ _ (left-none _ _ none)))));
-  output = fault_where-none _ at NotOutput line word (right-none _ _ (left-none _ _ none));
+  single = fault_where-none _ at NeedsIndex line word (append-is_nil_left _ _ (append-is_nil_left _ _ (append-is_nil_left _ _ none)));
+  counted = eqb-true _ _
+      (not-false _ (fault_where-none _ at WrongCount line word (append-is_nil_right _ _ (append-is_nil_left _ _ (append-is_nil_left _ _ none)))));
+  output = fault_where-none _ at NotOutput line word (append-is_nil_right _ _ (append-is_nil_left _ _ none));
 }
 
 pub helper_call :
@@ -85,7 +84,7 @@ helper_call at sight line word arguments none = by_helper (helper_named at.helpe
         record {
           helper = found.1;
           known = c;
-          named = sym (same-bytes_eq found.1.name word same);
+          named = sym (bytes_eq-true found.1.name word same);
           counted = (clear at sight (calls found.0 found.1) line word arguments faults).counted;
         }
 
@@ -97,8 +96,8 @@ module _ (at : Context) (sight : Sight) (line : ℕ) (word : List ℕ) (argument
       → IsCall at word arguments
   stored found e is =
       let (c, same) = columned-found (λ v. bytes_eq (codes "set_" ++ v.name) word) 0 (memory_at at) found e in
-      stores_value found.1 c (sym (same-bytes_eq (codes "set_" ++ found.1.name) word same))
-      (none-found found.1.length is.single) is.counted
+      stores_value found.1 c (sym (bytes_eq-true (codes "set_" ++ found.1.name) word same))
+      (is_some-false found.1.length is.single) is.counted
 
   sent :
       (found : ℕ × MessageType) (place : Place)
@@ -112,7 +111,7 @@ module _ (at : Context) (sight : Sight) (line : ℕ) (word : List ℕ) (argument
       (λ m. bytes_eq (codes "add_" ++ (m.name ++ codes "_message")) word) 0 at.model.messages found e in
       let output : is_no_output (Some place) found.1 ≡ false
       = sym (ap (λ o. is_no_output o found.1) runs) ∙ is.output in
-      sends_output place found.1 runs c (sym (same-bytes_eq _ word same)) is.counted
+      sends_output place found.1 runs c (sym (bytes_eq-true _ word same)) is.counted
       (among-Contains found.1.name place.function.outputs (not-false _ output))
 
   born :
@@ -124,7 +123,7 @@ module _ (at : Context) (sight : Sight) (line : ℕ) (word : List ℕ) (argument
   born found place e runs is =
       let (c, same)
       = numbered-found (λ t. bytes_eq (codes "add_" ++ (t.name ++ codes "_agent")) word) 0 at.model.agents found e in
-      bears_agent place found.1 runs c (sym (same-bytes_eq _ word same)) is.counted
+      bears_agent place found.1 runs c (sym (bytes_eq-true _ word same)) is.counted
 
   by_born :
       (o : Option (ℕ × AgentType)) (runs : Option Place)

@@ -4,8 +4,9 @@ use Rattle.std.proofs.Common.{◌+◌, count_by, subst, Contains, Some, ◌⊎�
 use Rattle.std.specs.List.{list_any, flat_map, filter, find}
 use Rattle.std.specs.Str.{bytes_eq}
 use Rattle.std.proofs.lemmas.Bool.{or_left, or_right}
-use Rattle.std.proofs.lemmas.Slice.Eq.{bytes_eq-Decides}
 use Rattle.std.proofs.lemmas.List.Sums.{sum_by-cons}
+use Rattle.flame_rows.proofs.Bytes.{bytes_eq-true, bytes_eq-same}
+use Rattle.flame_rows.proofs.Lists.{append-is_nil_left, append-is_nil_right}
 use Rattle.flame_spec.specs.declared.models.Model.{Model}
 use Rattle.flame_spec.specs.declared.models.Function.{Function}
 use Rattle.flame_spec.specs.declared.trees.Unit as file
@@ -22,23 +23,17 @@ use Rattle.flame_spec.specs.CheckFaults.{with_parameters_faults, missing_where}
 use Rattle.flame_spec.specs.CheckFaults.{missing_faults, definition_faults, body_faults, bodies_faults, check_faults}
 use Rattle.flame_spec_laws.specs.BodyParts.{Part, defining, StandsIn}
 use Rattle.flame_spec_laws.specs.CheckLaws.{IsBodyOf, IsChecked, for_function, for_helper}
-use Rattle.flame_spec_laws.proofs.Found.{left-none, right-none, Contains-cases, Contains-head, Contains-later, flat_map-none}
+use Rattle.flame_spec_laws.proofs.Found.{Contains-cases, Contains-head, Contains-later, flat_map-none}
 use Rattle.flame_spec_laws.proofs.Found.{list_any-at}
 use Rattle.flame_spec_laws.proofs.NoFaults.{part_faults, no_faults}
 
 -- ---- texts
 
-pub bytes_eq-same : (xs ys : List ℕ) → xs ≡ ys → bytes_eq xs ys ≡ true
-bytes_eq-same xs ys e = (bytes_eq-Decides xs ys).1 e
-
-pub same-bytes_eq : (xs ys : List ℕ) → bytes_eq xs ys ≡ true → xs ≡ ys
-same-bytes_eq xs ys e = (bytes_eq-Decides xs ys).0 e
-
 pub bytes_eq-other : (xs ys : List ℕ) → xs ≢ ys → bytes_eq xs ys ≡ false
 bytes_eq-other xs ys differ = by_answer (bytes_eq xs ys) refl
   where
     by_answer : (b : Bool) → bytes_eq xs ys ≡ b → bytes_eq xs ys ≡ false
-    by_answer true e = absurd (differ (same-bytes_eq xs ys e))
+    by_answer true e = absurd (differ (bytes_eq-true xs ys e))
     by_answer false e = e
 
 -- ---- the parts of the list
@@ -87,31 +82,31 @@ none_of_all model units none = record {
     f = flat_map (bodies_faults model hs) ds
 
     bodies : f ≡ []
-    bodies = right-none (a ++ b ++ c ++ d ++ e) f none
+    bodies = append-is_nil_right (a ++ b ++ c ++ d ++ e) f none
 
     before_bodies : a ++ b ++ c ++ d ++ e ≡ []
-    before_bodies = left-none (a ++ b ++ c ++ d ++ e) f none
+    before_bodies = append-is_nil_left (a ++ b ++ c ++ d ++ e) f none
 
     deep : e ≡ []
-    deep = right-none (a ++ b ++ c ++ d) e before_bodies
+    deep = append-is_nil_right (a ++ b ++ c ++ d) e before_bodies
 
     before_deep : a ++ b ++ c ++ d ≡ []
-    before_deep = left-none (a ++ b ++ c ++ d) e before_bodies
+    before_deep = append-is_nil_left (a ++ b ++ c ++ d) e before_bodies
 
     recursive : d ≡ []
-    recursive = right-none (a ++ b ++ c) d before_deep
+    recursive = append-is_nil_right (a ++ b ++ c) d before_deep
 
     before_recursive : a ++ b ++ c ≡ []
-    before_recursive = left-none (a ++ b ++ c) d before_deep
+    before_recursive = append-is_nil_left (a ++ b ++ c) d before_deep
 
     missing : c ≡ []
-    missing = right-none (a ++ b) c before_recursive
+    missing = append-is_nil_right (a ++ b) c before_recursive
 
     having : b ≡ []
-    having = right-none a b (left-none (a ++ b) c before_recursive)
+    having = append-is_nil_right a b (append-is_nil_left (a ++ b) c before_recursive)
 
     twice : a ≡ []
-    twice = left-none a b (left-none (a ++ b) c before_recursive)
+    twice = append-is_nil_left a b (append-is_nil_left (a ++ b) c before_recursive)
 
 -- ---- C functions that are checked
 
@@ -267,13 +262,13 @@ none-later function earlier (d ∷ ds) among none =
         → count_by (is_for function) (d ∷ ds) ≡ 0
     by_name true e later =
         let once : is_among d.name earlier ≡ false
-        = twice_where-none (is_among d.name earlier) d (left-none _ (twice_faults (d.name ∷ earlier) ds) none) in
-        let same : d.name ≡ function.name = same-bytes_eq d.name function.name e in
+        = twice_where-none (is_among d.name earlier) d (append-is_nil_left _ (twice_faults (d.name ∷ earlier) ds) none) in
+        let same : d.name ≡ function.name = bytes_eq-true d.name function.name e in
         let moved : is_among d.name earlier ≡ true = ap (λ name. is_among name earlier) same ∙ among in
         cc
     by_name false e later =
         sum_by-cons (λ c. cond (is_for function c) 1 0) d ds
-        ∙ rw e (zero-add _ ∙ later (right-none (twice_where (is_among d.name earlier) d) _ none))
+        ∙ rw e (zero-add _ ∙ later (append-is_nil_right (twice_where (is_among d.name earlier) d) _ none))
 
 -- of C functions of which none has an earlier one's name, one has a name that one of them has
 one-named :
@@ -286,7 +281,7 @@ one-named function earlier (d ∷ ds) any none =
     by_name (bytes_eq d.name function.name) refl any (one-named function (d.name ∷ earlier) ds)
   where
     more : twice_faults (d.name ∷ earlier) ds ≡ []
-    more = right-none (twice_where (is_among d.name earlier) d) _ none
+    more = append-is_nil_right (twice_where (is_among d.name earlier) d) _ none
 
     by_name :
         (b : Bool)
@@ -297,7 +292,7 @@ one-named function earlier (d ∷ ds) any none =
         → count_by (is_for function) ds ≡ 1)
         → count_by (is_for function) (d ∷ ds) ≡ 1
     by_name true e any' later =
-        let same : function.name ≡ d.name = sym (same-bytes_eq d.name function.name e) in
+        let same : function.name ≡ d.name = sym (bytes_eq-true d.name function.name e) in
         let among : is_among function.name (d.name ∷ earlier) ≡ true
         = or_left (bytes_eq function.name d.name) _ (bytes_eq-same function.name d.name same) in
         sum_by-cons (λ c. cond (is_for function c) 1 0) d ds

@@ -1,11 +1,13 @@
 -- Conditions and filters that can be read by columns.
-use Rattle.std.proofs.Common.{◌≡◌, ℕ, zero, suc, ◌<◌, ◌^◌, ℤ, pos, Bool, true, false, true≢false, ◌&&◌, List, []}
-use Rattle.std.proofs.Common.{◌∷◌, get_or, Option, Some, None, refl, ap, sym, ◌∙◌, arith, rules}
+use Rattle.std.proofs.Common.{◌≡◌, ℕ, ◌<◌, ◌^◌, ℤ, pos, Bool, true, false, true≢false, ◌&&◌, List, []}
+use Rattle.std.proofs.Common.{get_or, Option, Some, None, refl, ap, sym, ◌∙◌, arith, rules}
 use Rattle.std.specs.Prelude.{slice_get, int_le}
 use Rattle.std.specs.List.{list_all}
 use Rattle.std.specs.Option.{option_map_or}
 use Rattle.std.proofs.lemmas.Option.{slice_get-get_or}
 use denote.Hole.Carrier.{hidden}
+use Rattle.std.proofs.lemmas.Bool.{and_parts, and_from}
+use Rattle.flame_rows.proofs.Lists.{list_all-at}
 use Rattle.flame_ops.specs.declared.integers.Op.{Op}
 use Rattle.flame_spec.specs.declared.conditions.Condition.{Condition, Compare, And, Or, Not, Time, And', Or', Not'}
 use Rattle.flame_spec.specs.declared.conditions.Condition.{more_of-Condition, end_of-Condition, the_lemmas}
@@ -38,27 +40,6 @@ use Rattle.flame_spec_laws.proofs.NameKnowledge.{knows-And, knows-Or, knows-Not,
 use Rattle.flame_spec_laws.proofs.UsedKnown.{used_declared}
 
 -- ---- tests
-
-pub left_true : (a b : Bool) → a && b ≡ true → a ≡ true
-left_true true b e = refl
-left_true false b e = cc
-
-pub right_true : (a b : Bool) → a && b ≡ true → b ≡ true
-right_true true b e = e
-right_true false b e = cc
-
-both_true : (a b : Bool) → a ≡ true → b ≡ true → a && b ≡ true
-both_true a b e f = cc
-
-pub all_at : {X : Type 0} (p : X → Bool) (xs : List X) (k : ℕ) (x : X)
-    → list_all p xs ≡ true
-    → slice_get xs k ≡ Some x
-    → p x ≡ true
-all_at p [] k x all at = cc
-all_at p (y ∷ xs) zero x all at =
-    let same : y ≡ x = cc in
-    sym (ap p same) ∙ left_true (p y) _ all
-all_at p (y ∷ xs) (suc k) x all at = all_at p xs k x (right_true (p y) _ all) at
 
 there : {X : Type 0} (p : X → Bool) (o : Option X) (x : X) → option_map_or p o true ≡ true → o ≡ Some x → p x ≡ true
 there p None x all is = cc
@@ -117,21 +98,21 @@ condition_lengths scope units (And' _ (more_of-Condition a end_of-Condition) _ (
     same known h =
     let parts = sym (knows-And scope a b) ∙ h in
     lengths-And units a b
-    ∙ both_true _ _ (condition_lengths scope units a same known (left_true _ _ parts))
-    (condition_lengths scope units b same known (right_true _ _ parts))
+    ∙ and_from _ _ (condition_lengths scope units a same known (and_parts _ _ parts).0)
+    (condition_lengths scope units b same known (and_parts _ _ parts).1)
 condition_lengths scope units (Or' _ (more_of-Condition a end_of-Condition) _ (more_of-Condition b end_of-Condition))
     same known h =
     let parts = sym (knows-Or scope a b) ∙ h in
     lengths-Or units a b
-    ∙ both_true _ _ (condition_lengths scope units a same known (left_true _ _ parts))
-    (condition_lengths scope units b same known (right_true _ _ parts))
+    ∙ and_from _ _ (condition_lengths scope units a same known (and_parts _ _ parts).0)
+    (condition_lengths scope units b same known (and_parts _ _ parts).1)
 condition_lengths scope units (Not' _ (more_of-Condition a end_of-Condition)) same known h =
     lengths-Not units a ∙ condition_lengths scope units a same known (sym (knows-Not scope a) ∙ h)
 condition_lengths scope units (Time unit phase duration) same known h =
     lengths-Time units unit phase duration
     ∙ known_length units unit (unit_length units unit)
     (known.lengths unit
-    (ap (is_among unit) (sym same) ∙ left_true _ _ (sym (knows-Time scope unit phase duration) ∙ h)))
+    (ap (is_among unit) (sym same) ∙ (and_parts _ _ (sym (knows-Time scope unit phase duration) ∙ h)).0))
 
 filter_lengths :
     (units : List TimeUnit) (filter : Condition)
@@ -142,11 +123,11 @@ filter_lengths units (Compare op a b) h = lengths-Compare units op a b
 filter_lengths units (And' _ (more_of-Condition a end_of-Condition) _ (more_of-Condition b end_of-Condition)) h =
     let parts = sym (formed-And a b) ∙ h in
     lengths-And units a b
-    ∙ both_true _ _ (filter_lengths units a (left_true _ _ parts)) (filter_lengths units b (right_true _ _ parts))
+    ∙ and_from _ _ (filter_lengths units a (and_parts _ _ parts).0) (filter_lengths units b (and_parts _ _ parts).1)
 filter_lengths units (Or' _ (more_of-Condition a end_of-Condition) _ (more_of-Condition b end_of-Condition)) h =
     let parts = sym (formed-Or a b) ∙ h in
     lengths-Or units a b
-    ∙ both_true _ _ (filter_lengths units a (left_true _ _ parts)) (filter_lengths units b (right_true _ _ parts))
+    ∙ and_from _ _ (filter_lengths units a (and_parts _ _ parts).0) (filter_lengths units b (and_parts _ _ parts).1)
 filter_lengths units (Not' _ (more_of-Condition a end_of-Condition)) h =
     lengths-Not units a ∙ filter_lengths units a (sym (formed-Not a) ∙ h)
 filter_lengths units (Time unit phase duration) h = absurd (true≢false (sym h ∙ formed-Time unit phase duration))
@@ -155,39 +136,32 @@ filter_lengths units (Time unit phase duration) h = absurd (true≢false (sym h 
 
 units_formed : (model : Model) → is_well_formed model ≡ true → list_all is_well_formed_unit model.units ≡ true
 units_formed model h =
-    left_true (list_all is_well_formed_unit model.units) _
-    (right_true (list_all is_filled model.files) _ (right_true (list_all is_name model.constants) _ h))
+    (and_parts (list_all is_well_formed_unit model.units) _ (and_parts (list_all is_filled model.files) _ (and_parts (list_all is_name model.constants) _ h).1).1).0
 
 pub agents_formed : (model : Model) → is_well_formed model ≡ true → list_all is_well_formed_agent model.agents ≡ true
 agents_formed model h =
-    right_true (list_all is_well_formed_message model.messages) _
-    (right_true (list_all is_well_formed_unit model.units) _
-    (right_true (list_all is_filled model.files) _ (right_true (list_all is_name model.constants) _ h)))
+    (and_parts (list_all is_well_formed_message model.messages) _ (and_parts (list_all is_well_formed_unit model.units) _ (and_parts (list_all is_filled model.files) _ (and_parts (list_all is_name model.constants) _ h).1).1).1).1
 
 functions_formed : (type : AgentType)
     → is_well_formed_agent type ≡ true
     → list_all is_well_formed_function type.functions ≡ true
 functions_formed type h =
-    right_true (list_all is_well_formed_variable type.memory) _ (right_true (is_name type.name) _ h)
+    (and_parts (list_all is_well_formed_variable type.memory) _ (and_parts (is_name type.name) _ h).1).1
 
 inputs_formed : (function : Function)
     → is_well_formed_function function ≡ true
     → list_all is_well_formed_input function.inputs ≡ true
 inputs_formed function h =
-    left_true (list_all is_well_formed_input function.inputs) _
-    (right_true (option_map_or is_well_formed_condition function.condition true) _
-    (right_true (is_filled function.next) _ (right_true (is_filled function.current) _
-    (right_true (is_name function.name) _ h))))
+    (and_parts (list_all is_well_formed_input function.inputs) _ (and_parts (option_map_or is_well_formed_condition function.condition true) _ (and_parts (is_filled function.next) _ (and_parts (is_filled function.current) _ (and_parts (is_name function.name) _ h).1).1).1).1).0
 
 filter_formed : (input : Input) → is_well_formed_input input ≡ true
     → option_map_or is_well_formed_filter input.filter true ≡ true
 filter_formed input h =
-    left_true (option_map_or is_well_formed_filter input.filter true) _ (right_true (is_name input.message) _ h)
+    (and_parts (option_map_or is_well_formed_filter input.filter true) _ (and_parts (is_name input.message) _ h).1).0
 
 period_positive : (unit : TimeUnit) → is_well_formed_unit unit ≡ true → int_le (pos 1) unit.period ≡ true
 period_positive unit h =
-    left_true (int_le (pos 1) unit.period) _
-    (right_true (is_name unit.unit) _ (right_true (is_name unit.name) _ h))
+    (and_parts (int_le (pos 1) unit.period) _ (and_parts (is_name unit.unit) _ (and_parts (is_name unit.name) _ h).1).1).0
 
 -- ---- conditions and filters of accepted sources
 
@@ -211,7 +185,7 @@ condition_readable source i j type function condition is at_type at_function giv
           (all_known units_path model.units (units_none model is.named) formed) (used.condition condition given);
       periods = λ k d inside.
           period_positive (get_or model.units k d)
-          (all_at is_well_formed_unit model.units k (get_or model.units k d) formed
+          (list_all-at is_well_formed_unit model.units k (get_or model.units k d) formed
           (slice_get-get_or model.units k d inside));
       memory = narrow;
       message = omega arith;
@@ -230,10 +204,10 @@ pub filter_readable :
     → IsReadable (input_scope type message) filter
 filter_readable source i j k type function input filter message is at_type at_function at_input given narrow thin =
     let of_type =
-    all_at is_well_formed_agent source.model.agents i type (agents_formed source.model is.formed) at_type in
+    list_all-at is_well_formed_agent source.model.agents i type (agents_formed source.model is.formed) at_type in
     let of_function =
-    all_at is_well_formed_function type.functions j function (functions_formed type of_type) at_function in
-    let of_input = all_at is_well_formed_input function.inputs k input (inputs_formed function of_function) at_input in
+    list_all-at is_well_formed_function type.functions j function (functions_formed type of_type) at_function in
+    let of_input = list_all-at is_well_formed_input function.inputs k input (inputs_formed function of_function) at_input in
     record {
       lengths =
           filter_lengths [] filter

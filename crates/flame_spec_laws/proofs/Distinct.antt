@@ -1,11 +1,12 @@
 -- Different names, from lists that look back.
 use Rattle.std.proofs.Common.{◌≡◌, ℕ, zero, suc, ◌+◌, ◌<◌, List, [], ◌∷◌, ◌++◌, map, take, length, get_or, refl, sym}
-use Rattle.std.proofs.Common.{ap, subst, ◌∙◌, Bool, true, false, true≢false, arith, add-zero, zero-add, codes}
+use Rattle.std.proofs.Common.{ap, subst, ◌∙◌, Bool, false, true≢false, arith, add-zero, zero-add, codes}
 use Rattle.std.specs.Prelude.{◌||◌, pos}
 use Rattle.std.specs.Str.{bytes_eq}
 use Rattle.std.proofs.lemmas.Slice.Eq.{bytes_eq-Decides}
-use Rattle.std.proofs.lemmas.List.{take-map}
-use Rattle.flame_spec.specs.declared.faults.NameKind.{NameKind}
+use Rattle.std.proofs.lemmas.List.{take-map, length-map}
+use Rattle.std.proofs.lemmas.Bool.{or_parts}
+use Rattle.flame_rows.proofs.Lists.{append-is_nil_left, append-is_nil_right}
 use Rattle.flame_spec.specs.declared.faults.NameKind.TheVariants.{Duplicate, Clash}
 use Rattle.flame_spec.specs.declared.models.Model.{Model}
 use Rattle.flame_spec.specs.declared.models.TimeUnit.{TimeUnit}
@@ -24,14 +25,7 @@ use Rattle.flame_spec.specs.NameFaults.{agent_faults, agents_faults, type_names,
 use Rattle.flame_spec.specs.NameFaults.{name_faults}
 use Rattle.flame_spec_laws.specs.DistinctNames.{AreDistinct}
 use Rattle.flame_spec.proofs.Alike.{clashes-new}
-
-pub nil_left : {X : Type 0} (xs ys : List X) → xs ++ ys ≡ [] → xs ≡ []
-nil_left [] ys h = refl
-nil_left (x ∷ xs) ys h = absurd (cc)
-
-pub nil_right : {X : Type 0} (xs ys : List X) → xs ++ ys ≡ [] → ys ≡ []
-nil_right [] ys h = h
-nil_right (x ∷ xs) ys h = absurd (cc)
+use Rattle.flame_spec.proofs.FaultTests.{name_fault_where-none}
 
 -- where no member gives anything, each gives nothing
 pub each_nothing : {X Y : Type 0} (f : ℕ → X → List Y) (i : ℕ) (xs : List X)
@@ -41,15 +35,11 @@ pub each_nothing : {X Y : Type 0} (f : ℕ → X → List Y) (i : ℕ) (xs : Lis
     → f (i + k) (get_or xs k d) ≡ []
 each_nothing f i [] h k d inside = absurd (omega arith)
 each_nothing f i (x ∷ xs) h zero d inside =
-    ap (λ n. f n x) (add-zero i) ∙ nil_left (f i x) (each_from f (i + 1) xs) h
+    ap (λ n. f n x) (add-zero i) ∙ append-is_nil_left (f i x) (each_from f (i + 1) xs) h
 each_nothing f i (x ∷ xs) h (suc k) d inside =
     let e : i + suc k ≡ (i + 1) + k = omega arith in
     ap (λ n. f n (get_or xs k d)) e
-    ∙ each_nothing f (i + 1) xs (nil_right (f i x) (each_from f (i + 1) xs) h) k d (omega arith)
-
-pub no_test : (test : Bool) (kind : NameKind) (path name : List ℕ) → fault_where test kind path name ≡ [] → test ≡ false
-no_test true kind path name h = absurd (cc)
-no_test false kind path name h = refl
+    ∙ each_nothing f (i + 1) xs (append-is_nil_right (f i x) (each_from f (i + 1) xs) h) k d (omega arith)
 
 -- each name is none of the earlier ones
 pub record LooksBack (names : List (List ℕ)) : Type 0 where
@@ -57,10 +47,6 @@ pub record LooksBack (names : List (List ℕ)) : Type 0 where
 
 not_first : (name x : List ℕ) (rest : Bool) → (bytes_eq name x || rest) ≡ false → x ≡ name → ⊥
 not_first name x rest h e = true≢false (sym (ap (λ b. b || rest) ((bytes_eq-Decides name x).1 (sym e))) ∙ h)
-
-pub or_right : (a b : Bool) → (a || b) ≡ false → b ≡ false
-or_right true b h = absurd (true≢false h)
-or_right false b h = h
 
 apart : (name : List ℕ) (names : List (List ℕ)) (k : ℕ)
     → is_among name (take k names) ≡ false
@@ -73,7 +59,7 @@ apart name [] k h i below inside e = absurd (omega arith)
 apart name (x ∷ names) zero h i below inside e = absurd (omega arith)
 apart name (x ∷ names) (suc k) h zero below inside e = not_first name x (is_among name (take k names)) h e
 apart name (x ∷ names) (suc k) h (suc i) below inside e =
-    apart name names k (or_right (bytes_eq name x) (is_among name (take k names)) h) i (omega arith) (omega arith) e
+    apart name names k (or_parts (bytes_eq name x) (is_among name (take k names)) h).1 i (omega arith) (omega arith) e
 
 pub distinct : (names : List (List ℕ)) → LooksBack names → AreDistinct names
 distinct names back = λ i k below inside e.
@@ -85,10 +71,6 @@ pub get_or-map : {X : Type 0} (f : X → List ℕ) (d : X) (xs : List X) (k : �
 get_or-map f d [] k h = sym h
 get_or-map f d (x ∷ xs) zero h = refl
 get_or-map f d (x ∷ xs) (suc k) h = get_or-map f d xs k h
-
-pub length-map : {X Y : Type 0} (f : X → Y) (xs : List X) → length (map f xs) ≡ length xs
-length-map f [] = refl
-length-map f (x ∷ xs) = ap suc (length-map f xs)
 
 pub each_none : {X Y : Type 0} (f : ℕ → X → List Y) (xs : List X) (d : X)
     → each f xs ≡ []
@@ -107,7 +89,7 @@ looks_back f d xs h new = record {
   new = λ k inside.
       ap (λ n. is_among n (take k (map f xs))) (get_or-map f d xs k h)
       ∙ ap (is_among (f (get_or xs k d))) (take-map f k xs)
-      ∙ new k (subst (λ n. k < n) (length-map f xs) inside);
+      ∙ new k (subst (λ n. k < n) (length-map xs f) inside);
 }
 
 -- a name is none of these, and not equal to one of them in capitals
@@ -124,20 +106,20 @@ stands_apart : (earlier : List (List ℕ)) (path name : List ℕ) → apart_faul
     → StandsApart name earlier
 stands_apart earlier path name h = record {
   new =
-      no_test
+      name_fault_where-none
       (is_among name earlier)
       Duplicate
       path
       name
-      (nil_left (fault_where (is_among name earlier) Duplicate path name)
+      (append-is_nil_left (fault_where (is_among name earlier) Duplicate path name)
       (fault_where (clashes name earlier) Clash path name) h);
   alone =
-      no_test
+      name_fault_where-none
       (clashes name earlier)
       Clash
       path
       name
-      (nil_right
+      (append-is_nil_right
       (fault_where (is_among name earlier) Duplicate path name)
       (fault_where (clashes name earlier) Clash path name)
       h);
@@ -178,9 +160,9 @@ messages_apart path messages h =
     (message_names messages)
     (λ k inside.
     let m : MessageType = record { name = []; variables = [] } in
-    let at = subst (λ n. k < n) (length-map (λ message. message.name) messages) inside in
+    let at = subst (λ n. k < n) (length-map messages (λ message. message.name)) inside in
     let message = get_or messages k m in
-    let none = nil_left
+    let none = append-is_nil_left
     (apart_faults (message_names (take k messages)) (at_key (at_number path k) (codes "name")) message.name)
     (variables_faults (at_key (at_number path k) (codes "variables")) message.variables)
     (each_none
@@ -214,12 +196,12 @@ types_back path model types h =
     types
     refl
     (λ k inside.
-    no_test
+    name_fault_where-none
     (is_among (get_or types k a).name (type_names (take k types)))
     Duplicate
     (at_key (at_number path k) (codes "name"))
     (get_or types k a).name
-    (nil_left
+    (append-is_nil_left
     (fault_where
     (is_among (get_or types k a).name (type_names (take k types)))
     Duplicate
@@ -248,14 +230,14 @@ units_back path units h = record { new = λ k inside. by k inside }
     by zero inside = refl
     by (suc k) inside =
         let u : TimeUnit = record { name = []; unit = []; period = pos 0 } in
-        let at : k < length units = subst (λ n. k < n) (length-map (λ unit. unit.name) units) (omega arith) in
+        let at : k < length units = subst (λ n. k < n) (length-map units (λ unit. unit.name)) (omega arith) in
         let unit = get_or units k u in
-        let new = no_test
+        let new = name_fault_where-none
         (is_among unit.name (unit_names (take k units)))
         Duplicate
         (at_key (at_number path k) (codes "name"))
         unit.name
-        (nil_left
+        (append-is_nil_left
         (fault_where
         (is_among unit.name (unit_names (take k units)))
         Duplicate
@@ -277,21 +259,21 @@ environment = at_key xmodel (codes "environment")
 
 -- the parts of a model without name faults
 environment_none : (model : Model) → name_faults model ≡ [] → environment_faults environment model ≡ []
-environment_none model none = nil_left _ _ none
+environment_none model none = append-is_nil_left _ _ none
 
 pub constants_differ : (model : Model) → name_faults model ≡ [] → IsApart model.constants
 constants_differ model none =
     constants_apart
     (at_key environment (codes "constants"))
     model.constants
-    (nil_left _ _ (environment_none model none))
+    (append-is_nil_left _ _ (environment_none model none))
 
 abbrev pub units_path : List ℕ
 units_path = at_key (at_key (at_key root (codes "xmodel")) (codes "environment")) (codes "timeUnits")
 
 pub units_none : (model : Model) → name_faults model ≡ [] → units_faults units_path model.units ≡ []
 units_none model none =
-    nil_right
+    append-is_nil_right
     (constant_faults (at_key environment (codes "constants")) model.constants)
     (units_faults units_path model.units)
     (environment_none model none)
@@ -301,7 +283,7 @@ units_differ model none =
     units_back
     (at_key environment (codes "timeUnits"))
     model.units
-    (nil_right
+    (append-is_nil_right
     (constant_faults (at_key environment (codes "constants")) model.constants)
     (units_faults (at_key environment (codes "timeUnits")) model.units)
     (environment_none model none))
@@ -310,14 +292,14 @@ behind : (model : Model) → name_faults model ≡ []
     → messages_faults (at_key xmodel (codes "messages")) model.messages
     ++ agents_faults (declared_by model) (at_key xmodel (codes "agents")) model.agents
     ≡ []
-behind model none = nil_right (environment_faults environment model) _ none
+behind model none = append-is_nil_right (environment_faults environment model) _ none
 
 pub messages_differ : (model : Model) → name_faults model ≡ [] → IsApart (message_names model.messages)
 messages_differ model none =
     messages_apart
     (at_key xmodel (codes "messages"))
     model.messages
-    (nil_left
+    (append-is_nil_left
     (messages_faults (at_key xmodel (codes "messages")) model.messages)
     (agents_faults (declared_by model) (at_key xmodel (codes "agents")) model.agents)
     (behind model none))
@@ -328,27 +310,7 @@ types_differ model none =
     (at_key xmodel (codes "agents"))
     model
     model.agents
-    (nil_right
+    (append-is_nil_right
     (messages_faults (at_key xmodel (codes "messages")) model.messages)
     (agents_faults (declared_by model) (at_key xmodel (codes "agents")) model.agents)
     (behind model none))
-
-bytes_eq_by : (xs ys : List ℕ) (a b : Bool) → bytes_eq xs ys ≡ a → bytes_eq ys xs ≡ b → a ≡ b
-bytes_eq_by xs ys true true e f = refl
-bytes_eq_by xs ys false false e f = refl
-bytes_eq_by xs ys true false e f = sym ((bytes_eq-Decides ys xs).1 (sym ((bytes_eq-Decides xs ys).0 e))) ∙ f
-bytes_eq_by xs ys false true e f = sym e ∙ (bytes_eq-Decides xs ys).1 (sym ((bytes_eq-Decides ys xs).0 f))
-
-pub bytes_eq_comm : (xs ys : List ℕ) → bytes_eq xs ys ≡ bytes_eq ys xs
-bytes_eq_comm xs ys = bytes_eq_by xs ys (bytes_eq xs ys) (bytes_eq ys xs) refl refl
-
-or_assoc : (a b c : Bool) → ((a || b) || c) ≡ (a || (b || c))
-or_assoc true b c = refl
-or_assoc false b c = refl
-
-pub is_among-append : (name : List ℕ) (xs ys : List (List ℕ))
-    → is_among name (xs ++ ys) ≡ (is_among name xs || is_among name ys)
-is_among-append name [] ys = refl
-is_among-append name (x ∷ xs) ys =
-    ap (λ b. bytes_eq name x || b) (is_among-append name xs ys)
-    ∙ sym (or_assoc (bytes_eq name x) (is_among name xs) (is_among name ys))

@@ -1,18 +1,11 @@
 -- What is found in lists, and what is not.
-use Rattle.std.proofs.Common.{◌≡◌, zero, suc, Bool, true, false, ◌||◌, cond, List, [], ◌∷◌, ◌++◌, Contains, Some, ◌⊎◌}
-use Rattle.std.proofs.Common.{inl, inr, refl, ap, sym, ◌∙◌, subst, arith}
+use Rattle.std.proofs.Common.{◌≡◌, zero, suc, Bool, true, false, ◌||◌, List, [], ◌∷◌, Contains, ◌⊎◌}
+use Rattle.std.proofs.Common.{inl, inr, refl, ap, sym, ◌∙◌, arith}
 use Rattle.std.proofs.lemmas.Bool.{or_left, or_right}
-use Rattle.std.specs.List.{list_any, flat_map, find}
+use Rattle.std.specs.List.{list_any, flat_map}
+use Rattle.flame_rows.proofs.Lists.{append-is_nil_left, append-is_nil_right}
 
 -- ---- nothing
-
-pub left-none : {X : Type 0} (xs ys : List X) → xs ++ ys ≡ [] → xs ≡ []
-left-none [] ys none = refl
-left-none (x ∷ xs) ys none = cc
-
-pub right-none : {X : Type 0} (xs ys : List X) → xs ++ ys ≡ [] → ys ≡ []
-right-none [] ys none = none
-right-none (x ∷ xs) ys none = cc
 
 -- ---- elements
 
@@ -35,8 +28,8 @@ flat_map-none f [] y (k, below, at) none = absurd (omega arith)
 flat_map-none f (x ∷ xs) y c none = by_place (Contains-cases x xs y c) (flat_map-none f xs y)
   where
     by_place : (x ≡ y) ⊎ Contains xs y → (Contains xs y → flat_map f xs ≡ [] → f y ≡ []) → f y ≡ []
-    by_place (inl e) later = sym (ap f e) ∙ left-none (f x) (flat_map f xs) none
-    by_place (inr c') later = later c' (right-none (f x) (flat_map f xs) none)
+    by_place (inl e) later = sym (ap f e) ∙ append-is_nil_left (f x) (flat_map f xs) none
+    by_place (inr c') later = later c' (append-is_nil_right (f x) (flat_map f xs) none)
 
 -- ---- tests
 
@@ -66,20 +59,3 @@ list_any-at {X} p (x ∷ xs) y c holds = by_place (Contains-cases x xs y c) (lis
         → p x || list_any p xs ≡ true
     by_place (inl e) later = or_left (p x) (list_any p xs) (ap p e ∙ holds)
     by_place (inr c') later = or_right (p x) (list_any p xs) (later c' holds)
-
-pub find-found : {X : Type 0} (p : X → Bool) (xs : List X) (y : X) → find p xs ≡ Some y → Contains xs y × (p y ≡ true)
-find-found p [] y found = cc
-find-found {X} p (x ∷ xs) y found = by_head (p x) refl found (find-found p xs y)
-  where
-    by_head :
-        (b : Bool)
-        → p x ≡ b
-        → cond b (Some x) (find p xs) ≡ Some y
-        → (find p xs ≡ Some y → Contains xs y × (p y ≡ true))
-        → Contains (x ∷ xs) y × (p y ≡ true)
-    by_head true e found' later =
-        let same : x ≡ y = cc in
-        (subst (λ z. Contains (x ∷ xs) z) same (Contains-head x xs), sym (ap p same) ∙ e)
-    by_head false e found' later =
-        let (c, holds) = later found' in
-        (Contains-later x xs y c, holds)

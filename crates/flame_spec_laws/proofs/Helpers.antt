@@ -1,5 +1,5 @@
 -- What helpers do not do.
-use Rattle.std.proofs.Common.{◌≡◌, ℕ, true, false, List, [], Contains, Option, Some, None, IsTrue, ◌⊎◌, inl, inr, refl}
+use Rattle.std.proofs.Common.{◌≡◌, ℕ, true, List, [], Contains, Option, Some, None, IsTrue, ◌⊎◌, inl, inr, refl, true≢false}
 use Rattle.std.proofs.Common.{ap, sym, ◌∙◌, subst, arith}
 use Rattle.flame_spec.specs.declared.models.Variable.{Variable}
 use Rattle.flame_spec.specs.declared.models.MessageType.{MessageType}
@@ -14,9 +14,6 @@ use Rattle.flame_spec_laws.specs.CheckLaws.{calls_helper}
 use Rattle.flame_spec_laws.specs.HelperLaws.{MeansAside, aside_local, aside_constant, aside_iteration}
 use Rattle.flame_spec_laws.proofs.LookedUp.{Gives, of_memory, of_constant, of_iteration, gives}
 
-different : true ≡ false → ⊥
-different e = cc
-
 no_member : {X : Type 0} (x : X) → Contains [] x → ⊥
 no_member x (k, below, at) = omega arith
 
@@ -25,14 +22,14 @@ array_memory : (at : Context) (word : List ℕ) → names_array at word ≡ true
 array_memory at word array = by_given (given_at at word) refl
   where
     by_given : (o : Option Given) → given_at at word ≡ o → IsMemory at word
-    by_given None e = absurd (different (sym array ∙ ap gives_array e))
+    by_given None e = absurd (true≢false (sym array ∙ ap gives_array e))
     by_given (Some g) e = by_kind (gives at word g e)
       where
         by_kind : Gives at word g → IsMemory at word
         by_kind (of_memory column variable is c same) = (variable, c, same)
         by_kind (of_constant number name is c same) =
-            absurd (different (sym array ∙ ap gives_array (e ∙ ap Some is)))
-        by_kind (of_iteration is same) = absurd (different (sym array ∙ ap gives_array (e ∙ ap Some is)))
+            absurd (true≢false (sym array ∙ ap gives_array (e ∙ ap Some is)))
+        by_kind (of_iteration is same) = absurd (true≢false (sym array ∙ ap gives_array (e ∙ ap Some is)))
 
 module _ (at : Context) (alone : at.runs ≡ None) where
   pub no_memory : (variable : Variable) → Contains (memory_at at) variable → ⊥

@@ -1,8 +1,8 @@
 -- What look-ups find.
 use Rattle.std.proofs.Common.{◌≡◌, ℕ, ◌+◌, Bool, true, false, cond, List, [], ◌∷◌, codes, Contains, Option, Some, None}
 use Rattle.std.proofs.Common.{refl, ap, sym, ◌∙◌, subst}
-use Rattle.std.specs.Prelude.{is_some}
 use Rattle.std.specs.Str.{bytes_eq}
+use Rattle.flame_rows.proofs.Bytes.{bytes_eq-true}
 use Rattle.flame_spec.specs.declared.models.Variable.{Variable}
 use Rattle.flame_ops.specs.Ascii.{capitals}
 use Rattle.flame_spec.specs.Lists.{numbered_from}
@@ -12,17 +12,8 @@ use Rattle.flame_spec.specs.LookUps.{given_by}
 use Rattle.flame_spec.specs.LookUps.{given_beside}
 use Rattle.flame_spec.specs.Scopes.{Context, memory_at, given_at}
 use Rattle.flame_spec_laws.proofs.Found.{Contains-head, Contains-later}
-use Rattle.flame_spec_laws.proofs.CheckedBodies.{same-bytes_eq}
 
 -- ---- options
-
-pub is_some-found : {X : Type 0} (o : Option X) → is_some o ≡ true → (x : X) × (o ≡ Some x)
-is_some-found None e = cc
-is_some-found (Some x) e = (x, refl)
-
-pub none-found : {X : Type 0} (o : Option X) → is_some o ≡ false → o ≡ None
-none-found None e = refl
-none-found (Some x) e = cc
 
 -- ---- lists
 
@@ -97,13 +88,13 @@ gives at word g given = by_memory (memory_named (memory_at at) word) refl given
     by_constant (Some found) e e' =
         let (c, same) = numbered-found (λ name. bytes_eq (capitals name) word) 0 at.model.constants found e in
         let is : constant found.0 ≡ g = cc in
-        of_constant found.0 found.1 (sym is) c (sym (same-bytes_eq (capitals found.1) word same))
+        of_constant found.0 found.1 (sym is) c (sym (bytes_eq-true (capitals found.1) word same))
     by_constant None e e' = by_iteration (is_iteration word) refl e'
       where
         by_iteration : (b : Bool) → is_iteration word ≡ b → cond b (Some iteration) None ≡ Some g → Gives at word g
         by_iteration true holds f =
             let is : iteration ≡ g = cc in
-            of_iteration (sym is) (sym (same-bytes_eq (codes "iteration_loop") word holds))
+            of_iteration (sym is) (sym (bytes_eq-true (codes "iteration_loop") word holds))
         by_iteration false fails f = cc
 
     by_memory :
@@ -114,5 +105,5 @@ gives at word g given = by_memory (memory_named (memory_at at) word) refl given
     by_memory (Some found) e e' =
         let (c, same) = columned-found (λ variable. bytes_eq (capitals variable.name) word) 0 (memory_at at) found e in
         let is : in_memory found.0 found.1 ≡ g = cc in
-        of_memory found.0 found.1 (sym is) c (sym (same-bytes_eq (capitals found.1.name) word same))
+        of_memory found.0 found.1 (sym is) c (sym (bytes_eq-true (capitals found.1.name) word same))
     by_memory None e e' = by_constant (constant_named at.model.constants word) refl e'

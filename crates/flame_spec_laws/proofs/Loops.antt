@@ -1,9 +1,12 @@
 -- What loops and fields without faults are; the loops that are open stay open inside.
-use Rattle.std.proofs.Common.{◌≡◌, ◌≢◌, ℕ, true, false, not, List, [], ◌∷◌, ◌++◌, codes, Contains, Option, Some, None}
-use Rattle.std.proofs.Common.{refl, ap, sym, ◌∙◌, subst, arith}
-use Rattle.std.specs.Prelude.{is_some, ◌==◌}
+use Rattle.std.proofs.Common.{◌≡◌, ◌≢◌, ℕ, true, false, not, List, [], ◌++◌, codes, Contains, Option, Some, None, true≢false}
+use Rattle.std.proofs.Common.{refl, ap, sym, ◌∙◌, subst}
+use Rattle.std.specs.Prelude.{is_some}
 use Rattle.std.specs.Str.{bytes_eq}
 use Rattle.std.proofs.lemmas.Bool.{not-false}
+use Rattle.flame_rows.proofs.Bytes.{bytes_eq-true}
+use Rattle.flame_rows.proofs.Lists.{append-is_nil_left, append-is_nil_right}
+use Rattle.flame_rows.proofs.Truths.{is_some-false, is_some-true}
 use Rattle.flame_ops.specs.Ascii.{capitals}
 use Rattle.flame_spec.specs.declared.models.Variable.{Variable}
 use Rattle.flame_spec.specs.declared.models.MessageType.{MessageType}
@@ -15,14 +18,16 @@ use Rattle.flame_spec.specs.Functions.{Place}
 use Rattle.flame_spec.specs.LookUps.{message_read, message_looped, input_of}
 use Rattle.flame_spec.specs.Trees.{Expression, number, name, field, get, field_at, signed, chain, all_of, any_of}
 use Rattle.flame_spec.specs.Trees.{at as element}
-use Rattle.flame_spec.specs.Trees.{Declared, Statement, declare, loop_over, Statements, no_more, also}
+use Rattle.flame_spec.specs.Trees.{loop_over, Statements}
 use Rattle.flame_spec.specs.Scopes.{Context, Loop, over_message, over_none, Sight, messages_at, in_scope, in_loop}
-use Rattle.flame_spec.specs.Scopes.{after_name, after_items, after, after_all, is_open_over}
+use Rattle.flame_spec.specs.Scopes.{is_open_over}
 use Rattle.flame_spec.specs.ExpressionFaults.{is_found_array, member_faults, row_faults_of, row_faults, member_of}
 use Rattle.flame_spec.specs.ExpressionFaults.{member_read, field_faults, field_at_faults}
 use Rattle.flame_spec.specs.CallFaults.{length_found, length_of_argument, is_length, whole_faults, argument_faults}
 use Rattle.flame_spec.specs.StatementFaults.{is_input, opened, start_faults, finish_faults, statement_faults}
 use Rattle.flame_spec.specs.StatementFaults.{statements_faults}
+use Rattle.flame_spec.proofs.FaultTests.{fault_where-none, is_length-true}
+use Rattle.flame_spec.proofs.OpenLoops.{loops-after, loops-after_all}
 use Rattle.flame_spec_laws.specs.BodyParts.{Part, doing, sequence, StandsIn, itself, element_index, field_index, under_signs}
 use Rattle.flame_spec_laws.specs.BodyParts.{chain_begin, chain_more, all_part, any_part, first_value, later_value}
 use Rattle.flame_spec_laws.specs.BodyParts.{first_operand}
@@ -36,17 +41,10 @@ use Rattle.flame_spec_laws.specs.BodyParts.{for_first, for_test, for_step, for_b
 use Rattle.flame_spec_laws.specs.BodyParts.{first_statement, later_statement, arm_test, arm_body, later_arm, later_parameter}
 use Rattle.flame_spec_laws.specs.BodyParts.{function_body}
 use Rattle.flame_spec_laws.specs.CheckLaws.{IsLoop, IsField, IsArray, of_memory, of_row}
-use Rattle.flame_spec_laws.proofs.Found.{left-none, right-none, Contains-head, Contains-later}
-use Rattle.flame_spec_laws.proofs.NoFaults.{fault_where-none, no_faults}
-use Rattle.flame_spec_laws.proofs.CheckedBodies.{same-bytes_eq}
-use Rattle.flame_spec_laws.proofs.LookedUp.{none-found, is_some-found, numbered-found, columned-found}
+use Rattle.flame_spec_laws.proofs.Found.{Contains-head, Contains-later}
+use Rattle.flame_spec_laws.proofs.NoFaults.{no_faults}
+use Rattle.flame_spec_laws.proofs.LookedUp.{numbered-found, columned-found}
 use Rattle.flame_spec_laws.proofs.Sights.{readable, open_over, over_open}
-
-different : true ≡ false → ⊥
-different e = cc
-
-same-number : (n m : ℕ) → n == m ≡ true → n ≡ m
-same-number n m e = grind arith
 
 -- ---- fields
 
@@ -69,7 +67,7 @@ row_read at sight line word variable none = by_message (message_read (messages_a
         → Row at sight word variable
     by_message None e clear = cc
     by_message (Some message) e clear =
-        by_variable (variable_named message.1.variables variable) refl (right-none _ _ clear)
+        by_variable (variable_named message.1.variables variable) refl (append-is_nil_right _ _ clear)
       where
         named : Contains (messages_at at) message.1 × (bytes_eq (message.1.name ++ codes "_message") word ≡ true)
         named = numbered-found (λ m. bytes_eq (m.name ++ codes "_message") word) 0 (messages_at at) message e
@@ -87,11 +85,11 @@ row_read at sight line word variable none = by_message (message_read (messages_a
               is = record {
                 message = message.1;
                 known = named.0;
-                named = sym (same-bytes_eq (message.1.name ++ codes "_message") word named.1);
+                named = sym (bytes_eq-true (message.1.name ++ codes "_message") word named.1);
                 has = c;
-                is = sym (same-bytes_eq found.1.name variable same);
+                is = sym (bytes_eq-true found.1.name variable same);
                 within = open_over sight message.1
-                    (not-false _ (fault_where-none _ at OutsideLoop line word (left-none _ _ clear)));
+                    (not-false _ (fault_where-none _ at OutsideLoop line word (append-is_nil_left _ _ clear)));
               };
               read = ap (λ o. member_of o variable) e ∙ f;
             }
@@ -101,28 +99,24 @@ pub field_read :
     → field_faults at sight line word variable ≡ []
     → (read : Variable) × IsField at sight word variable read × (read.length ≡ None)
 field_read at sight line word variable none =
-    let row : Row at sight word variable = row_read at sight line word variable (left-none _ _ none) in
+    let row : Row at sight word variable = row_read at sight line word variable (append-is_nil_left _ _ none) in
     let single : is_found_array (member_read at word variable) ≡ false
-    = fault_where-none _ at NeedsIndex line variable (right-none _ _ none) in
-    (row.found.1, row.is, none-found row.found.1.length (sym (ap is_found_array row.read) ∙ single))
+    = fault_where-none _ at NeedsIndex line variable (append-is_nil_right _ _ none) in
+    (row.found.1, row.is, is_some-false row.found.1.length (sym (ap is_found_array row.read) ∙ single))
 
 pub field_at_read :
     (at : Context) (sight : Sight) (line : ℕ) (word variable : List ℕ)
     → field_at_faults at sight line word variable ≡ []
     → (read : Variable) × IsField at sight word variable read × (read.length ≢ None)
 field_at_read at sight line word variable none =
-    let row : Row at sight word variable = row_read at sight line word variable (left-none _ _ none) in
+    let row : Row at sight word variable = row_read at sight line word variable (append-is_nil_left _ _ none) in
     let array : is_found_array (member_read at word variable) ≡ true
-    = not-false _ (fault_where-none _ at NotArray line variable (right-none _ _ none)) in
+    = not-false _ (fault_where-none _ at NotArray line variable (append-is_nil_right _ _ none)) in
     let some : is_array row.found.1 ≡ true = sym (ap is_found_array row.read) ∙ array in
-    (row.found.1, row.is, λ e. different (sym some ∙ ap is_some e))
-
-length-is : (size : ℕ) (o : Option ℕ) → is_length size o ≡ true → o ≡ Some size
-length-is size None e = cc
-length-is size (Some other) e = ap Some (same-number other size e)
+    (row.found.1, row.is, λ e. true≢false (sym some ∙ ap is_some e))
 
 no_length : (size : ℕ) → is_length size None ≡ true → ⊥
-no_length size e = different (sym e)
+no_length size e = true≢false (sym e)
 
 -- an argument for an array is one of its length
 pub whole_array :
@@ -130,20 +124,20 @@ pub whole_array :
     → argument_faults at sight line word (Some size) e ≡ []
     → IsArray at sight size e
 whole_array at sight line word size e none =
-    by_form e (left-none (whole_faults at sight e) _ none)
+    by_form e (append-is_nil_left (whole_faults at sight e) _ none)
     (not-false _ (fault_where-none (not (is_length size (length_of_argument at e))) at WrongLength line word
-    (right-none (whole_faults at sight e) _ none)))
+    (append-is_nil_right (whole_faults at sight e) _ none)))
   where
     by_form :
         (e : Expression)
         → whole_faults at sight e ≡ []
         → is_length size (length_of_argument at e) ≡ true
         → IsArray at sight size e
-    by_form (name l w) clear long = of_memory l w refl (readable at sight l w clear) (length-is size _ long)
+    by_form (name l w) clear long = of_memory l w refl (readable at sight l w clear) (is_length-true size _ long)
     by_form (field l w x) clear long =
         let row : Row at sight w x = row_read at sight l w x clear in
         of_row l w x row.found.1 refl row.is
-        (sym (ap length_found row.read) ∙ length-is size (length_found (member_read at w x)) long)
+        (sym (ap length_found row.read) ∙ is_length-true size (length_found (member_read at w x)) long)
     by_form (number n) clear long = absurd (no_length size long)
     by_form (get l w) clear long = absurd (no_length size long)
     by_form (element l w il i) clear long = absurd (no_length size long)
@@ -167,13 +161,13 @@ reads at message e = by_runs at.runs refl e
     by_runs : (o : Option Place) → at.runs ≡ o → is_input o message ≡ true → Reads at message
     by_runs None is e' = cc
     by_runs (Some place) is e' =
-        let (found, f) = is_some-found (input_of place.function message) e' in
+        let (found, f) = is_some-true (input_of place.function message) e' in
         let (c, same)
         = numbered-found (λ input. bytes_eq input.message message.name) 0 place.function.inputs found f in
         record {
           place = place;
           runs = is;
-          input = (found.1, c, same-bytes_eq found.1.message message.name same);
+          input = (found.1, c, bytes_eq-true found.1.message message.name same);
         }
 
 pub loop_found :
@@ -183,7 +177,7 @@ pub loop_found :
     × (message_looped (messages_at at) word ≡ Some found)
     × IsLoop at sight word end_word found.1
 loop_found at sight line word body end_line end_word none =
-    by_message (message_looped (messages_at at) word) refl (left-none _ _ (left-none _ _ none))
+    by_message (message_looped (messages_at at) word) refl (append-is_nil_left _ _ (append-is_nil_left _ _ none))
   where
     by_message :
         (o : Option (ℕ × MessageType))
@@ -196,37 +190,24 @@ loop_found at sight line word body end_line end_word none =
     by_message (Some found) e clear =
         let (c, same) = numbered-found (λ m. bytes_eq (capitals m.name) word) 0 (messages_at at) found e in
         let shut : is_open_over sight found.1 ≡ false
-        = fault_where-none _ at NestedSame line word (right-none _ _ clear) in
+        = fault_where-none _ at NestedSame line word (append-is_nil_right _ _ clear) in
         let read : Reads at found.1
-        = reads at found.1 (not-false _ (fault_where-none _ at NotInput line word (left-none _ _ clear))) in (
+        = reads at found.1 (not-false _ (fault_where-none _ at NotInput line word (append-is_nil_left _ _ clear))) in (
           found,
           e,
           record {
             known = c;
-            named = sym (same-bytes_eq (capitals found.1.name) word same);
+            named = sym (bytes_eq-true (capitals found.1.name) word same);
             place = read.place;
             runs = read.runs;
             input = read.input;
-            first = λ open_there. different (sym (over_open sight found.1 open_there) ∙ shut);
-            ended = sym (same-bytes_eq word end_word
-                (not-false _ (fault_where-none _ at LoopMismatch end_line end_word (right-none _ _ none))));
+            first = λ open_there. true≢false (sym (over_open sight found.1 open_there) ∙ shut);
+            ended = sym (bytes_eq-true word end_word
+                (not-false _ (fault_where-none _ at LoopMismatch end_line end_word (append-is_nil_right _ _ none))));
           },
         )
 
 -- ---- loops that are open
-
-loops-after_items : (sight : Sight) (items : List Declared) → (after_items sight items).loops ≡ sight.loops
-loops-after_items sight [] = refl
-loops-after_items sight (item ∷ items) = loops-after_items (after_name sight item.name) items
-
-loops-after : (sight : Sight) (statement : Statement) → (after sight statement).loops ≡ sight.loops
-loops-after sight (declare items) = loops-after_items sight items
-loops-after sight _ = refl
-
-loops-after_all : (sight : Sight) (statements : Statements) → (after_all sight statements).loops ≡ sight.loops
-loops-after_all sight no_more = refl
-loops-after_all sight (also statement statements) =
-    loops-after_all (after sight statement) statements ∙ loops-after sight statement
 
 kept : (loop : Loop) (xs ys : List Loop) → ys ≡ xs → Contains xs loop → Contains ys loop
 kept loop xs ys e c = subst (λ zs. Contains zs loop) (sym e) c
@@ -293,8 +274,8 @@ body-none :
     → statement_faults at sight (loop_over line word body end_line end_word) ≡ []
     → statements_faults at (in_loop (opened (message_looped (messages_at at) word)) sight) body ≡ []
 body-none at sight line word body end_line end_word none =
-    right-none (start_faults at sight (message_looped (messages_at at) word) line word) _
-    (left-none _ (finish_faults at word end_line end_word) none)
+    append-is_nil_right (start_faults at sight (message_looped (messages_at at) word) line word) _
+    (append-is_nil_left _ (finish_faults at word end_line end_word) none)
 
 -- no loop without faults stands in the body of one over the same message
 pub not_nested :

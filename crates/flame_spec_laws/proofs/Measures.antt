@@ -1,4 +1,5 @@
 -- Lengths of time units in models without name faults.
+use mathlib.Core.Bool.{or-false, or-true}
 use Rattle.std.proofs.Common.{◌≡◌, ℕ, zero, suc, ◌*◌, ◌<◌, ◌≤◌, ℤ, pos, negsuc, ◌*ℤ◌, List, [], ◌∷◌, ◌++◌, map, take}
 use Rattle.std.proofs.Common.{length, get_or, cond, refl, sym, ap, subst, ◌∙◌, Bool, true, false, true≢false, arith}
 use Rattle.std.proofs.Common.{codes, Option, Some, None, option_map}
@@ -8,7 +9,11 @@ use Rattle.std.specs.Option.{option_map_or}
 use Rattle.std.specs.Str.{bytes_eq}
 use Rattle.std.proofs.Math.Seq.{take-suc}
 use Rattle.std.proofs.lemmas.List.{reverse-append, map_push}
-use Rattle.std.proofs.lemmas.Slice.Eq.{bytes_eq-Decides}
+use Rattle.std.proofs.lemmas.Bool.{and_parts}
+use Rattle.std.proofs.lemmas.List.Folds.{list_any-append}
+use Rattle.flame_rows.proofs.Bytes.{bytes_eq-sym, bytes_eq-self}
+use Rattle.flame_rows.proofs.Lists.{append-is_nil_right}
+use Rattle.flame_rows.proofs.Truths.{or-true_left}
 use Rattle.flame_spec.specs.declared.faults.NameKind.TheVariants.{Duplicate, UnknownUnit, LongUnit}
 use Rattle.flame_spec.specs.declared.models.TimeUnit.{TimeUnit}
 use Rattle.flame_spec.specs.Names.{is_name}
@@ -18,7 +23,8 @@ use Rattle.flame_spec.specs.Paths.{at_key, at_number}
 use Rattle.flame_spec.specs.Refusals.{fault_where}
 use Rattle.flame_spec.specs.UnitFaults.{is_long, length_after, measure_faults, unit_faults, units_faults}
 use Rattle.flame_spec.specs.WellFormed.{is_positive_int, is_well_formed_unit}
-use Rattle.flame_spec_laws.proofs.Distinct.{nil_right, each_none, no_test, is_among-append, bytes_eq_comm}
+use Rattle.flame_spec.proofs.FaultTests.{name_fault_where-none}
+use Rattle.flame_spec_laws.proofs.Distinct.{each_none}
 
 -- a length that is known, from 1 to 2147483647
 abbrev pub Positive : Option ℤ → Type 0
@@ -28,26 +34,14 @@ Positive o = IsSomeAnd o (λ z. is_positive_int z ≡ true)
 pub record Known (units : List TimeUnit) : Type 0 where
   pub lengths : (name : List ℕ) → is_among name (unit_names units) ≡ true → Positive (unit_length units name)
 
-or_false : (a : Bool) → (a || false) ≡ a
-or_false true = refl
-or_false false = refl
-
 known_none : Known []
 known_none = record {
   lengths = λ name h.
       let same : bytes_eq (codes "iteration") name ≡ true =
-      bytes_eq_comm (codes "iteration") name ∙ sym (or_false (bytes_eq name (codes "iteration"))) ∙ h in
+      bytes_eq-sym (codes "iteration") name ∙ sym (or-false (bytes_eq name (codes "iteration"))) ∙ h in
       let P : Bool → Type 0 = λ b. Positive (cond b (Some (pos 1)) None) in
       subst P (sym same) refl;
 }
-
-and_left : (a b : Bool) → (a && b) ≡ true → a ≡ true
-and_left true b h = refl
-and_left false b h = absurd (true≢false (sym h))
-
-and_right : (a b : Bool) → (a && b) ≡ true → b ≡ true
-and_right true b h = h
-and_right false b h = absurd (true≢false (sym h))
 
 at_least_one : (m n : ℕ) → nat_le 1 m ≡ true → nat_le 1 n ≡ true → nat_le 1 (m * n) ≡ true
 at_least_one zero n h k = absurd (true≢false (sym h))
@@ -61,8 +55,8 @@ product_positive : (p z : ℤ)
     → is_positive_int p ≡ true → is_positive_int z ≡ true → is_long (p *ℤ z) ≡ false → is_positive_int (p *ℤ z) ≡ true
 product_positive (pos m) (pos n) h k s =
     let low = at_least_one m n
-    (and_left (nat_le 1 m) (nat_le m 2147483647) h)
-    (and_left (nat_le 1 n) (nat_le n 2147483647) k) in
+    (and_parts (nat_le 1 m) (nat_le m 2147483647) h).0
+    (and_parts (nat_le 1 n) (nat_le n 2147483647) k).0 in
     ap (λ b. b && nat_le (m * n) 2147483647) low ∙ at_most (m * n) s
 product_positive (pos m) (negsuc n) h k s = absurd (true≢false (sym k))
 product_positive (negsuc m) z h k s = absurd (true≢false (sym h))
@@ -80,11 +74,7 @@ pub unit_length-push : (units : List TimeUnit) (unit : TimeUnit) (name : List �
     ≡ cond (bytes_eq name unit.name) (length_after units unit) (unit_length units name)
 unit_length-push units unit name =
     ap (λ l. length_back l name) (reverse-append units (unit ∷ []))
-    ∙ ap (λ b. cond b (length_after units unit) (unit_length units name)) (bytes_eq_comm unit.name name)
-
-or_left_of : (a b : Bool) → (a || b) ≡ true → b ≡ false → a ≡ true
-or_left_of true b h e = refl
-or_left_of false b h e = absurd (true≢false (sym h ∙ e))
+    ∙ ap (λ b. cond b (length_after units unit) (unit_length units name)) (bytes_eq-sym unit.name name)
 
 known_push : (units : List TimeUnit) (unit : TimeUnit)
     → Known units
@@ -96,7 +86,7 @@ known_push units unit known positive there short = record {
   lengths = λ name h.
       let P : Option ℤ → Type 0 = λ o. Positive o in
       let among : (is_among name (unit_names units) || (bytes_eq name unit.name || false)) ≡ true =
-      sym (is_among-append name (unit_names units) (unit.name ∷ []))
+      sym (list_any-append (bytes_eq name) (unit_names units) (unit.name ∷ []))
       ∙ ap (λ l. is_among name (codes "iteration" ∷ l)) (sym (map_push (λ u. u.name) units unit))
       ∙ h in
       let step : (b : Bool) → bytes_eq name unit.name ≡ b
@@ -104,11 +94,11 @@ known_push units unit known positive there short = record {
       λ b. elim b as (λ v. bytes_eq name unit.name ≡ v
       → Positive (cond v (length_after units unit) (unit_length units name))) [
         | true ↦ λ e. after_positive unit (unit_length units unit.unit) positive (known.lengths unit.unit there) short
-        | false ↦ λ e. known.lengths name (or_left_of
+        | false ↦ λ e. known.lengths name (or-true_left
             (is_among name (unit_names units))
             (bytes_eq name unit.name || false)
             among
-            (or_false (bytes_eq name unit.name) ∙ e))
+            (or-false (bytes_eq name unit.name) ∙ e))
       ] in
       subst P (sym (unit_length-push units unit name)) (step (bytes_eq name unit.name) refl);
 }
@@ -116,9 +106,9 @@ known_push units unit known positive there short = record {
 all_of : (units : List TimeUnit) (k : ℕ) (d : TimeUnit)
     → list_all is_well_formed_unit units ≡ true → k < length units → is_well_formed_unit (get_or units k d) ≡ true
 all_of [] k d h inside = absurd (omega arith)
-all_of (u ∷ units) zero d h inside = and_left (is_well_formed_unit u) (list_all is_well_formed_unit units) h
+all_of (u ∷ units) zero d h inside = (and_parts (is_well_formed_unit u) (list_all is_well_formed_unit units) h).0
 all_of (u ∷ units) (suc k) d h inside =
-    all_of units k d (and_right (is_well_formed_unit u) (list_all is_well_formed_unit units) h) (omega arith)
+    all_of units k d (and_parts (is_well_formed_unit u) (list_all is_well_formed_unit units) h).1 (omega arith)
 
 pub measured : (earlier : List TimeUnit) (path : List ℕ) (unit : TimeUnit)
     → measure_faults earlier path unit ≡ []
@@ -135,7 +125,7 @@ measured earlier path unit h = by (is_among unit.unit (unit_names earlier)) refl
         ≡ []
         → (is_among unit.unit (unit_names earlier) ≡ true)
         × (option_map_or is_long (length_after earlier unit) false ≡ false)
-    by true e k = (e, no_test _ _ _ _ k)
+    by true e k = (e, name_fault_where-none _ _ _ _ k)
     by false e k = absurd (cc)
 
 known_take : (path : List ℕ) (units : List TimeUnit)
@@ -153,7 +143,7 @@ known_take path units none well (suc n) inside =
     (take n units)
     (at_number path n)
     unit
-    (nil_right
+    (append-is_nil_right
     (fault_where
     (is_among unit.name (unit_names (take n units)))
     Duplicate
@@ -162,10 +152,7 @@ known_take path units none well (suc n) inside =
     (measure_faults (take n units) (at_number path n) unit)
     (each_none (λ i one. unit_faults (take i units) (at_number path i) one) units u none n at)) in
     let formed = all_of units n u well at in
-    let positive = and_right
-    (is_name unit.unit)
-    (is_positive_int unit.period)
-    (and_right (is_name unit.name) (is_name unit.unit && is_positive_int unit.period) formed) in
+    let positive = (and_parts (is_name unit.unit) (is_positive_int unit.period) (and_parts (is_name unit.name) (is_name unit.unit && is_positive_int unit.period) formed).1).1 in
     let P : List TimeUnit → Type 0 = λ us. Known us in
     subst
     P
@@ -176,20 +163,13 @@ pub take_all : (units : List TimeUnit) → take (length units) units ≡ units
 take_all [] = refl
 take_all (u ∷ units) = ap (λ us. u ∷ us) (take_all units)
 
-pub bytes_eq_same : (name : List ℕ) → bytes_eq name name ≡ true
-bytes_eq_same name = (bytes_eq-Decides name name).1 refl
-
-pub or_true : (a : Bool) → (a || true) ≡ true
-or_true true = refl
-or_true false = refl
-
 pub own : (units : List TimeUnit) (k : ℕ) (d : TimeUnit)
     → k < length units → is_among (get_or units k d).name (map (λ u. u.name) units) ≡ true
 own [] k d inside = absurd (omega arith)
-own (u ∷ units) zero d inside = ap (λ b. b || is_among u.name (map (λ v. v.name) units)) (bytes_eq_same u.name)
+own (u ∷ units) zero d inside = ap (λ b. b || is_among u.name (map (λ v. v.name) units)) (bytes_eq-self u.name)
 own (u ∷ units) (suc k) d inside =
     ap (λ b. bytes_eq (get_or units k d).name u.name || b) (own units k d (omega arith))
-    ∙ or_true (bytes_eq (get_or units k d).name u.name)
+    ∙ or-true (bytes_eq (get_or units k d).name u.name)
 
 -- where units have no faults, the length of each name that is known is known
 pub all_known : (path : List ℕ) (units : List TimeUnit)
@@ -212,4 +192,4 @@ lengths_known path units none well k d inside =
     let name = (get_or units k d).name in
     known.lengths name
     (ap (λ b. bytes_eq name (codes "iteration") || b) (own units k d inside)
-    ∙ or_true (bytes_eq name (codes "iteration")))
+    ∙ or-true (bytes_eq name (codes "iteration")))

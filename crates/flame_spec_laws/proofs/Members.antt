@@ -5,8 +5,11 @@ use Rattle.std.proofs.Common.{subst, arith}
 use Rattle.std.specs.Prelude.{slice_get}
 use Rattle.std.specs.List.{list_any}
 use Rattle.std.specs.Str.{bytes_eq}
-use Rattle.std.proofs.lemmas.List.{take-map}
-use Rattle.std.proofs.lemmas.Bool.{or_left, or_right}
+use Rattle.std.proofs.lemmas.List.{take-map, length-map}
+use Rattle.std.proofs.lemmas.Bool.{or_left, or_right, or_parts}
+use Rattle.std.proofs.lemmas.List.Folds.{list_any-append}
+use Rattle.flame_rows.proofs.Bytes.{bytes_eq-true, bytes_eq-same}
+use Rattle.flame_rows.proofs.Lists.{append-is_nil_left, append-is_nil_right}
 use Rattle.flame_ops.specs.Ascii.{capitals}
 use Rattle.flame_spec.specs.declared.faults.NameKind.TheVariants.{Duplicate, Clash, FunctionShared}
 use Rattle.flame_spec.specs.declared.models.Model.{Model}
@@ -26,15 +29,15 @@ use Rattle.flame_spec.specs.FunctionFaults.{title_faults, function_faults}
 use Rattle.flame_spec.specs.NameFaults.{memory_name_faults, memory_variable_faults, memory_faults}
 use Rattle.flame_spec.specs.NameFaults.{function_names}
 use Rattle.flame_spec.specs.NameFaults.{names_of_functions, name_faults}
+use Rattle.flame_spec.proofs.FaultTests.{name_fault_where-none}
 use Rattle.flame_spec_laws.specs.DistinctNames.{AreDistinct}
 use Rattle.flame_spec_laws.specs.MemberLaws.{AreApart}
-use Rattle.flame_spec_laws.proofs.Found.{left-none, right-none, Contains-cases}
-use Rattle.flame_spec_laws.proofs.CheckedBodies.{bytes_eq-same, same-bytes_eq}
-use Rattle.flame_spec_laws.proofs.NameKnowledge.{each_none as each_at, test_fails}
+use Rattle.flame_spec_laws.proofs.Found.{Contains-cases}
+use Rattle.flame_spec_laws.proofs.NameKnowledge.{each_none as each_at}
 use Rattle.flame_spec_laws.proofs.UsedKnown.{xmodel, parts_none, agent_none, function_none}
-use Rattle.flame_spec_laws.proofs.Distinct.{each_none, LooksBack, distinct, get_or-map, length-map, looks_back, StandsApart}
+use Rattle.flame_spec_laws.proofs.Distinct.{each_none, LooksBack, distinct, get_or-map, looks_back, StandsApart}
 use Rattle.flame_spec_laws.proofs.Distinct.{IsApart}
-use Rattle.flame_spec_laws.proofs.Distinct.{is_apart, is_among-append}
+use Rattle.flame_spec_laws.proofs.Distinct.{is_apart}
 
 -- ---- variables
 
@@ -46,28 +49,20 @@ record IsFree (constants earlier : List (List ℕ)) (name : List ℕ) : Type 0 w
   apart : StandsApart name earlier
   free : is_among (capitals name) constants ≡ false
 
-or_left_none : (a b : Bool) → a || b ≡ false → a ≡ false
-or_left_none true b e = cc
-or_left_none false b e = refl
-
-or_right_none : (a b : Bool) → a || b ≡ false → b ≡ false
-or_right_none true b e = cc
-or_right_none false b e = e
-
 is_free :
     (constants earlier : List (List ℕ)) (path name : List ℕ)
     → memory_name_faults constants earlier path name ≡ []
     → IsFree constants earlier name
 is_free constants earlier path name none =
     let clash : clashes name earlier || is_among (capitals name) constants ≡ false
-    = test_fails _ Clash path name (right-none (fault_where (is_among name earlier) Duplicate path name) _ none) in
+    = name_fault_where-none _ Clash path name (append-is_nil_right (fault_where (is_among name earlier) Duplicate path name) _ none) in
     record {
       apart = record {
-        new = test_fails _ Duplicate path name
-            (left-none (fault_where (is_among name earlier) Duplicate path name) _ none);
-        alone = or_left_none _ _ clash;
+        new = name_fault_where-none _ Duplicate path name
+            (append-is_nil_left (fault_where (is_among name earlier) Duplicate path name) _ none);
+        alone = (or_parts _ _ clash).0;
       };
-      free = or_right_none (clashes name earlier) _ clash;
+      free = (or_parts (clashes name earlier) _ clash).1;
     }
 
 memory_free :
@@ -79,7 +74,7 @@ memory_free :
 memory_free constants path variables none k inside =
     is_free constants (variable_names (take k variables)) (at_key (at_number path k) (codes "name"))
     (get_or variables k single).name
-    (left-none _ _
+    (append-is_nil_left _ _
     (each_none (λ i variable. memory_variable_faults constants (take i variables) (at_number path i) variable)
     variables single none k inside))
 
@@ -90,7 +85,7 @@ memory_apart :
 memory_apart constants path variables none =
     is_apart (variable_names variables)
     (λ k inside.
-    let at : k < length variables = subst (λ n. k < n) (length-map (λ v. v.name) variables) inside in
+    let at : k < length variables = subst (λ n. k < n) (length-map variables (λ v. v.name)) inside in
     let facts = memory_free constants path variables none k at in
     let name = get_or-map (λ v. v.name) single variables k refl in
     let earlier = take-map (λ v. v.name) k variables in
@@ -146,9 +141,9 @@ none_earlier p i k [] x below at none = cc
 none_earlier p i zero (y ∷ xs) x below at none = absurd (omega arith)
 none_earlier p zero (suc k) (y ∷ xs) x below at none =
     let same : y ≡ x = cc in
-    sym (ap p same) ∙ or_left_none (p y) _ none
+    sym (ap p same) ∙ (or_parts (p y) _ none).0
 none_earlier p (suc i) (suc k) (y ∷ xs) x below at none =
-    none_earlier p i k xs x (omega arith) at (or_right_none (p y) _ none)
+    none_earlier p i k xs x (omega arith) at (or_parts (p y) _ none).1
 
 named : (k : ℕ) (functions : List Function) (function : Function)
     → slice_get functions k ≡ Some function
@@ -169,10 +164,10 @@ named_earlier i j k [] type function below at_type at_function = cc
 named_earlier i zero k (t ∷ types) type function below at_type at_function = absurd (omega arith)
 named_earlier zero (suc j) k (t ∷ types) type function below at_type at_function =
     let same : type ≡ t = cc in
-    is_among-append function.name (function_names t.functions) (names_of_functions (take j types))
+    (list_any-append (bytes_eq function.name) (function_names t.functions) (names_of_functions (take j types)))
     ∙ or_left _ _ (named k t.functions function (sym (ap (λ u. slice_get u.functions k) same) ∙ at_function))
 named_earlier (suc i) (suc j) k (t ∷ types) type function below at_type at_function =
-    is_among-append function.name (function_names t.functions) (names_of_functions (take j types))
+    (list_any-append (bytes_eq function.name) (function_names t.functions) (names_of_functions (take j types)))
     ∙ or_right _ _ (named_earlier i j k types type function (omega arith) at_type at_function)
 
 all_three : {a b c : Bool} → a ≡ true → b ≡ true → c ≡ true → a && (b && c) ≡ true
@@ -185,8 +180,8 @@ variables_back :
 variables_back path variables none =
     looks_back (λ v. v.name) single variables refl
     (λ k inside.
-    test_fails _ Duplicate _ _
-    (left-none _ _
+    name_fault_where-none _ Duplicate _ _
+    (append-is_nil_left _ _
     (each_none (λ i variable. variable_faults (take i variables) (at_number path i) variable)
     variables single none k inside)))
 
@@ -200,10 +195,10 @@ pub memory_none :
     → slice_get model.agents i ≡ Some type
     → memory_faults (map capitals model.constants) (memory_path i) type.memory ≡ []
 memory_none model i type none at =
-    left-none
+    append-is_nil_left
     (memory_faults (map capitals model.constants) (memory_path i) type.memory)
     _
-    (right-none _ _ (agent_none model i type none at))
+    (append-is_nil_right _ _ (agent_none model i type none at))
 
 pub types_apart :
     (model : Model) (i : ℕ) (type : AgentType)
@@ -216,7 +211,7 @@ types_apart model i type none at = record {
   others = λ k variable constant at_variable among same.
       let free : IsFree (map capitals model.constants) (variable_names (take k type.memory)) variable.name
       = is_free (map capitals model.constants) (variable_names (take k type.memory)) _ variable.name
-      (left-none _ _ (each_at _ 0 type.memory k variable k memory at_variable (omega arith))) in
+      (append-is_nil_left _ _ (each_at _ 0 type.memory k variable k memory at_variable (omega arith))) in
       true≢false
       (sym (among_capitals variable.name model.constants constant among same) ∙ free.free);
 }
@@ -237,7 +232,7 @@ message_distinct model i message none at =
     let of_message = each_at _ 0 model.messages i message i (parts_none model none).messages at (omega arith) in
     distinct (variable_names message.variables)
     (variables_back (at_key (at_number (at_key xmodel (codes "messages")) i) (codes "variables")) message.variables
-    (right-none (apart_faults (message_names (take i model.messages)) _ message.name) _ of_message))
+    (append-is_nil_right (apart_faults (message_names (take i model.messages)) _ message.name) _ of_message))
 
 -- ---- inputs and outputs
 
@@ -251,9 +246,9 @@ inputs_back :
 inputs_back declared memory path inputs none =
     looks_back (λ input. input.message) no_input inputs refl
     (λ k inside.
-    test_fails _ Duplicate _ _
-    (right-none _ _
-    (left-none
+    name_fault_where-none _ Duplicate _ _
+    (append-is_nil_right _ _
+    (append-is_nil_left
     (use_faults declared (read_names (take k inputs)) (at_number path k) (get_or inputs k no_input).message) _
     (each_none
     (λ i input. input_faults declared memory (read_names (take i inputs)) (at_number path i) input)
@@ -265,8 +260,8 @@ outputs_back :
     → LooksBack outputs
 outputs_back declared path outputs none = record {
   new = λ k inside.
-      test_fails _ Duplicate _ _
-      (right-none _ _
+      name_fault_where-none _ Duplicate _ _
+      (append-is_nil_right _ _
       (each_none
       (λ i message. use_faults declared (take i outputs) (at_number path i) message) outputs [] none k inside));
 }
@@ -280,7 +275,7 @@ module _ (model : Model) (none : name_faults model ≡ []) where
       → function_faults (declared_by model) type.memory
       (taken_before model i) (take j type.functions) (place i j) function ≡ []
   of_function i j type function at_type at_function =
-      each_at _ 0 type.functions j function j (right-none _ _ (right-none _ _ (agent_none model i type none at_type)))
+      each_at _ 0 type.functions j function j (append-is_nil_right _ _ (append-is_nil_right _ _ (agent_none model i type none at_type)))
       at_function (omega arith)
 
   pub inputs_distinct :
@@ -315,7 +310,7 @@ module _ (model : Model) (none : name_faults model ≡ []) where
       → slice_get model.agents i ≡ Some type
       → slice_get type.functions j ≡ Some function
       → title_faults (taken_before model i) (take j type.functions) (at_key (place i j) (codes "name")) function ≡ []
-  title i j type function at_type at_function = left-none _ _ (of_function i j type function at_type at_function)
+  title i j type function at_type at_function = append-is_nil_left _ _ (of_function i j type function at_type at_function)
 
   pub functions_differ :
       (i j k l : ℕ) (type other : AgentType) (function another : Function)
@@ -331,7 +326,7 @@ module _ (model : Model) (none : name_faults model ≡ []) where
     where
       shared : not (bytes_eq another.name (codes "idle"))
           && is_among another.name (names_of_functions (take j model.agents)) ≡ false
-      shared = test_fails _ FunctionShared _ _ (left-none _ _ (title j l other another at_other at_another))
+      shared = name_fault_where-none _ FunctionShared _ _ (append-is_nil_left _ _ (title j l other another at_other at_another))
 
       taken : is_among another.name (names_of_functions (take j model.agents)) ≡ true
       taken =
@@ -339,7 +334,7 @@ module _ (model : Model) (none : name_faults model ≡ []) where
           ∙ named_earlier i j k model.agents type function below at_type at_function
 
       by_idle : (b : Bool) → bytes_eq another.name (codes "idle") ≡ b → function.name ≡ codes "idle"
-      by_idle true e = same ∙ same-bytes_eq another.name (codes "idle") e
+      by_idle true e = same ∙ bytes_eq-true another.name (codes "idle") e
       by_idle false e =
           let shown : not (bytes_eq another.name (codes "idle"))
           && is_among another.name (names_of_functions (take j model.agents)) ≡ true
@@ -358,8 +353,8 @@ module _ (model : Model) (none : name_faults model ≡ []) where
       → ⊥
   transitions_differ i j k type function another at_type below at_function at_another name current next =
       let new : list_any (is_same another) (take k type.functions) ≡ false
-      = test_fails _ Duplicate _ _
-      (right-none
+      = name_fault_where-none _ Duplicate _ _
+      (append-is_nil_right
       (fault_where
       (not (bytes_eq another.name (codes "idle")) && is_among another.name (names_of_functions (take i model.agents)))
       FunctionShared _ another.name) _ (title i k type another at_type at_another)) in

@@ -1,5 +1,5 @@
 -- Where nothing is found wrong with the names of a condition, they are declared.
-use Rattle.std.proofs.Common.{◌≡◌, ℕ, zero, suc, ◌+◌, Bool, true, false, List, [], ◌∷◌, ◌++◌, Option, Some, None}
+use Rattle.std.proofs.Common.{◌≡◌, ℕ, zero, suc, ◌+◌, true, List, [], ◌∷◌, ◌++◌, Option, Some, None}
 use Rattle.std.proofs.Common.{refl, ap, sym, ◌∙◌}
 use Rattle.std.proofs.Common.{arith, rules, not}
 use Rattle.std.specs.Prelude.{ℤ, slice_get, codes, ◌&&◌}
@@ -9,18 +9,18 @@ use Rattle.flame_spec.specs.declared.conditions.Condition.{more_of-Condition, en
 use Rattle.flame_spec.specs.declared.conditions.Condition.TheBlock.{shape-the_row-Condition-0}
 use Rattle.flame_spec.specs.declared.conditions.Condition.TheBlock.{hidden-the_row-Condition-0}
 use denote.Hole.Carrier.{hidden}
+use Rattle.std.proofs.lemmas.Bool.{and_from, not-false}
+use Rattle.flame_rows.proofs.Lists.{append-is_nil_left, append-is_nil_right}
 use Rattle.flame_spec.specs.declared.conditions.Operand.{Operand}
 use Rattle.flame_spec.specs.declared.conditions.Operand.TheVariants.{Number, Agent, Message}
-use Rattle.flame_spec.specs.declared.faults.NameKind.{NameKind}
 use Rattle.flame_spec.specs.declared.models.Variable.{Variable}
 use Rattle.flame_spec.specs.Columns.{is_array, variable_named}
 use Rattle.flame_spec.specs.Lists.{each_from}
 use Rattle.flame_spec.specs.KnownNames.{is_among}
 use Rattle.flame_spec.specs.Paths.{at_key}
-use Rattle.flame_spec.specs.Refusals.{fault_where}
 use Rattle.flame_spec.specs.Leaves.{LeafScope, found_faults, operand_faults, period_faults, leaf_faults}
+use Rattle.flame_spec.proofs.FaultTests.{name_fault_where-none}
 use Rattle.flame_spec_laws.specs.UsedNames.{is_single, knows_operand, knows}
-use Rattle.flame_spec_laws.proofs.Found.{left-none, right-none}
 
 -- where nothing comes from a list, nothing comes from any of its elements
 pub each_none :
@@ -33,25 +33,13 @@ each_none f i [] k x n none at e = cc
 each_none f i (y ∷ ys) zero x n none at e =
     let same : y ≡ x = cc in
     let place : n ≡ i = omega arith in
-    ap (λ m. f m x) place ∙ sym (ap (f i) same) ∙ left-none (f i y) (each_from f (i + 1) ys) none
+    ap (λ m. f m x) place ∙ sym (ap (f i) same) ∙ append-is_nil_left (f i y) (each_from f (i + 1) ys) none
 each_none f i (y ∷ ys) (suc k) x n none at e =
-    each_none f (i + 1) ys k x n (right-none (f i y) (each_from f (i + 1) ys) none) at (omega arith)
-
-pub test_fails : (test : Bool) (kind : NameKind) (path name : List ℕ) → fault_where test kind path name ≡ []
-    → test ≡ false
-test_fails true kind path name none = cc
-test_fails false kind path name none = refl
-
-pub not_false : (b : Bool) → not b ≡ false → b ≡ true
-not_false true e = refl
-not_false false e = cc
-
-both : (a b : Bool) → a ≡ true → b ≡ true → a && b ≡ true
-both a b e f = cc
+    each_none f (i + 1) ys k x n (append-is_nil_right (f i y) (each_from f (i + 1) ys) none) at (omega arith)
 
 pub found_single : (o : Option (ℕ × Variable)) (path text : List ℕ) → found_faults o path text ≡ [] → is_single o ≡ true
 found_single None path text none = cc
-found_single (Some found) path text none = ap not (test_fails (is_array found.1) _ path text none)
+found_single (Some found) path text none = ap not (name_fault_where-none (is_array found.1) _ path text none)
 
 operand_known :
     (scope : LeafScope) (path : List ℕ) (operand : Operand)
@@ -119,21 +107,21 @@ unfolding shape-the_row-Condition-0 hidden-the_row-Condition-0 hidden
 condition_known scope (Compare op a b) path none =
     let parts = sym (leaf-Compare scope op a b path) ∙ none in
     knows-Compare scope op a b
-    ∙ both _ _ (operand_known scope _ a (left-none _ _ parts)) (operand_known scope _ b (right-none _ _ parts))
+    ∙ and_from _ _ (operand_known scope _ a (append-is_nil_left _ _ parts)) (operand_known scope _ b (append-is_nil_right _ _ parts))
 condition_known scope
     (And' _ (more_of-Condition a end_of-Condition) _ (more_of-Condition b end_of-Condition)) path none =
     let parts = sym (leaf-And scope a b path) ∙ none in
     knows-And scope a b
-    ∙ both _ _ (condition_known scope a _ (left-none _ _ parts)) (condition_known scope b _ (right-none _ _ parts))
+    ∙ and_from _ _ (condition_known scope a _ (append-is_nil_left _ _ parts)) (condition_known scope b _ (append-is_nil_right _ _ parts))
 condition_known scope
     (Or' _ (more_of-Condition a end_of-Condition) _ (more_of-Condition b end_of-Condition)) path none =
     let parts = sym (leaf-Or scope a b path) ∙ none in
     knows-Or scope a b
-    ∙ both _ _ (condition_known scope a _ (left-none _ _ parts)) (condition_known scope b _ (right-none _ _ parts))
+    ∙ and_from _ _ (condition_known scope a _ (append-is_nil_left _ _ parts)) (condition_known scope b _ (append-is_nil_right _ _ parts))
 condition_known scope (Not' _ (more_of-Condition a end_of-Condition)) path none =
     knows-Not scope a ∙ condition_known scope a _ (sym (leaf-Not scope a path) ∙ none)
 condition_known scope (Time unit phase duration) path none =
     let parts = sym (leaf-Time scope unit phase duration path) ∙ none in
     knows-Time scope unit phase duration
-    ∙ both _ _ (not_false _ (test_fails _ _ _ _ (left-none _ _ parts)))
-    (operand_known scope _ phase (right-none _ _ parts))
+    ∙ and_from _ _ (not-false _ (name_fault_where-none _ _ _ _ (append-is_nil_left _ _ parts)))
+    (operand_known scope _ phase (append-is_nil_right _ _ parts))

@@ -1,6 +1,7 @@
 -- What names stand for where they have no fault.
 use Rattle.std.proofs.Common.{◌≡◌, ℕ, List, [], ◌∷◌, Option, Some, None, IsTrue, IsFalse}
 use Rattle.std.proofs.lemmas.Bool.{not-false}
+use Rattle.flame_rows.proofs.Lists.{append-is_nil_left, append-is_nil_right}
 use Rattle.flame_spec.specs.declared.trees.Parameter.{Parameter}
 use Rattle.flame_spec.specs.declared.faults.CheckKind.TheVariants.{UnknownName, NeedsIndex, NotArray, ReadOnly}
 use Rattle.flame_spec.specs.declared.faults.CheckKind.TheVariants.{Redeclared}
@@ -9,10 +10,10 @@ use Rattle.flame_spec.specs.Trees.{at as element}
 use Rattle.flame_spec.specs.Scopes.{Context, Sight}
 use Rattle.flame_spec.specs.ExpressionFaults.{names_array, expression_faults}
 use Rattle.flame_spec.specs.StatementFaults.{subscript_faults, assignment_faults, stored_faults, items_faults}
+use Rattle.flame_spec.proofs.FaultTests.{fault_where-none}
 use Rattle.flame_spec_laws.specs.CheckLaws.{IsReadable, IsAssignable, IsNew}
 use Rattle.flame_spec_laws.specs.BodyParts.{defining}
-use Rattle.flame_spec_laws.proofs.Found.{left-none, right-none}
-use Rattle.flame_spec_laws.proofs.NoFaults.{fault_where-none, part_faults}
+use Rattle.flame_spec_laws.proofs.NoFaults.{part_faults}
 use Rattle.flame_spec_laws.proofs.Sights.{readable, assignable, new}
 
 pub name_read :
@@ -20,16 +21,16 @@ pub name_read :
     → expression_faults at sight (name line word) ≡ []
     → IsReadable at sight word × IsFalse (names_array at word)
 name_read at sight line word none =
-    (readable at sight line word (left-none _ _ none), fault_where-none _ at NeedsIndex line word (right-none _ _ none))
+    (readable at sight line word (append-is_nil_left _ _ none), fault_where-none _ at NeedsIndex line word (append-is_nil_right _ _ none))
 
 pub name_indexed :
     (at : Context) (sight : Sight) (line : ℕ) (word : List ℕ) (index_line : ℕ) (index : Expression)
     → expression_faults at sight (element line word index_line index) ≡ []
     → IsReadable at sight word × IsTrue (names_array at word)
 name_indexed at sight line word index_line index none =
-    let both = left-none _ _ none in (
-      readable at sight line word (left-none _ _ both),
-      not-false _ (fault_where-none _ at NotArray line word (right-none _ _ both)),
+    let both = append-is_nil_left _ _ none in (
+      readable at sight line word (append-is_nil_left _ _ both),
+      not-false _ (fault_where-none _ at NotArray line word (append-is_nil_right _ _ both)),
     )
 
 bare :
@@ -47,7 +48,7 @@ indexed :
     → IsTrue (names_array at word)
 indexed at sight line word None subscript clear is = cc
 indexed at sight line word (Some other) subscript clear is =
-    not-false _ (fault_where-none _ at NotArray line word (left-none _ _ clear))
+    not-false _ (fault_where-none _ at NotArray line word (append-is_nil_left _ _ clear))
 
 pub name_assigned :
     (at : Context) (sight : Sight) (a : Assigned)
@@ -56,12 +57,12 @@ pub name_assigned :
     × (a.subscript ≡ None → IsFalse (names_array at a.name))
     × ((subscript : Indexed) → a.subscript ≡ Some subscript → IsTrue (names_array at a.name))
 name_assigned at sight a none =
-    let place = left-none _ (stored_faults at sight a.value) none in
-    let names = left-none _ (subscript_faults at sight a.line a.name a.subscript) place in
-    let clear = right-none _ (subscript_faults at sight a.line a.name a.subscript) place in (
+    let place = append-is_nil_left _ (stored_faults at sight a.value) none in
+    let names = append-is_nil_left _ (subscript_faults at sight a.line a.name a.subscript) place in
+    let clear = append-is_nil_right _ (subscript_faults at sight a.line a.name a.subscript) place in (
       assignable at sight a.name
-          (not-false _ (fault_where-none _ at UnknownName a.line a.name (left-none _ _ names)))
-          (fault_where-none _ at ReadOnly a.line a.name (right-none _ _ names)),
+          (not-false _ (fault_where-none _ at UnknownName a.line a.name (append-is_nil_left _ _ names)))
+          (fault_where-none _ at ReadOnly a.line a.name (append-is_nil_right _ _ names)),
       bare at sight a.line a.name a.subscript clear,
       λ subscript. indexed at sight a.line a.name a.subscript subscript clear,
     )
@@ -72,7 +73,7 @@ pub name_declared :
     → IsNew at sight item.name
 name_declared at sight item items none =
     new at sight item.name
-    (fault_where-none _ at Redeclared item.line item.name (left-none _ _ (left-none _ _ none)))
+    (fault_where-none _ at Redeclared item.line item.name (append-is_nil_left _ _ (append-is_nil_left _ _ none)))
 
 pub parameter_declared :
     (at : Context) (sight : Sight) (parameter : Parameter) (parameters : List Parameter) (body : Statements)
@@ -80,4 +81,4 @@ pub parameter_declared :
     → IsNew at sight parameter.name
 parameter_declared at sight parameter parameters body none =
     new at sight parameter.name
-    (fault_where-none _ at Redeclared parameter.line parameter.name (left-none _ _ (left-none _ _ none)))
+    (fault_where-none _ at Redeclared parameter.line parameter.name (append-is_nil_left _ _ (append-is_nil_left _ _ none)))

@@ -4,6 +4,7 @@ use Rattle.std.proofs.Common.{codes, Option, Some, None, cond, refl, ap, sym, �
 use Rattle.std.specs.Prelude.{nat_lt, ◌&&◌, slice_get, is_some}
 use Rattle.std.specs.Str.{bytes_eq}
 use Rattle.std.proofs.lemmas.Bool.{ltb-false}
+use Rattle.flame_rows.proofs.Lists.{append-is_nil_right}
 use Rattle.flame_spec.specs.declared.faults.NameKind.TheVariants.{TooWide}
 use Rattle.flame_spec.specs.declared.models.Model.{Model}
 use Rattle.flame_spec.specs.declared.models.Variable.{Variable}
@@ -14,9 +15,9 @@ use Rattle.flame_spec.specs.KnownNames.{message_names}
 use Rattle.flame_spec.specs.Paths.{at_key, at_number}
 use Rattle.flame_spec.specs.MessageFaults.{is_too_wide, width_faults, apart_faults}
 use Rattle.flame_spec.specs.NameFaults.{name_faults}
+use Rattle.flame_spec.proofs.FaultTests.{name_fault_where-none}
 use Rattle.flame_spec_laws.specs.ArrayWidths.{AreNear}
-use Rattle.flame_spec_laws.proofs.Found.{right-none}
-use Rattle.flame_spec_laws.proofs.NameKnowledge.{each_none, test_fails}
+use Rattle.flame_spec_laws.proofs.NameKnowledge.{each_none}
 use Rattle.flame_spec_laws.proofs.UsedKnown.{xmodel, parts_none}
 use Rattle.flame_spec_laws.proofs.Members.{memory_path, memory_none}
 
@@ -37,7 +38,7 @@ in_time : (earlier : List Variable) (variable : Variable) (path : List ℕ)
     → is_array variable ≡ true
     → width earlier + width_of variable ≤ 4096
 in_time earlier variable path none is =
-    let test : is_too_wide earlier variable ≡ false = test_fails _ TooWide _ _ none in
+    let test : is_too_wide earlier variable ≡ false = name_fault_where-none _ TooWide _ _ none in
     let small : nat_lt 4096 (width earlier + width_of variable) ≡ false
     = sym (ap (λ b. b && nat_lt 4096 (width earlier + width_of variable)) is) ∙ test in
     ltb-false _ _ small
@@ -130,7 +131,7 @@ memory_near model i type none at =
     near type.memory
     (λ k variable there is.
     in_time (take k type.memory) variable (at_number (memory_path i) k)
-    (right-none _ _ (each_none _ 0 type.memory k variable k (memory_none model i type none at) there (omega arith))) is)
+    (append-is_nil_right _ _ (each_none _ 0 type.memory k variable k (memory_none model i type none at) there (omega arith))) is)
 
 -- where the variables of a message stand
 abbrev variables_path : ℕ → List ℕ
@@ -144,8 +145,8 @@ pub message_near :
 message_near model i message none at =
     let of_message = each_none _ 0 model.messages i message i (parts_none model none).messages at (omega arith) in
     let of_variables =
-    right-none (apart_faults (message_names (take i model.messages)) _ message.name) _ of_message in
+    append-is_nil_right (apart_faults (message_names (take i model.messages)) _ message.name) _ of_message in
     near message.variables
     (λ k variable there is.
     in_time (take k message.variables) variable (at_number (variables_path i) k)
-    (right-none _ _ (each_none _ 0 message.variables k variable k of_variables there (omega arith))) is)
+    (append-is_nil_right _ _ (each_none _ 0 message.variables k variable k of_variables there (omega arith))) is)

@@ -1,12 +1,12 @@
 -- Where a part has no fault, each part of it has none.
-use Rattle.std.proofs.Common.{◌≡◌, ℕ, Bool, true, false, List, [], ◌∷◌, ◌++◌, Option, Some, None, refl, ap, sym, ◌∙◌}
+use Rattle.std.proofs.Common.{◌≡◌, ℕ, List, [], ◌∷◌, ◌++◌, Option, Some, None, ap, sym, ◌∙◌}
+use Rattle.flame_rows.proofs.Lists.{append-is_nil_left, append-is_nil_right, append-nils}
 use Rattle.flame_spec.specs.declared.faults.CheckFault.{CheckFault}
-use Rattle.flame_spec.specs.declared.faults.CheckKind.{CheckKind}
 use Rattle.flame_spec.specs.declared.trees.Parameter.{Parameter}
 use Rattle.flame_spec.specs.Trees.{Expression, Expressions, no_parts, part, Stored, Indexed, Statements}
 use Rattle.flame_spec.specs.Definitions.{Definition, helper_named}
 use Rattle.flame_spec.specs.Scopes.{Context, Sight, after_name, after_parameters}
-use Rattle.flame_spec.specs.ExpressionFaults.{fault_where, expression_faults, parts_faults, links_faults}
+use Rattle.flame_spec.specs.ExpressionFaults.{expression_faults, parts_faults, links_faults}
 use Rattle.flame_spec.specs.CallFaults.{Deed, called_by, deed_of, places_of, deed_faults, argument_faults}
 use Rattle.flame_spec.specs.CallFaults.{arguments_faults}
 use Rattle.flame_spec.specs.StatementFaults.{stored_faults, subscript_faults, assignment_faults, optional_stored_faults}
@@ -27,14 +27,6 @@ use Rattle.flame_spec_laws.specs.BodyParts.{while_body}
 use Rattle.flame_spec_laws.specs.BodyParts.{for_first, for_test, for_step, for_body, do_body, do_test, loop_body, returned}
 use Rattle.flame_spec_laws.specs.BodyParts.{first_statement, later_statement, arm_test, arm_body, later_arm, later_parameter}
 use Rattle.flame_spec_laws.specs.BodyParts.{function_body}
-use Rattle.flame_spec_laws.proofs.Found.{left-none, right-none}
-
-pub fault_where-none :
-    (b : Bool) (context : Context) (kind : CheckKind) (line : ℕ) (word : List ℕ)
-    → fault_where b context kind line word ≡ []
-    → b ≡ false
-fault_where-none true context kind line word none = cc
-fault_where-none false context kind line word none = refl
 
 -- the faults of a part
 abbrev pub part_faults : Context → Part → Sight → List CheckFault
@@ -53,10 +45,6 @@ part_faults context (tests arms) sight = arms_faults context sight arms
 part_faults context (defining parameters body) sight =
     parameters_faults context sight parameters ++ statements_faults context (after_parameters sight parameters) body
 
-both-none : {X : Type 0} (xs ys : List X) → xs ≡ [] → ys ≡ [] → xs ++ ys ≡ []
-both-none [] ys none more = more
-both-none (x ∷ xs) ys none more = cc
-
 parameters-none :
     (context : Context) (sight : Sight) (parameter : Parameter) (parameters : List Parameter) (body : Statements)
     → parameters_faults context sight (parameter ∷ parameters)
@@ -65,10 +53,10 @@ parameters-none :
     ++ statements_faults context (after_parameters (after_name sight parameter.name) parameters) body ≡ []
 parameters-none context sight parameter parameters body none =
     let next : Sight = after_name sight parameter.name in
-    let later : parameters_faults context sight (parameter ∷ parameters) ≡ [] = left-none _ _ none in
-    both-none (parameters_faults context next parameters)
+    let later : parameters_faults context sight (parameter ∷ parameters) ≡ [] = append-is_nil_left _ _ none in
+    append-nils (parameters_faults context next parameters)
     (statements_faults context (after_parameters next parameters) body)
-    (right-none _ _ later) (right-none _ _ none)
+    (append-is_nil_right _ _ later) (append-is_nil_right _ _ none)
 
 pub optional_stored_faults-none :
     (context : Context) (sight : Sight) (o : Option Stored) (stored : Stored)
@@ -88,7 +76,7 @@ subscript_faults-none :
 subscript_faults-none context sight line word None subscript is none = cc
 subscript_faults-none context sight line word (Some other) subscript is none =
     let same : other ≡ subscript = cc in
-    sym (ap (λ s. expression_faults context sight s.index) same) ∙ right-none _ _ none
+    sym (ap (λ s. expression_faults context sight s.index) same) ∙ append-is_nil_right _ _ none
 
 argument_faults-none :
     (context : Context) (sight : Sight) (line : ℕ) (word : List ℕ) (length wanted : Option ℕ) (e : Expression)
@@ -107,7 +95,7 @@ deed_faults-none :
 deed_faults-none context sight None deed line word arguments is none = cc
 deed_faults-none context sight (Some other) deed line word arguments is none =
     let same : other ≡ deed = cc in
-    sym (ap (λ d. arguments_faults context sight line word (places_of d) arguments) same) ∙ right-none _ _ none
+    sym (ap (λ d. arguments_faults context sight line word (places_of d) arguments) same) ∙ append-is_nil_right _ _ none
 
 plain-none :
     (context : Context) (sight : Sight) (line : ℕ) (word : List ℕ) (arguments : Expressions)
@@ -123,7 +111,7 @@ called-none :
     → parts_faults context sight arguments ≡ []
 called-none context sight None line word arguments none = cc
 called-none context sight (Some found) line word arguments none =
-    plain-none context sight line word arguments (right-none _ _ none)
+    plain-none context sight line word arguments (append-is_nil_right _ _ none)
 
 module _ (context : Context) (inner : Part) (there : Sight) where
   pub no_faults :
@@ -132,33 +120,33 @@ module _ (context : Context) (inner : Part) (there : Sight) where
       → part_faults context outer here ≡ []
       → part_faults context inner there ≡ []
   no_faults itself none = none
-  no_faults (element_index line word index_line index s) none = no_faults s (right-none _ _ none)
-  no_faults (field_index line word variable index_line index s) none = no_faults s (right-none _ _ none)
+  no_faults (element_index line word index_line index s) none = no_faults s (append-is_nil_right _ _ none)
+  no_faults (field_index line word variable index_line index s) none = no_faults s (append-is_nil_right _ _ none)
   no_faults (under_signs signs e s) none = no_faults s none
   no_faults {here = here} (chain_begin e more s) none =
-      no_faults s (left-none (expression_faults context here e) _ none)
+      no_faults s (append-is_nil_left (expression_faults context here e) _ none)
   no_faults {here = here} (chain_more e more s) none =
-      no_faults s (right-none (expression_faults context here e) _ none)
+      no_faults s (append-is_nil_right (expression_faults context here e) _ none)
   no_faults (all_part parts s) none = no_faults s none
   no_faults (any_part parts s) none = no_faults s none
   no_faults {here = here} (first_value e more s) none =
-      no_faults s (left-none (expression_faults context here e) _ none)
+      no_faults s (append-is_nil_left (expression_faults context here e) _ none)
   no_faults {here = here} (later_value e more s) none =
-      no_faults s (right-none (expression_faults context here e) _ none)
+      no_faults s (append-is_nil_right (expression_faults context here e) _ none)
   no_faults {here = here} (first_operand op line e more s) none =
-      no_faults s (left-none (expression_faults context here e) _ none)
+      no_faults s (append-is_nil_left (expression_faults context here e) _ none)
   no_faults {here = here} (later_operand op line e more s) none =
-      no_faults s (right-none (expression_faults context here e) _ none)
+      no_faults s (append-is_nil_right (expression_faults context here e) _ none)
   no_faults {here = here} (single_argument line word variable variables e more is s) none =
       no_faults s
       (argument_faults-none context here line word variable.length None e is
-      (left-none (argument_faults context here line word variable.length e) _ none))
+      (append-is_nil_left (argument_faults context here line word variable.length e) _ none))
   no_faults {here = here} (array_argument line word variable variables e more length is s) none =
       no_faults s
       (argument_faults-none context here line word variable.length (Some length) e is
-      (left-none (argument_faults context here line word variable.length e) _ none))
+      (append-is_nil_left (argument_faults context here line word variable.length e) _ none))
   no_faults {here = here} (later_argument line word variable variables e more s) none =
-      no_faults s (right-none (argument_faults context here line word variable.length e) _ none)
+      no_faults s (append-is_nil_right (argument_faults context here line word variable.length e) _ none)
   no_faults {here = here} (plain_argument line word arguments s) none =
       no_faults s (plain-none context here line word arguments none)
   no_faults (plain_value e s) none = no_faults s none
@@ -167,35 +155,35 @@ module _ (context : Context) (inner : Part) (there : Sight) where
   no_faults {here = here} (assigned_index a subscript is s) none =
       no_faults s
       (subscript_faults-none context here a.line a.name a.subscript subscript is
-      (right-none _ (subscript_faults context here a.line a.name a.subscript) (left-none _ _ none)))
-  no_faults (assigned_value a s) none = no_faults s (right-none _ _ none)
+      (append-is_nil_right _ (subscript_faults context here a.line a.name a.subscript) (append-is_nil_left _ _ none)))
+  no_faults (assigned_value a s) none = no_faults s (append-is_nil_right _ _ none)
   no_faults (item_value item items stored is s) none =
-      no_faults s (optional_stored_faults-none context _ item.value stored is (right-none _ _ (left-none _ _ none)))
-  no_faults (later_item item items s) none = no_faults s (right-none _ _ none)
+      no_faults s (optional_stored_faults-none context _ item.value stored is (append-is_nil_right _ _ (append-is_nil_left _ _ none)))
+  no_faults (later_item item items s) none = no_faults s (append-is_nil_right _ _ none)
   no_faults (declaration items s) none = no_faults s none
   no_faults (assignment a s) none = no_faults s none
   no_faults {here = here} (call_argument line word arguments deed is s) none =
       no_faults s (deed_faults-none context here (deed_of context word) deed line word arguments is none)
   no_faults (block_body body s) none = no_faults s none
-  no_faults (branch_arm arms otherwise s) none = no_faults s (left-none _ _ none)
-  no_faults (branch_otherwise arms otherwise s) none = no_faults s (right-none _ _ none)
-  no_faults (while_test line test body s) none = no_faults s (left-none _ _ none)
-  no_faults (while_body line test body s) none = no_faults s (right-none _ _ none)
+  no_faults (branch_arm arms otherwise s) none = no_faults s (append-is_nil_left _ _ none)
+  no_faults (branch_otherwise arms otherwise s) none = no_faults s (append-is_nil_right _ _ none)
+  no_faults (while_test line test body s) none = no_faults s (append-is_nil_left _ _ none)
+  no_faults (while_body line test body s) none = no_faults s (append-is_nil_right _ _ none)
   no_faults (for_first line first test step body s) none =
-      no_faults s (left-none _ _ (left-none _ _ (left-none _ _ none)))
+      no_faults s (append-is_nil_left _ _ (append-is_nil_left _ _ (append-is_nil_left _ _ none)))
   no_faults (for_test line first test step body s) none =
-      no_faults s (right-none _ _ (left-none _ _ (left-none _ _ none)))
-  no_faults (for_step line first test step body s) none = no_faults s (right-none _ _ (left-none _ _ none))
-  no_faults (for_body line first test step body s) none = no_faults s (right-none _ _ none)
-  no_faults (do_body line body test s) none = no_faults s (left-none _ _ none)
-  no_faults (do_test line body test s) none = no_faults s (right-none _ _ none)
-  no_faults (loop_body line word body end_line end_word s) none = no_faults s (right-none _ _ (left-none _ _ none))
+      no_faults s (append-is_nil_right _ _ (append-is_nil_left _ _ (append-is_nil_left _ _ none)))
+  no_faults (for_step line first test step body s) none = no_faults s (append-is_nil_right _ _ (append-is_nil_left _ _ none))
+  no_faults (for_body line first test step body s) none = no_faults s (append-is_nil_right _ _ none)
+  no_faults (do_body line body test s) none = no_faults s (append-is_nil_left _ _ none)
+  no_faults (do_test line body test s) none = no_faults s (append-is_nil_right _ _ none)
+  no_faults (loop_body line word body end_line end_word s) none = no_faults s (append-is_nil_right _ _ (append-is_nil_left _ _ none))
   no_faults (returned e s) none = no_faults s none
-  no_faults (first_statement statement more s) none = no_faults s (left-none _ _ none)
-  no_faults (later_statement statement more s) none = no_faults s (right-none _ _ none)
-  no_faults (arm_test test body more s) none = no_faults s (left-none _ _ (left-none _ _ none))
-  no_faults (arm_body test body more s) none = no_faults s (right-none _ _ (left-none _ _ none))
-  no_faults (later_arm test body more s) none = no_faults s (right-none _ _ none)
+  no_faults (first_statement statement more s) none = no_faults s (append-is_nil_left _ _ none)
+  no_faults (later_statement statement more s) none = no_faults s (append-is_nil_right _ _ none)
+  no_faults (arm_test test body more s) none = no_faults s (append-is_nil_left _ _ (append-is_nil_left _ _ none))
+  no_faults (arm_body test body more s) none = no_faults s (append-is_nil_right _ _ (append-is_nil_left _ _ none))
+  no_faults (later_arm test body more s) none = no_faults s (append-is_nil_right _ _ none)
   no_faults {here = here} (later_parameter parameter parameters body s) none =
       no_faults s
       (parameters-none context here parameter parameters body none)

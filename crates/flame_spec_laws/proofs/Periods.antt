@@ -1,4 +1,5 @@
 -- The length of a unit is its period times the length of its own unit.
+use mathlib.Core.Bool.{or-true}
 use Rattle.std.proofs.Common.{◌≡◌, ℕ, zero, suc, ◌+◌, ◌-◌, ◌<◌, ◌≤◌, pos, ◌*ℤ◌, Bool, true, false, true≢false, ◌||◌}
 use Rattle.std.proofs.Common.{cond, List, [], ◌∷◌, take, length, get_or, codes, Some, option_map, refl, ap, sym, ◌∙◌}
 use Rattle.std.proofs.Common.{subst, arith}
@@ -7,6 +8,9 @@ use Rattle.std.specs.Str.{bytes_eq}
 use Rattle.std.proofs.Math.Seq.{take-suc}
 use Rattle.std.proofs.lemmas.List.{map_push}
 use Rattle.std.proofs.lemmas.Option.{get_or_from_slice_get, slice_get_within}
+use Rattle.std.proofs.lemmas.List.Folds.{list_any-append}
+use Rattle.flame_rows.proofs.Bytes.{bytes_eq-self, bytes_eq-true}
+use Rattle.flame_rows.proofs.Lists.{append-is_nil_left, append-is_nil_right}
 use Rattle.flame_spec.specs.declared.faults.NameKind.TheVariants.{Duplicate}
 use Rattle.flame_spec.specs.declared.models.Model.{Model}
 use Rattle.flame_spec.specs.declared.models.TimeUnit.{TimeUnit}
@@ -16,9 +20,9 @@ use Rattle.flame_spec.specs.NameFaults.{name_faults}
 use Rattle.flame_spec.specs.Paths.{at_key, at_number}
 use Rattle.flame_spec.specs.Refusals.{fault_where}
 use Rattle.flame_spec.specs.UnitFaults.{length_after, measure_faults, unit_faults, units_faults}
-use Rattle.flame_spec_laws.proofs.CheckedBodies.{same-bytes_eq}
-use Rattle.flame_spec_laws.proofs.Distinct.{nil_left, nil_right, each_none, no_test, is_among-append, units_path, units_none}
-use Rattle.flame_spec_laws.proofs.Measures.{unit_length-push, measured, take_all, or_true, bytes_eq_same}
+use Rattle.flame_spec.proofs.FaultTests.{name_fault_where-none}
+use Rattle.flame_spec_laws.proofs.Distinct.{each_none, units_path, units_none}
+use Rattle.flame_spec_laws.proofs.Measures.{unit_length-push, measured, take_all}
 
 abbrev no_unit : TimeUnit
 no_unit = record { name = []; unit = []; period = pos 0 }
@@ -36,15 +40,15 @@ module _ (units : List TimeUnit) (none : units_faults units_path units ≡ []) w
       each_none (λ i one. unit_faults (take i units) (at_number units_path i) one) units no_unit none k inside in
       record {
         new =
-            no_test (is_among unit.name (unit_names (take k units))) Duplicate
+            name_fault_where-none (is_among unit.name (unit_names (take k units))) Duplicate
             (at_key (at_number units_path k) (codes "name")) unit.name
-            (nil_left
+            (append-is_nil_left
             (fault_where (is_among unit.name (unit_names (take k units))) Duplicate
             (at_key (at_number units_path k) (codes "name")) unit.name)
             (measure_faults (take k units) (at_number units_path k) unit) clear);
         known =
             (measured (take k units) (at_number units_path k) unit
-            (nil_right
+            (append-is_nil_right
             (fault_where (is_among unit.name (unit_names (take k units))) Duplicate
             (at_key (at_number units_path k) (codes "name")) unit.name)
             (measure_faults (take k units) (at_number units_path k) unit) clear)).0;
@@ -67,7 +71,7 @@ module _ (units : List TimeUnit) (none : units_faults units_path units ≡ []) w
   names_more k name inside there =
       ap (λ us. is_among name (unit_names us)) (take-suc units k no_unit inside)
       ∙ ap (λ l. is_among name (codes "iteration" ∷ l)) (map_push (λ u. u.name) (take k units) (get_or units k no_unit))
-      ∙ is_among-append name (unit_names (take k units)) ((get_or units k no_unit).name ∷ [])
+      ∙ (list_any-append (bytes_eq name) (unit_names (take k units)) ((get_or units k no_unit).name ∷ []))
       ∙ or_of _ _ there
     where
       or_of : (a b : Bool) → a ≡ true → a || b ≡ true
@@ -87,7 +91,7 @@ module _ (units : List TimeUnit) (none : units_faults units_path units ≡ []) w
           → cond b (length_after (take k units) (get_or units k no_unit)) (unit_length (take k units) name)
           ≡ unit_length (take k units) name
       by_name true e =
-          let same : name ≡ (get_or units k no_unit).name = same-bytes_eq name (get_or units k no_unit).name e in
+          let same : name ≡ (get_or units k no_unit).name = bytes_eq-true name (get_or units k no_unit).name e in
           let other : is_among name (unit_names (take k units)) ≡ false
           = ap (λ n. is_among n (unit_names (take k units))) same ∙ (behind k inside).new in
           absurd (true≢false (sym there ∙ other))
@@ -117,9 +121,9 @@ module _ (units : List TimeUnit) (none : units_faults units_path units ≡ []) w
       let name = (get_or units k no_unit).name in
       ap (λ us. is_among name (unit_names us)) (take-suc units k no_unit inside)
       ∙ ap (λ l. is_among name (codes "iteration" ∷ l)) (map_push (λ u. u.name) (take k units) (get_or units k no_unit))
-      ∙ is_among-append name (unit_names (take k units)) (name ∷ [])
-      ∙ ap (λ b. is_among name (unit_names (take k units)) || (b || false)) (bytes_eq_same name)
-      ∙ or_true (is_among name (unit_names (take k units)))
+      ∙ (list_any-append (bytes_eq name) (unit_names (take k units)) (name ∷ []))
+      ∙ ap (λ b. is_among name (unit_names (take k units)) || (b || false)) (bytes_eq-self name)
+      ∙ or-true (is_among name (unit_names (take k units)))
 
   pub iteration_one : unit_length units (codes "iteration") ≡ Some (pos 1)
   iteration_one = kept 0 (codes "iteration") (omega arith) refl
@@ -143,7 +147,7 @@ module _ (units : List TimeUnit) (none : units_faults units_path units ≡ []) w
           kept (suc k) unit_there.name (omega arith) (own_there k inside)
           ∙ longer k unit_there.name inside
           ∙ ap (λ b. cond b (length_after (take k units) unit_there) (unit_length (take k units) unit_there.name))
-          (bytes_eq_same unit_there.name)
+          (bytes_eq-self unit_there.name)
           ∙ ap (option_map (λ length. unit_there.period *ℤ length))
           (sym (kept k unit_there.unit (omega arith) (behind k inside).known))
 

@@ -1,10 +1,7 @@
 -- Rows that are read are rows of boards.
-use Rattle.std.proofs.Common.{ℕ, zero, suc, Bool, true, false, cond, List, [], ◌∷◌, map, Option, Some, None}
+use Rattle.std.proofs.Common.{ℕ, Bool, List, [], ◌∷◌, map, Option, Some, None}
 use Rattle.std.specs.Prelude.{ℤ, slice_index_or}
 use Rattle.std.specs.List.{filter}
-use Rattle.std.specs.Ordering.{is_gt}
-use Rattle.std.specs.declared.cmp.Ordering.{Ordering}
-use Rattle.flame_rows.specs.Sorted.{with_one, sorted_by}
 use Rattle.flame_spec.specs.declared.models.AgentType.{AgentType}
 use Rattle.flame_spec.specs.declared.models.Input.{Input}
 use Rattle.flame_spec.specs.declared.models.MessageType.{MessageType}
@@ -16,38 +13,13 @@ use Rattle.flame_meaning.specs.Outcomes.{message_named, reading_by, reading_of, 
 use Rattle.flame_meaning.specs.RangeLaws.{Each, AreInts}
 use Rattle.flame_meaning.proofs.RangesKept.{outcomes_are_ints}
 use Rattle.flame_spec_laws.specs.JoinedLaws.{OutcomesOverBoardsAreInts}
-
-module _ {X : Type 0} (P : X → Type 0) where
-  by_bool : (b : Bool) (xs ys : List X) → Each P xs → Each P ys → Each P (cond b xs ys)
-  by_bool true xs ys h g = h
-  by_bool false xs ys h g = g
-
-  filtered : (passes : X → Bool) (xs : List X) → Each P xs → Each P (filter passes xs)
-  filtered passes [] h = tt
-  filtered passes (x ∷ xs) h =
-      by_bool (passes x) (x ∷ filter passes xs) (filter passes xs) (h.0, filtered passes xs h.1)
-      (filtered passes xs h.1)
-
-  put_in : (order : X → X → Ordering) (x : X) (xs : List X) → P x → Each P xs → Each P (with_one order x xs)
-  put_in order x [] h g = (h, tt)
-  put_in order x (y ∷ ys) h g =
-      by_bool (is_gt (order x y)) (y ∷ with_one order x ys) (x ∷ y ∷ ys) (g.0, put_in order x ys h g.1) (h, g)
-
-  sorted : (order : X → X → Ordering) (xs : List X) → Each P xs → Each P (sorted_by order xs)
-  sorted order [] h = tt
-  sorted order (x ∷ xs) h = put_in order x (sorted_by order xs) h.0 (sorted order xs h.1)
-
-  -- the one of this number, or one of its own
-  at_place : (xs : List X) (k : ℕ) (d : X) → P d → Each P xs → P (slice_index_or xs k d)
-  at_place [] k d own h = own
-  at_place (x ∷ xs) zero d own h = h.0
-  at_place (x ∷ xs) (suc k) d own h = at_place xs k d own h.1
+use Rattle.flame_meaning.proofs.Eachs.{each_index, each_sorted, each_filter}
 
 pub viewed :
     (P : List ℤ → Type 0) (passes : List ℤ → Bool) (key : Option Key) (board : List (List ℤ))
     → Each P board
     → Each P (view passes key board)
-viewed P passes key board h = sorted P (view_order key) (filter passes board) (filtered P passes board h)
+viewed P passes key board h = each_sorted P (view_order key) (filter passes board) (each_filter P passes board h)
 
 module _ (boards : List (List (List ℤ))) (ints : Each (λ board. Each AreInts board) boards) where
   found_read :
@@ -57,7 +29,7 @@ module _ (boards : List (List (List ℤ))) (ints : Each (λ board. Each AreInts 
   found_read (Some found) type memory input =
       viewed AreInts (is_read type found.1 input.filter memory) (option_map (key_of found.1) input.sort)
       (slice_index_or boards found.0 [])
-      (at_place (λ board. Each AreInts board) boards found.0 [] tt ints)
+      (each_index (λ board. Each AreInts board) [] boards found.0 tt ints)
 
   all_read :
       (model : Model) (type : AgentType) (memory : List ℤ) (inputs : List Input)

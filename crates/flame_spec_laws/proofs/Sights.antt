@@ -1,9 +1,11 @@
 -- What words and loops stand for where tests found no fault.
-use Rattle.std.proofs.Common.{◌≡◌, ◌≢◌, ℕ, true, false, not, ◌||◌, List, [], ◌∷◌, Contains, Some, IsTrue, ◌⊎◌, inl, inr}
+use Rattle.std.proofs.Common.{◌≡◌, ◌≢◌, ℕ, true, false, not, ◌||◌, List, [], ◌∷◌, Contains, Some, IsTrue, ◌⊎◌, inl, inr, true≢false}
 use Rattle.std.proofs.Common.{refl, ap, sym, ◌∙◌, subst}
 use Rattle.std.specs.Prelude.{is_some}
 use Rattle.std.specs.Str.{bytes_eq}
 use Rattle.std.proofs.lemmas.Bool.{not-true, not-false, or_cases, or_parts, and_parts}
+use Rattle.flame_rows.proofs.Bytes.{bytes_eq-true, bytes_eq-same}
+use Rattle.flame_rows.proofs.Truths.{is_some-false, is_some-true}
 use Rattle.flame_spec.specs.declared.models.MessageType.{MessageType}
 use Rattle.flame_spec.specs.declared.faults.CheckKind.TheVariants.{UnknownName}
 use Rattle.flame_spec.specs.KnownNames.{is_among}
@@ -12,15 +14,11 @@ use Rattle.flame_spec.specs.Scopes.{Context, Loop, over_message, over_none, Sigh
 use Rattle.flame_spec.specs.Scopes.{is_local, is_name_of, is_visible, is_over, is_open_over, is_outside}
 use Rattle.flame_spec.specs.ExpressionFaults.{unknown_faults}
 use Rattle.flame_spec.specs.StatementFaults.{is_only_read, is_read_only, is_taken}
+use Rattle.flame_spec.proofs.FaultTests.{fault_where-none}
 use Rattle.flame_spec_laws.specs.CheckLaws.{Means, names_local, names_memory, names_constant, names_iteration, IsReadable}
 use Rattle.flame_spec_laws.specs.CheckLaws.{IsMemory, IsAssignable, IsNew}
 use Rattle.flame_spec_laws.proofs.Found.{list_any-found, list_any-at}
-use Rattle.flame_spec_laws.proofs.NoFaults.{fault_where-none}
-use Rattle.flame_spec_laws.proofs.CheckedBodies.{bytes_eq-same, same-bytes_eq}
-use Rattle.flame_spec_laws.proofs.LookedUp.{is_some-found, none-found, Gives, of_memory, of_constant, of_iteration, gives}
-
-different : true ≡ false → ⊥
-different e = cc
+use Rattle.flame_spec_laws.proofs.LookedUp.{Gives, of_memory, of_constant, of_iteration, gives}
 
 -- ---- names
 
@@ -36,7 +34,7 @@ means at sight word seen =
     by_given g (of_iteration is same) = names_iteration same
 
     by_kind : (is_some (given_at at word) ≡ true) ⊎ (is_local sight word ≡ true) → Means at sight word
-    by_kind (inl e) = let (g, found) = is_some-found (given_at at word) e in by_given g (gives at word g found)
+    by_kind (inl e) = let (g, found) = is_some-true (given_at at word) e in by_given g (gives at word g found)
     by_kind (inr e) = names_local e
 
 -- a word that is visible is not the name of the item in whose value it stands
@@ -46,7 +44,7 @@ not_own at sight word seen own =
     let shown : is_name_of sight.own word ≡ false
     = not-true (is_name_of sight.own word)
     (and_parts _ (is_some (given_at at word) || is_local sight word) seen).0 in
-    different (sym hidden ∙ shown)
+    true≢false (sym hidden ∙ shown)
 
 pub readable :
     (at : Context) (sight : Sight) (line : ℕ) (word : List ℕ)
@@ -71,10 +69,10 @@ assignable at sight word seen free = record {
 }
   where
     no_constant : (number : ℕ) → given_at at word ≢ Some (constant number)
-    no_constant number e = different (sym (ap is_only_read e) ∙ free)
+    no_constant number e = true≢false (sym (ap is_only_read e) ∙ free)
 
     no_iteration : given_at at word ≢ Some iteration
-    no_iteration e = different (sym (ap is_only_read e) ∙ free)
+    no_iteration e = true≢false (sym (ap is_only_read e) ∙ free)
 
     by_given : (g : Given) → given_at at word ≡ Some g → Gives at word g → IsMemory at word
     by_given g found (of_memory column variable is c same) = (variable, c, same)
@@ -85,7 +83,7 @@ assignable at sight word seen free = record {
         (is_some (given_at at word) ≡ true) ⊎ (is_local sight word ≡ true)
         → IsTrue (is_local sight word) ⊎ IsMemory at word
     by_kind (inl e) =
-        let (g, found) = is_some-found (given_at at word) e in
+        let (g, found) = is_some-true (given_at at word) e in
         inr (by_given g found (gives at word g found))
     by_kind (inr e) = inl e
 
@@ -93,10 +91,10 @@ assignable at sight word seen free = record {
 pub new : (at : Context) (sight : Sight) (word : List ℕ) → is_taken at sight word ≡ false → IsNew at sight word
 new at sight word free = record {
   scope = λ c.
-      different
+      true≢false
       (sym (list_any-at (bytes_eq word) sight.scope word c (bytes_eq-same word word refl))
       ∙ (or_parts (is_among word sight.scope) (is_some (given_at at word)) free).0);
-  given = none-found (given_at at word) (or_parts (is_among word sight.scope) (is_some (given_at at word)) free).1;
+  given = is_some-false (given_at at word) (or_parts (is_among word sight.scope) (is_some (given_at at word)) free).1;
 }
 
 -- ---- loops
@@ -112,7 +110,7 @@ open_over sight message any = by_loop (list_any-found (is_over message) sight.lo
         (loop : Loop) × Contains sight.loops loop × (is_over message loop ≡ true)
         → Contains sight.loops (over_message message.name)
     by_loop (over_message name, c, e) =
-        let same : name ≡ message.name = same-bytes_eq name message.name e in
+        let same : name ≡ message.name = bytes_eq-true name message.name e in
         subst (λ n. Contains sight.loops (over_message n)) same c
     by_loop (over_none, c, e) = cc
 

@@ -1,6 +1,8 @@
 -- In models without name faults each name that is used is declared.
 use Rattle.std.proofs.Common.{◌≡◌, ℕ, Bool, true, List, [], ◌++◌, take, Option, Some, None, ap, sym, ◌∙◌, arith}
 use Rattle.std.specs.Prelude.{slice_get, codes}
+use Rattle.std.proofs.lemmas.Bool.{not-false}
+use Rattle.flame_rows.proofs.Lists.{append-is_nil_left, append-is_nil_right}
 use Rattle.flame_spec.specs.declared.conditions.Condition.{Condition}
 use Rattle.flame_spec.specs.declared.models.Model.{Model}
 use Rattle.flame_spec.specs.declared.models.AgentType.{AgentType}
@@ -18,9 +20,9 @@ use Rattle.flame_spec.specs.FunctionFaults.{condition_scope, sort_faults, input_
 use Rattle.flame_spec.specs.FunctionFaults.{title_faults, function_faults}
 use Rattle.flame_spec.specs.NameFaults.{agent_faults, agents_faults, type_names, names_of_functions, environment_faults}
 use Rattle.flame_spec.specs.NameFaults.{name_faults}
+use Rattle.flame_spec.proofs.FaultTests.{name_fault_where-none}
 use Rattle.flame_spec_laws.specs.UsedNames.{has_single, knows, IsInputKnown, IsFunctionKnown, UsedNamesAreDeclared}
-use Rattle.flame_spec_laws.proofs.Found.{left-none, right-none}
-use Rattle.flame_spec_laws.proofs.NameKnowledge.{each_none, test_fails, not_false, found_single, condition_known}
+use Rattle.flame_spec_laws.proofs.NameKnowledge.{each_none, found_single, condition_known}
 
 abbrev pub xmodel : List ℕ
 xmodel = at_key root (codes "xmodel")
@@ -37,14 +39,14 @@ pub record HasNone (model : Model) : Type 0 where
 
 pub parts_none : (model : Model) → name_faults model ≡ [] → HasNone model
 parts_none model none = record {
-  constants = left-none _ _ (left-none (environment_faults environment model) _ none);
+  constants = append-is_nil_left _ _ (append-is_nil_left (environment_faults environment model) _ none);
   units =
-      right-none (constant_faults (at_key environment (codes "constants")) model.constants) _
-      (left-none (environment_faults environment model) _ none);
-  messages = left-none _ _ (right-none (environment_faults environment model) _ none);
+      append-is_nil_right (constant_faults (at_key environment (codes "constants")) model.constants) _
+      (append-is_nil_left (environment_faults environment model) _ none);
+  messages = append-is_nil_left _ _ (append-is_nil_right (environment_faults environment model) _ none);
   agents =
-      right-none (messages_faults (at_key xmodel (codes "messages")) model.messages) _
-      (right-none (environment_faults environment model) _ none);
+      append-is_nil_right (messages_faults (at_key xmodel (codes "messages")) model.messages) _
+      (append-is_nil_right (environment_faults environment model) _ none);
 }
 
 pub agent_none :
@@ -84,13 +86,13 @@ input_known :
     → input_faults declared memory earlier path input ≡ []
     → IsInputKnown declared memory input
 input_known declared memory earlier path input none =
-    let after_use = right-none _ _ none in
-    let after_order = right-none _ _ after_use in
+    let after_use = append-is_nil_right _ _ none in
+    let after_order = append-is_nil_right _ _ after_use in
     record {
-      message = not_false _ (test_fails _ _ _ _ (left-none _ _ (left-none _ _ none)));
-      order = test_fails _ _ _ _ (left-none _ _ after_use);
-      filter = condition_there _ _ input.filter (left-none _ _ after_order);
-      sort = sort_there _ _ input.sort (right-none _ _ after_order);
+      message = not-false _ (name_fault_where-none _ _ _ _ (append-is_nil_left _ _ (append-is_nil_left _ _ none)));
+      order = name_fault_where-none _ _ _ _ (append-is_nil_left _ _ after_use);
+      filter = condition_there _ _ input.filter (append-is_nil_left _ _ after_order);
+      sort = sort_there _ _ input.sort (append-is_nil_right _ _ after_order);
     }
 
 -- no part of the function has faults
@@ -108,7 +110,7 @@ pub function_none :
     → function_faults declared memory is_taken earlier path function ≡ []
     → HasNoneIn declared memory path function
 function_none declared memory is_taken earlier path function none =
-    behind_title (right-none (title_faults is_taken earlier (at_key path (codes "name")) function) _ none)
+    behind_title (append-is_nil_right (title_faults is_taken earlier (at_key path (codes "name")) function) _ none)
   where
     behind_condition :
         condition_faults (condition_scope declared memory) (at_key path (codes "condition")) function.condition ≡ []
@@ -118,8 +120,8 @@ function_none declared memory is_taken earlier path function none =
         → HasNoneIn declared memory path function
     behind_condition of_condition more = record {
       condition = of_condition;
-      inputs = left-none _ _ more;
-      outputs = right-none (inputs_faults declared memory (at_key path (codes "inputs")) function.inputs) _ more;
+      inputs = append-is_nil_left _ _ more;
+      outputs = append-is_nil_right (inputs_faults declared memory (at_key path (codes "inputs")) function.inputs) _ more;
     }
 
     behind_title :
@@ -130,10 +132,10 @@ function_none declared memory is_taken earlier path function none =
         → HasNoneIn declared memory path function
     behind_title more =
         behind_condition
-        (left-none
+        (append-is_nil_left
         (condition_faults (condition_scope declared memory)
         (at_key path (codes "condition")) function.condition) _ more)
-        (right-none
+        (append-is_nil_right
         (condition_faults (condition_scope declared memory)
         (at_key path (codes "condition")) function.condition) _ more)
 
@@ -148,8 +150,8 @@ function_known declared memory path function parts = record {
   inputs =
       λ k input at. input_known _ _ _ _ input (each_none _ 0 function.inputs k input k parts.inputs at (omega arith));
   outputs = λ k message at.
-      not_false (is_among message declared.messages)
-      (test_fails _ _ _ _ (left-none _ _ (each_none _ 0 function.outputs k message k parts.outputs at (omega arith))));
+      not-false (is_among message declared.messages)
+      (name_fault_where-none _ _ _ _ (append-is_nil_left _ _ (each_none _ 0 function.outputs k message k parts.outputs at (omega arith))));
 }
 
 pub used_declared : UsedNamesAreDeclared
@@ -160,5 +162,5 @@ used_declared model i j type function none at_type at_function =
     (λ name. is_among name (names_of_functions (take i model.agents)))
     (take j type.functions) path function
     (each_none _ 0 type.functions j function j
-    (right-none _ _ (right-none _ _ (agent_none model i type none at_type)))
+    (append-is_nil_right _ _ (append-is_nil_right _ _ (agent_none model i type none at_type)))
     at_function (omega arith)))

@@ -6,6 +6,8 @@ use Rattle.std.specs.List.{slice_get, list_all}
 use Rattle.std.specs.Str.{bytes_eq}
 use Rattle.std.specs.Prelude.{codes}
 use Rattle.std.proofs.lemmas.Bool.{and_parts, leb-true}
+use Rattle.flame_rows.proofs.Lists.{append-is_nil}
+use Rattle.flame_rows.proofs.Truths.{option_map-none}
 use Rattle.flame_words.specs.declared.orders.Order.{Order}
 use Rattle.flame_words.specs.declared.table.Command.{Command}
 use Rattle.flame_words.specs.declared.table.Command.TheVariants.{Run, Check, Graph, Code, Trial, Migrate}
@@ -97,10 +99,6 @@ first_or-ok :
 first_or-ok [] order other e = (refl, cc)
 first_or-ok (fault ∷ faults) order other e = (cc, cc)
 
-both_empty : {X : Type 0} (xs ys : List X) → xs ++ ys ≡ [] → (xs ≡ []) × (ys ≡ [])
-both_empty [] ys e = (refl, e)
-both_empty (x ∷ xs) ys e = (cc, cc)
-
 empty_mapped : {X Y : Type 0} (f : X → Y) (xs : List X) → map f xs ≡ [] → xs ≡ []
 empty_mapped f [] e = refl
 empty_mapped f (x ∷ xs) e = cc
@@ -108,10 +106,6 @@ empty_mapped f (x ∷ xs) e = cc
 none_listed : {X : Type 0} (o : Option X) → option_to_list o ≡ [] → o ≡ None
 none_listed None e = refl
 none_listed (Some x) e = cc
-
-none_mapped : {X Y : Type 0} (f : X → Y) (o : Option X) → option_map f o ≡ None → o ≡ None
-none_mapped f None e = refl
-none_mapped f (Some x) e = cc
 
 none_past : {X : Type 0} (xs : List X) (at : ℕ) → slice_get xs at ≡ None → length xs ≤ at
 none_past [] at none = omega arith
@@ -123,10 +117,10 @@ enough_words : (command : Command) (words : List Role)
     → missing command words ≡ []
     → length (places command) ≤ length (positionals_among words)
 enough_words command words none =
-    let names = both_empty (option_to_list (lacking_option words)) (option_to_list (absent_place command words))
+    let names = append-is_nil (option_to_list (lacking_option words)) (option_to_list (absent_place command words))
     (empty_mapped Missing _ none) in
     none_past (places command) (length (positionals_among words))
-    (none_mapped place_name _ (none_listed (absent_place command words) names.1))
+    (option_map-none place_name _ (none_listed (absent_place command words) names.1))
 
 line_within : (command : Command) (later : List (List ℕ)) (order : Order)
     → answer_of (line_behind command later) ≡ Ok order
@@ -134,7 +128,7 @@ line_within : (command : Command) (later : List (List ℕ)) (order : Order)
 line_within command later order e =
     let parts = first_or-ok (faults_behind command [] (roles later) ++ missing command (roles later))
     (line_order (line_behind command later)) order e in
-    let clear = both_empty (faults_behind command [] (roles later)) (missing command (roles later)) parts.0 in
+    let clear = append-is_nil (faults_behind command [] (roles later)) (missing command (roles later)) parts.0 in
     let enough = enough_words command (roles later) clear.1 in
     elim (ends command later) [
       | inl end ↦

@@ -6,6 +6,7 @@ use Rattle.std.specs.Option.{option_map, ok_or, IsSomeAnd}
 use Rattle.std.specs.Result.{IsErrAnd}
 use Rattle.std.specs.List.{slice_get}
 use Rattle.std.proofs.lemmas.List.{append-nil}
+use Rattle.flame_rows.proofs.Truths.{cases_Option}
 use Rattle.flame_words.specs.declared.orders.Order.{Order}
 use Rattle.flame_words.specs.declared.table.Command.{Command}
 use Rattle.flame_words.specs.declared.faults.Usage.{Usage}
@@ -19,7 +20,7 @@ use Rattle.flame_words.specs.WordSteps.{Seen, nothing_behind, fault_at, read_on}
 use Rattle.flame_words.proofs.Progress.{Follows, follows_first, follows_on, read_on-command}
 use Rattle.flame_words.proofs.FoundFaults.{fault_found}
 use Rattle.flame_words.proofs.Reach.{few_read}
-use Rattle.flame_words.proofs.FaultNumbers.{cases_Option, fault_at_number, length-roles_behind}
+use Rattle.flame_words.proofs.FaultNumbers.{fault_at_number, length-roles_behind}
 
 -- all words were read
 pub record Finishes (command : Command) (all : List (List ℕ)) : Type 0 where

@@ -1,7 +1,7 @@
 -- Faults of words have the numbers of their words.
 use Rattle.std.proofs.Common.{◌≡◌, ℕ, zero, suc, ◌+◌, ◌<◌, ◌≤◌, List, [], ◌∷◌, ◌++◌, length, map, Bool, true, false}
 use Rattle.std.proofs.Common.{cond, not, ◌&&◌, nat_le}
-use Rattle.std.proofs.Common.{Option, Some, None, Ok, refl, sym, ap, arith, inl, inr, ◌⊎◌, add-one, length-append}
+use Rattle.std.proofs.Common.{Option, Some, None, Ok, refl, sym, ap, arith, inl, inr, add-one, length-append}
 use Rattle.std.specs.Option.{is_some, option_map, option_map_or, option_and_then, option_to_list, ok_or}
 use Rattle.std.specs.List.{slice_get, slice_index, list_any, All}
 use Rattle.std.specs.List.Sorted.{IsStrictlyIncreasing}
@@ -9,6 +9,7 @@ use Rattle.std.specs.Str.{bytes_eq}
 use Rattle.std.proofs.lemmas.Bool.{cases_Bool}
 use Rattle.std.proofs.lemmas.List.{append-nil}
 use Rattle.std.proofs.lemmas.List.Elements.{filter_map-append}
+use Rattle.flame_rows.proofs.Truths.{cases_Option}
 use Rattle.flame_words.specs.declared.table.Command.{Command}
 use Rattle.flame_words.specs.declared.table.Flag.{Flag}
 use Rattle.flame_words.specs.declared.table.Place.{Place}
@@ -122,10 +123,6 @@ climbs_within low high (x ∷ xs) up (suc k) d within =
     let rest = climbs_within x high xs up.2 k d (omega arith) in
     let first : low < x = up.0 in
     (omega (arith, rest.0), rest.1)
-
-pub cases_Option : {X : Type 0} (o : Option X) → (o ≡ None) ⊎ ((x : X) × (o ≡ Some x))
-cases_Option None = inl refl
-cases_Option (Some x) = inr (x, refl)
 
 -- the faults of words climb with the words
 faults_climb : (command : Command) (before : List Role) (words : List Role) (high : ℕ)

@@ -1,15 +1,9 @@
 -- Lists that were mapped, lists with one item more, and what is found in a list.
-use Rattle.std.proofs.Common.{◌≡◌, Bool, true, false, cond, List, [], ◌∷◌, ◌++◌, map, refl, ap, sym, ◌∙◌, ◌||◌}
+use Rattle.std.proofs.Common.{◌≡◌, Bool, true, false, cond, List, [], ◌∷◌, ◌++◌, map, refl, ap, sym, ◌∙◌}
 use Rattle.std.proofs.Common.{Option, Some, inl, inr}
 use Rattle.std.specs.Option.{option_map}
-use Rattle.std.specs.List.{list_any, find, last_or}
+use Rattle.std.specs.List.{find, last_or}
 use Rattle.std.proofs.lemmas.Bool.{cases_Bool}
-
-pub any_mapped :
-    {X Y : Type 0} (p : Y → Bool) (f : X → Y) (xs : List X)
-    → list_any p (map f xs) ≡ list_any (λ x. p (f x)) xs
-any_mapped p f [] = refl
-any_mapped p f (x ∷ xs) = ap (λ rest. p (f x) || rest) (any_mapped p f xs)
 
 map_cond :
     {X Y : Type 0} (f : X → Y) (b : Bool) (x : X) (o : Option X)

@@ -11,6 +11,7 @@ use Rattle.std.proofs.lemmas.Slice.Eq.{bytes_eq-Decides}
 use Rattle.std.proofs.lemmas.List.{map_push, append-nil}
 use Rattle.std.proofs.lemmas.List.Folds.{list_all-append}
 use Rattle.std.proofs.lemmas.List.Elements.{filter_map-append}
+use Rattle.flame_rows.proofs.Lists.{list_any_map}
 use Rattle.flame_words.specs.declared.table.Command.{Command}
 use Rattle.flame_words.specs.declared.table.Flag.{Flag}
 use Rattle.flame_words.specs.declared.table.Place.{Place}
@@ -24,7 +25,7 @@ use Rattle.flame_words.specs.WordRoles.{givens_among}
 use Rattle.flame_words.specs.UsageFaults.{is_given, fault_of, faults_behind, lacking_option}
 use Rattle.flame_words.specs.WordSteps.{Seen, nothing_behind, given_of, fault_at, read_on}
 use Rattle.flame_words.specs.TakenWords.{words_suit, given_suits}
-use Rattle.flame_words.proofs.Lists.{any_mapped, last_or-push, find_passes}
+use Rattle.flame_words.proofs.Lists.{last_or-push, find_passes}
 use Rattle.flame_words.proofs.Suits.{suits_there, words_suit-push}
 use Rattle.flame_words.proofs.SpareOptions.{unused, unused-le, unused_falls}
 
@@ -135,7 +136,7 @@ pub used_before :
     → names ≡ map (λ given. given.name) givens ++ []
     → list_any (λ given. bytes_eq given.name word) givens ≡ is_given names word
 used_before names givens word are =
-    sym (any_mapped (λ name. bytes_eq name word) (λ given. given.name) givens)
+    sym (list_any_map (λ name. bytes_eq name word) (λ given. given.name) givens)
     ∙ ap (λ names. is_given names word) (sym (append-nil _) ∙ sym are)
 
 -- the next word is an option

@@ -6,6 +6,7 @@ use Rattle.std.specs.Str.{bytes_eq}
 use Rattle.std.proofs.lemmas.Bool.{cases_Bool}
 use Rattle.std.proofs.lemmas.List.Folds.{list_any-append}
 use Rattle.std.proofs.lemmas.Slice.Eq.{bytes_eq-Decides}
+use Rattle.flame_rows.proofs.Bytes.{bytes_eq-true}
 use Rattle.flame_words.specs.declared.table.Flag.{Flag}
 use Rattle.flame_words.specs.CommandTable.{flag_name}
 use Rattle.flame_words.specs.UsageFaults.{is_given}
@@ -49,9 +50,6 @@ unused-push names word (flag ∷ flags) =
     let head = head_fewer names word (flag_name flag) in
     omega arith
 
-same_word : (a b : List ℕ) → bytes_eq a b ≡ true → a ≡ b
-same_word a b e = (bytes_eq-Decides a b).0 e
-
 found_head : (names : List (List ℕ)) (word name : List ℕ)
     → bytes_eq name word ≡ true
     → is_given names word ≡ false
@@ -62,7 +60,7 @@ found_head names word name same fresh =
     ∙ ap (λ b. b || (bytes_eq word word || false)) fresh
     ∙ ap (λ b. b || false) ((bytes_eq-Decides word word).1 refl) in
     let P : List ℕ → Type 0 = λ n. cond (is_given (names ++ word ∷ []) n) 0 1 + 1 ≤ cond (is_given names n) 0 1 in
-    subst P (sym (same_word name word same)) (rw (given, fresh) (omega arith))
+    subst P (sym (bytes_eq-true name word same)) (rw (given, fresh) (omega arith))
 
 -- with the name of one of them that was not among the names fewer of them are unused
 pub unused_falls :

@@ -86,7 +86,7 @@ impl<'a> Reading<'a> {
     }
 
     /// Why a word that begins with `--` is not taken.
-    #[tactic(auto, using(crate::proofs::Lists::any_mapped))]
+    #[tactic(auto, using(flame_rows::proofs::Lists::list_any_map))]
     fn option_fault(&self, number: u32, word: &str) -> Option<Usage>
         ensures { result ≡ option_fault (seen_of self.now) number word.now }
     {

@@ -2,7 +2,7 @@
 use Rattle.std.proofs.Common.{◌≡◌, ℕ, zero, suc, ◌+◌, ◌*◌, ◌<◌, Bool, true, false, cond, List, [], ◌∷◌, ◌++◌, length, map, Some, Ok, Option, None, refl, sym, ap, ◌∙◌, arith, subst, ◌⊎◌, inl, inr, zero-add}
 use Rattle.std.specs.Prelude.{ℤ, not, ◌&&◌, slice_get, slice_index_or, IsTrue}
 use Rattle.std.specs.List.{filter, AllZip, zip, flat_map, list_all}
-use Rattle.std.proofs.lemmas.List.{length-append}
+use Rattle.std.proofs.lemmas.List.{length-append, length-map}
 use Rattle.std.proofs.lemmas.Bool.{eqb-true, false≢true}
 use Rattle.std.specs.declared.cmp.Ordering.{Ordering}
 use Rattle.std.specs.Ordering.{is_gt}
@@ -46,7 +46,7 @@ total-changed size change d zero (x ∷ xs) there = omega arith
 total-changed size change d (suc place) (x ∷ xs) (inl within) = omega (arith, total-changed size change d place xs (inl (omega (arith, within))))
 total-changed size change d (suc place) (x ∷ xs) (inr same) = omega (arith, total-changed size change d place xs (inr same))
 
-length-changed : {X : Type 0} (place : ℕ) (change : X → X) (xs : List X) → length (changed place change xs) ≡ length xs
+pub length-changed : {X : Type 0} (place : ℕ) (change : X → X) (xs : List X) → length (changed place change xs) ≡ length xs
 length-changed place change [] = refl
 length-changed zero change (x ∷ xs) = refl
 length-changed (suc place) change (x ∷ xs) = ap suc (length-changed place change xs)
@@ -115,10 +115,6 @@ agents_of-begun starts agents (state ∷ all) =
       | false ↦ grind (arith, rest)
     ]
 
-length-map : {X Y : Type 0} (f : X → Y) (xs : List X) → length (map f xs) ≡ length xs
-length-map f [] = refl
-length-map f (x ∷ xs) = ap suc (length-map f xs)
-
 and_true : (a b : Bool) → IsTrue (a && b) → (a ≡ true) × IsTrue b
 and_true true b both = (refl, both)
 and_true false b both = absurd (false≢true both)
@@ -151,7 +147,7 @@ pooled_begun [] [] long = tt
 pooled_begun [] (bag ∷ bags) long = absurd (omega (arith, long))
 pooled_begun (type ∷ types) [] long = absurd (omega (arith, long))
 pooled_begun (type ∷ types) (bag ∷ bags) long = (
-  length-map (λ state. cond (is_entered type.functions state) [] (ascending bag)) (states type.functions),
+  (length-map (states type.functions) (λ state. cond (is_entered type.functions state) [] (ascending bag))),
   pooled_begun types bags (omega (arith, long)),
 )
 

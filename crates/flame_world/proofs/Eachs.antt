@@ -2,9 +2,6 @@
 use Rattle.std.proofs.Common.{◌≡◌, ℕ, zero, suc, Bool, true, false, cond, List, [], ◌∷◌, ◌++◌, map, Option, Some, None, refl, arith, All, subst}
 use Rattle.std.specs.Prelude.{slice_get, slice_index_or}
 use Rattle.std.specs.List.{filter, filter_map, flat_map, cons_option, AllZip}
-use Rattle.std.specs.declared.cmp.Ordering.{Ordering}
-use Rattle.std.specs.Ordering.{is_gt}
-use Rattle.flame_rows.specs.Sorted.{with_one, sorted_by}
 use Rattle.flame_meaning.specs.RangeLaws.{Each, IfAny}
 use Rattle.flame_world.specs.Fields.{changed}
 
@@ -36,14 +33,6 @@ pub each_map : {X Y : Type 0} (P : X → Type 0) (Q : Y → Type 0) (f : X → Y
 each_map P Q f go [] all = tt
 each_map P Q f go (x ∷ xs) all = (go x all.0, each_map P Q f go xs all.1)
 
-pub each_filter : {X : Type 0} (P : X → Type 0) (p : X → Bool) (xs : List X) → Each P xs → Each P (filter p xs)
-each_filter P p [] all = tt
-each_filter P p (x ∷ xs) all =
-    elim (p x) as (λ t. Each P (cond t (x ∷ filter p xs) (filter p xs))) [
-      | true ↦ (all.0, each_filter P p xs all.1)
-      | false ↦ each_filter P p xs all.1
-    ]
-
 -- what passes has passed
 pub each_passing : {X : Type 0} (P Q : X → Type 0) (p : X → Bool) → ((x : X) → p x ≡ true → P x → Q x) → (xs : List X) → Each P xs → Each Q (filter p xs)
 each_passing P Q p go [] all = tt
@@ -65,18 +54,6 @@ each_filter_map P Q f go (x ∷ xs) all = each_cons Q (f x) (filter_map f xs) (g
 pub each_flat_map : {X Y : Type 0} (P : X → Type 0) (Q : Y → Type 0) (f : X → List Y) → ((x : X) → P x → Each Q (f x)) → (xs : List X) → Each P xs → Each Q (flat_map f xs)
 each_flat_map P Q f go [] all = tt
 each_flat_map P Q f go (x ∷ xs) all = each_append Q (f x) (flat_map f xs) (go x all.0) (each_flat_map P Q f go xs all.1)
-
-each_with_one : {X : Type 0} (P : X → Type 0) (order : X → X → Ordering) (x : X) (xs : List X) → P x → Each P xs → Each P (with_one order x xs)
-each_with_one P order x [] here all = (here, tt)
-each_with_one P order x (y ∷ ys) here all =
-    elim (is_gt (order x y)) as (λ t. Each P (cond t (y ∷ with_one order x ys) (x ∷ y ∷ ys))) [
-      | true ↦ (all.0, each_with_one P order x ys here all.1)
-      | false ↦ (here, all)
-    ]
-
-pub each_sorted : {X : Type 0} (P : X → Type 0) (order : X → X → Ordering) (xs : List X) → Each P xs → Each P (sorted_by order xs)
-each_sorted P order [] all = tt
-each_sorted P order (x ∷ xs) all = each_with_one P order x (sorted_by order xs) all.0 (each_sorted P order xs all.1)
 
 -- ---- two lists
 
@@ -112,11 +89,6 @@ zip_both Q R [] [] all zipped = tt
 zip_both Q R [] (y ∷ ys) all zipped = absurd zipped
 zip_both Q R (x ∷ xs) [] all zipped = absurd zipped
 zip_both Q R (x ∷ xs) (y ∷ ys) all zipped = ((all.0, zipped.0), zip_both Q R xs ys all.1 zipped.1)
-
-pub each_index : {X : Type 0} (P : X → Type 0) (d : X) (xs : List X) (k : ℕ) → P d → Each P xs → P (slice_index_or xs k d)
-each_index P d [] k none all = none
-each_index P d (x ∷ xs) zero none all = all.0
-each_index P d (x ∷ xs) (suc k) none all = each_index P d xs k none all.1
 
 pub each_changed : {X : Type 0} (P : X → Type 0) (k : ℕ) (f : X → X) → ((x : X) → P x → P (f x)) → (xs : List X) → Each P xs → Each P (changed k f xs)
 each_changed P k f go [] all = tt

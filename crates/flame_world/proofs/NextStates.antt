@@ -1,4 +1,5 @@
 -- The states that a function leaves and enters are states of its type.
+use mathlib.Core.Bool.{or-true}
 use Rattle.std.proofs.Common.{◌≡◌, ℕ, zero, suc, ◌+◌, ◌<◌, Bool, true, false, cond, List, [], ◌∷◌, ◌++◌, length, map, Some, refl, sym, ap, ◌∙◌, arith, subst}
 use Rattle.std.specs.Prelude.{not, ◌||◌, slice_get}
 use Rattle.std.specs.List.{list_any, position_or_len}
@@ -6,22 +7,12 @@ use Rattle.std.specs.Str.{bytes_eq}
 use Rattle.std.proofs.lemmas.Slice.Eq.{bytes_eq-Decides}
 use Rattle.std.proofs.lemmas.List.Folds.{list_any-append}
 use Rattle.std.proofs.lemmas.Bool.{false≢true}
+use Rattle.flame_rows.proofs.Bytes.{bytes_eq-self}
 use Rattle.flame_spec.specs.declared.models.AgentType.{AgentType}
 use Rattle.flame_spec.specs.declared.models.Function.{Function}
 use Rattle.flame_spec.specs.Functions.{Place, functions_from, at_type}
 use Rattle.flame_spec.specs.KnownNames.{is_among}
 use Rattle.flame_spec.specs.States.{distinct_after, ends, states}
-
-or_right : (a : Bool) → (a || true) ≡ true
-or_right true = refl
-or_right false = refl
-
-any_left : (a b : Bool) → (a || b) ≡ true → (a ≡ false) → b ≡ true
-any_left true b any none = absurd cc
-any_left false b any none = any
-
-self : (text : List ℕ) → bytes_eq text text ≡ true
-self text = (bytes_eq-Decides text text).1 refl
 
 -- where one passes, the first that does has a place in the list
 pub any_position : {X : Type 0} (p : X → Bool) (xs : List X) → list_any p xs ≡ true → position_or_len p xs < length xs
@@ -49,7 +40,7 @@ module _ (state : List ℕ) where
             | true ↦ λ found _.
                 let same : state ≡ other = (bytes_eq-Decides state other).0 found in
                 ap (λ t. t || list_any is_it texts) ((bytes_eq-Decides other state).1 (sym same))
-            | false ↦ λ _ later. ap (λ t. bytes_eq other state || t) (go texts later) ∙ or_right (bytes_eq other state)
+            | false ↦ λ _ later. ap (λ t. bytes_eq other state || t) (go texts later) ∙ or-true (bytes_eq other state)
           ])
           refl any
 
@@ -80,11 +71,11 @@ any_end [] j function at = absurd cc
 any_end (own ∷ functions) zero function at =
     let same : own ≡ function = cc in
     subst (λ (f : Function). list_any (is_it f.next) (ends (own ∷ functions)) ≡ true) same
-    (ap (λ t. bytes_eq own.current own.next || (t || list_any (is_it own.next) (ends functions))) (self own.next) ∙ or_right (bytes_eq own.current own.next))
+    (ap (λ t. bytes_eq own.current own.next || (t || list_any (is_it own.next) (ends functions))) (bytes_eq-self own.next) ∙ or-true (bytes_eq own.current own.next))
 any_end (own ∷ functions) (suc j) function at =
     ap (λ t. is_it function.next own.current || (is_it function.next own.next || t)) (any_end functions j function at)
-    ∙ ap (λ t. is_it function.next own.current || t) (or_right (is_it function.next own.next))
-    ∙ or_right (is_it function.next own.current)
+    ∙ ap (λ t. is_it function.next own.current || t) (or-true (is_it function.next own.next))
+    ∙ or-true (is_it function.next own.current)
 
 pub next_state : (functions : List Function) (j : ℕ) (function : Function)
     → slice_get functions j ≡ Some function
@@ -99,11 +90,11 @@ any_begin [] j function at = absurd cc
 any_begin (own ∷ functions) zero function at =
     let same : own ≡ function = cc in
     subst (λ (f : Function). list_any (is_it f.current) (ends (own ∷ functions)) ≡ true) same
-    (ap (λ t. t || list_any (is_it own.current) (own.next ∷ ends functions)) (self own.current))
+    (ap (λ t. t || list_any (is_it own.current) (own.next ∷ ends functions)) (bytes_eq-self own.current))
 any_begin (own ∷ functions) (suc j) function at =
     ap (λ t. is_it function.current own.current || (is_it function.current own.next || t)) (any_begin functions j function at)
-    ∙ ap (λ t. is_it function.current own.current || t) (or_right (is_it function.current own.next))
-    ∙ or_right (is_it function.current own.current)
+    ∙ ap (λ t. is_it function.current own.current || t) (or-true (is_it function.current own.next))
+    ∙ or-true (is_it function.current own.current)
 
 pub current_state : (functions : List Function) (j : ℕ) (function : Function)
     → slice_get functions j ≡ Some function

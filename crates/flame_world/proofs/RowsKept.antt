@@ -26,7 +26,8 @@ use Rattle.flame_world.specs.declared.worlds.Boards.{Boards}
 use Rattle.flame_world.specs.AgentRuns.{kept, sent_by, born_by, survivors, sent_from, born_from, messages_of, births_of}
 use Rattle.flame_world.specs.Fields.{Field, begun, opening, changed, changed_pool, joined_from, joined, gathered}
 use Rattle.flame_world.specs.Iterations.{Round, resting, taking, staying, outcome_in, moved, unless_faulted, step_at, step, and_on, steps, turn_of, round_of, iteration}
-use Rattle.flame_world.proofs.Eachs.{mapped, each_append, each_map, each_filter, each_passing, each_filter_map, each_flat_map, each_sorted, zip_at, zip_changed, each_index, each_changed}
+use Rattle.flame_world.proofs.Eachs.{mapped, each_append, each_map, each_passing, each_filter_map, each_flat_map, zip_at, zip_changed, each_changed}
+use Rattle.flame_meaning.proofs.Eachs.{each_filter, each_sorted, each_index}
 
 -- ---- rows of a kind, which says for each width what a row of it is
 

@@ -2,14 +2,15 @@
 use Rattle.std.proofs.Common.{◌≡◌, ℕ, zero, suc, ◌+◌, ◌-◌, ◌<◌, ◌≤◌, arith}
 use Rattle.std.proofs.Common.{true, false, cond, refl, sym, ap, ◌∙◌, subst}
 use Rattle.std.proofs.Common.{List, [], ◌∷◌, length, map, Some, Ok, Err, Result, Option, None, inl, inr}
-use Rattle.std.specs.Prelude.{ℤ, ◌==◌, slice_get, is_none, IsSomeAnd}
+use Rattle.std.specs.Prelude.{ℤ, ◌==◌, slice_get, is_none}
 use Rattle.std.specs.List.{filter, filter_map, cons_option, flat_map}
 use Rattle.std.specs.Option.{option_map_or}
-use Rattle.std.proofs.lemmas.List.{length-append}
+use Rattle.std.proofs.lemmas.List.{length-append, length-map}
 use Rattle.std.proofs.lemmas.Bool.{cases_Bool, eqb-true, eqb-false}
 use Rattle.std.proofs.lemmas.Slice.Zip.{AllZip-long}
 use Rattle.flame_rows.specs.Order.{row_order}
 use Rattle.flame_rows.specs.Bags.{merge}
+use Rattle.flame_rows.proofs.Lists.{slice_get-IsSomeAnd}
 use Rattle.flame_spec.specs.declared.models.Model.{Model}
 use Rattle.flame_spec.specs.declared.outcomes.Born.{Born}
 use Rattle.flame_spec.specs.declared.outcomes.Effect.{Effect}
@@ -95,10 +96,6 @@ one_of_within k i (suc n) above within =
           rw other (omega (arith, rest))
     ]
 
-length-map : {X Y : Type 0} (f : X → Y) (xs : List X) → length (map f xs) ≡ length xs
-length-map f [] = refl
-length-map f (x ∷ xs) = ap suc (length-map f xs)
-
 births_of-more : (b : Born) (born : List Born) (i : ℕ)
     → length (births_of (b ∷ born) i) ≡ cond (b.agent == i) 1 0 + length (births_of born i)
 births_of-more b born i =
@@ -145,16 +142,11 @@ length-joined_from : (rows : ℕ → List (List ℤ)) (i : ℕ) (bags : List (Li
 length-joined_from rows i [] = refl
 length-joined_from rows i (bag ∷ bags) = ap suc (length-joined_from rows (i + 1) bags)
 
-some_within : {X : Type 0} (P : X → Type 0) (xs : List X) (k : ℕ) → IsSomeAnd (slice_get xs k) P → k < length xs
-some_within P [] k holds = absurd holds
-some_within P (x ∷ xs) zero holds = omega arith
-some_within P (x ∷ xs) (suc k) holds = omega (arith, some_within P xs k holds)
-
 agents_known : (model : Model) (born : List Born)
     → Each (IsAgent model) born
     → Each (λ b. b.agent < length model.agents) born
 agents_known model [] all = tt
-agents_known model (b ∷ born) all = (some_within _ model.agents b.agent all.0, agents_known model born all.1)
+agents_known model (b ∷ born) all = (slice_get-IsSomeAnd _ model.agents b.agent all.0, agents_known model born all.1)
 
 -- the births of an agent are of types of the model
 births_known : (round : Round) (function : ℕ) (field : Field) (memory : List ℤ)
@@ -318,7 +310,7 @@ survivors_and_births_are_all source world after number fuel boards one long done
     let begins = all_agents_begin model world.agents one long in
     let counts =
     done_tally model field world.constants (steps round (model_order model) field) after boards _ _
-    (λ last at. steps_tally round (model_order model) field last begins.1 (length-map (λ type. []) model.agents) at)
+    (λ last at. steps_tally round (model_order model) field last begins.1 (length-map model.agents (λ type. [])) at)
     done (count_in-none model.agents) in
     let begin = begins.0 in (
       omega (arith, counts.0, begin),

@@ -27,9 +27,10 @@ use Rattle.flame_world.specs.declared.worlds.Boards.{Boards}
 use Rattle.flame_world.specs.Fields.{Field, joined_from, gathered}
 use Rattle.flame_world.specs.Iterations.{Round, outcome_in, step_at, step, round_of}
 use Rattle.flame_world.specs.WorldLaws.{IsRowOf, IsBagOf, IsWorldOf, AreBoardsOf, WorldsStayWorlds}
-use Rattle.flame_world.proofs.Eachs.{mapped, each_also, each_both, if_both, each_filter, each_sorted, each_index, zip_each, zip_both, zip_also}
+use Rattle.flame_world.proofs.Eachs.{mapped, each_also, each_both, if_both, zip_each, zip_both, zip_also}
 use Rattle.flame_world.proofs.RowsKept.{BagsFor, HasRows, RowsAreLeft, IsSentOf, IsBornOf, LeavesRows, IfOk, unless_kept, opening_rows, step_rows, gathered_rows, iteration_kept}
 use Rattle.flame_world.proofs.WidthsKept.{IsWide, leaves_wide}
+use Rattle.flame_meaning.proofs.Eachs.{each_filter, each_sorted, each_index}
 
 -- ---- what is read
 

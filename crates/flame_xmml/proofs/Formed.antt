@@ -5,6 +5,8 @@ use Rattle.std.specs.Prelude.{ℤ, pos, negsuc, unsigned_abs, is_some, is_none, 
 use Rattle.std.specs.List.{list_all}
 use Rattle.std.specs.Option.{option_map_or}
 use Rattle.std.specs.Str.{bytes_eq}
+use Rattle.std.proofs.lemmas.Bool.{and_parts, and_from}
+use Rattle.flame_rows.proofs.Lists.{append-is_nil_left, append-is_nil_right}
 use Rattle.serde_json.specs.Data.{Data, null, boolean, number, string, array, object, depth}
 use Rattle.serde_json.specs.Find.{as_null, as_str}
 use Rattle.flame_ops.specs.declared.integers.Op.{Op}
@@ -43,21 +45,6 @@ use Rattle.flame_xmml.specs.Models.{sort_of, input_of, function_of, agent_of, mo
 use Rattle.flame_xmml.proofs.Layers.{part-depth, condition_faults-open, condition_of-open}
 
 -- ---- lists and tests
-
-pub left-none : {X : Type 0} (xs ys : List X) → xs ++ ys ≡ [] → xs ≡ []
-left-none [] ys none = refl
-left-none (x ∷ xs) ys none = cc
-
-pub right-none : {X : Type 0} (xs ys : List X) → xs ++ ys ≡ [] → ys ≡ []
-right-none [] ys none = none
-right-none (x ∷ xs) ys none = cc
-
-pub both : (a b : Bool) → a ≡ true → b ≡ true → a && b ≡ true
-both a b e f = cc
-
-and_right : (a b : Bool) → a && b ≡ true → b ≡ true
-and_right true b e = e
-and_right false b e = cc
 
 -- what is there passes
 abbrev pub passes : {X : Type 0} → (X → Bool) → Option X → Bool
@@ -141,7 +128,7 @@ all-are : {X : Type 0} (faults : ℕ → Data → List Shape) (read : Data → X
     → list_all test (map read values) ≡ true
 all-are faults read test each i [] none = refl
 all-are faults read test each i (value ∷ values) none =
-    both _ _ (each i value (left-none _ _ none)) (all-are faults read test each (i + 1) values (right-none (faults i value) _ none))
+    and_from _ _ (each i value (append-is_nil_left _ _ none)) (all-are faults read test each (i + 1) values (append-is_nil_right (faults i value) _ none))
 
 -- the members of a list pass
 list-is : {X : Type 0} (faults : List ℕ → Data → List Shape) (read : Data → X) (test : X → Bool)
@@ -209,7 +196,7 @@ positive-among : (o : Option ℤ) → passes is_int o ≡ true → passes is_pos
 positive-among None e = refl
 positive-among (Some z) e =
     elim (int_le (pos 1) z) as (λ b. int_le (pos 1) z ≡ b → passes is_positive_int (passed_on z b) ≡ true) [
-      | true ↦ λ f. both _ _ f (and_right _ _ e)
+      | true ↦ λ f. and_from _ _ f (and_parts _ _ e).1
       | false ↦ λ f. refl
     ] refl
 
@@ -321,8 +308,8 @@ timed-formed : (path : List ℕ) (value : Data) → object_faults time_keys path
 timed-formed path value none =
     let keys = object-is time_keys path value none in
     formed-Time true _ _ _
-    ∙ both _ _ (name-is _ _ (codes "period") value (left-none _ _ (left-none _ _ keys)))
-    (both _ _
+    ∙ and_from _ _ (name-is _ _ (codes "period") value (append-is_nil_left _ _ (append-is_nil_left _ _ keys)))
+    (and_from _ _
     (passes-or is_well_formed_phase (phase_of (part (codes "phase") value)) (Number (pos 0)) (phase-formed (part (codes "phase") value)) refl)
     (passes-or is_positive_int (positive_of (part (codes "duration") value)) (pos 1) (passes-positive (part (codes "duration") value)) refl))
 
@@ -337,13 +324,13 @@ sides-formed :
 sides-formed timed value inner faults path None is well none each = cc
 sides-formed timed value inner faults path (Some (Compare op)) is well none each =
     formed-Compare timed op _ _
-    ∙ both _ _ well (both _ _ (side-formed (part (codes "lhs") value)) (side-formed (part (codes "rhs") value)))
+    ∙ and_from _ _ well (and_from _ _ (side-formed (part (codes "lhs") value)) (side-formed (part (codes "rhs") value)))
 sides-formed timed value inner faults path (Some And) is well none each =
     formed-And timed _ _
-    ∙ both _ _ (each (codes "lhs") _ (left-none _ _ none)) (each (codes "rhs") _ (right-none (faults (codes "lhs") _) _ none))
+    ∙ and_from _ _ (each (codes "lhs") _ (append-is_nil_left _ _ none)) (each (codes "rhs") _ (append-is_nil_right (faults (codes "lhs") _) _ none))
 sides-formed timed value inner faults path (Some Or) is well none each =
     formed-Or timed _ _
-    ∙ both _ _ (each (codes "lhs") _ (left-none _ _ none)) (each (codes "rhs") _ (right-none (faults (codes "lhs") _) _ none))
+    ∙ and_from _ _ (each (codes "lhs") _ (append-is_nil_left _ _ none)) (each (codes "rhs") _ (append-is_nil_right (faults (codes "lhs") _) _ none))
 
 -- one level of a condition, where the conditions at its keys are well formed
 module _ (in_filter : Bool) (path : List ℕ) (value : Data) where
@@ -371,9 +358,9 @@ module _ (in_filter : Bool) (path : List ℕ) (value : Data) where
       ≡ true
   operated-level below clear =
       sides-formed (not in_filter) value (λ key. condition_of (part key value)) inner path (connective_of (part (codes "op") value))
-      (leaf-is Want.Op connective_of (at_key path (codes "op")) (part (codes "op") value) (left-none _ _ clear))
+      (leaf-is Want.Op connective_of (at_key path (codes "op")) (part (codes "op") value) (append-is_nil_left _ _ clear))
       (passes-connective (part (codes "op") value))
-      (right-none (leaf Want.Op connective_of (at_key path (codes "op")) (part (codes "op") value)) _ clear)
+      (append-is_nil_right (leaf Want.Op connective_of (at_key path (codes "op")) (part (codes "op") value)) _ clear)
       below
 
   level-formed : (o : Bool) → is_object value ≡ o
@@ -433,13 +420,13 @@ length-formed value = passes-length (part (codes "length") value)
 variable-formed : (path : List ℕ) (value : Data)
     → variable_faults int_faults path value ≡ [] → is_well_formed_variable (variable_of value) ≡ true
 variable-formed path value none =
-    let typed = left-none _ _ (object-is (variable_keys int_faults) path value none) in
-    both _ _ (name-is _ _ (codes "name") value (right-none _ _ typed)) (length-formed value)
+    let typed = append-is_nil_left _ _ (object-is (variable_keys int_faults) path value none) in
+    and_from _ _ (name-is _ _ (codes "name") value (append-is_nil_right _ _ typed)) (length-formed value)
 
 constant-formed : (path : List ℕ) (value : Data) → constant_faults path value ≡ [] → is_name (name_at (codes "name") value) ≡ true
 constant-formed path value none =
     let keys = object-is (typed_keys int_faults) path value none in
-    name-is _ _ (codes "name") value (right-none _ _ keys)
+    name-is _ _ (codes "name") value (append-is_nil_right _ _ keys)
 
 pub file-formed : (path : List ℕ) (value : Data) → file_faults path value ≡ [] → is_filled (filled value) ≡ true
 file-formed path value none = filled-is _ path value none
@@ -447,21 +434,21 @@ file-formed path value none = filled-is _ path value none
 unit-formed : (path : List ℕ) (value : Data) → unit_faults path value ≡ [] → is_well_formed_unit (unit_of value) ≡ true
 unit-formed path value none =
     let keys = object-is unit_keys path value none in
-    let names = left-none _ _ keys in
-    both _ _ (name-is _ _ (codes "name") value (left-none _ _ names))
-    (both _ _ (name-is _ _ (codes "unit") value (right-none _ _ names)) (period-is _ _ value (right-none _ _ keys)))
+    let names = append-is_nil_left _ _ keys in
+    and_from _ _ (name-is _ _ (codes "name") value (append-is_nil_left _ _ names))
+    (and_from _ _ (name-is _ _ (codes "unit") value (append-is_nil_right _ _ names)) (period-is _ _ value (append-is_nil_right _ _ keys)))
 
 message_type-formed : (path : List ℕ) (value : Data)
     → row_faults plain.variable path value ≡ [] → is_well_formed_message (message_of value) ≡ true
 message_type-formed path value none =
     let keys = object-is (row_keys plain.variable) path value none in
-    both _ _ (name-is _ _ (codes "name") value (left-none _ _ keys))
-    (list_at-is plain.variable variable_of is_well_formed_variable variable-formed (codes "variables") path value (right-none _ _ keys))
+    and_from _ _ (name-is _ _ (codes "name") value (append-is_nil_left _ _ keys))
+    (list_at-is plain.variable variable_of is_well_formed_variable variable-formed (codes "variables") path value (append-is_nil_right _ _ keys))
 
 sort-formed : (path : List ℕ) (value : Data) → sort_faults path value ≡ [] → is_well_formed_sort (sort_of value) ≡ true
 sort-formed path value none =
     let keys = object-is sort_keys path value none in
-    name-is _ _ (codes "key") value (left-none _ _ keys)
+    name-is _ _ (codes "key") value (append-is_nil_left _ _ keys)
 
 filter-formed : (path : List ℕ) (value : Data) → condition_faults true path value ≡ [] → is_well_formed_filter (condition_of value) ≡ true
 filter-formed path value none = condition-formed (suc (depth value)) true path value (omega arith) none
@@ -472,11 +459,11 @@ whole-formed path value none = condition-formed (suc (depth value)) false path v
 input-formed : (path : List ℕ) (value : Data) → input_faults path value ≡ [] → is_well_formed_input (input_of value) ≡ true
 input-formed path value none =
     let keys = object-is input_keys path value none in
-    let front = left-none _ _ keys in
-    both _ _ (name-is _ _ (codes "messageName") value (left-none _ _ (left-none _ _ front)))
-    (both _ _
-    (there-is (condition_faults true) condition_of is_well_formed_filter filter-formed (codes "filter") path value (right-none _ _ front))
-    (there-is sort_faults sort_of is_well_formed_sort sort-formed (codes "sort") path value (right-none _ _ keys)))
+    let front = append-is_nil_left _ _ keys in
+    and_from _ _ (name-is _ _ (codes "messageName") value (append-is_nil_left _ _ (append-is_nil_left _ _ front)))
+    (and_from _ _
+    (there-is (condition_faults true) condition_of is_well_formed_filter filter-formed (codes "filter") path value (append-is_nil_right _ _ front))
+    (there-is sort_faults sort_of is_well_formed_sort sort-formed (codes "sort") path value (append-is_nil_right _ _ keys)))
 
 output-formed : (path : List ℕ) (value : Data) → output_faults path value ≡ [] → is_name (name_at (codes "messageName") value) ≡ true
 output-formed path value none =
@@ -486,28 +473,28 @@ output-formed path value none =
 pub function-formed : (path : List ℕ) (value : Data) → function_faults path value ≡ [] → is_well_formed_function (function_of value) ≡ true
 function-formed path value none =
     let keys = object-is function_keys path value none in
-    let to_inputs = left-none _ _ keys in
-    let to_condition = left-none _ _ to_inputs in
-    let to_next = left-none _ _ to_condition in
-    let to_current = left-none _ _ to_next in
-    both _ _ (name-is _ _ (codes "name") value (left-none _ _ to_current))
-    (both _ _ (filled-is _ _ (part (codes "currentState") value) (right-none _ _ to_current))
-    (both _ _ (filled-is _ _ (part (codes "nextState") value) (right-none _ _ to_next))
-    (both _ _
-    (there-is (condition_faults false) condition_of is_well_formed_condition whole-formed (codes "condition") path value (right-none _ _ to_condition))
-    (both _ _
-    (list_at-is input_faults input_of is_well_formed_input input-formed (codes "inputs") path value (right-none _ _ to_inputs))
-    (list_at-is output_faults (name_at (codes "messageName")) is_name output-formed (codes "outputs") path value (right-none _ _ keys))))))
+    let to_inputs = append-is_nil_left _ _ keys in
+    let to_condition = append-is_nil_left _ _ to_inputs in
+    let to_next = append-is_nil_left _ _ to_condition in
+    let to_current = append-is_nil_left _ _ to_next in
+    and_from _ _ (name-is _ _ (codes "name") value (append-is_nil_left _ _ to_current))
+    (and_from _ _ (filled-is _ _ (part (codes "currentState") value) (append-is_nil_right _ _ to_current))
+    (and_from _ _ (filled-is _ _ (part (codes "nextState") value) (append-is_nil_right _ _ to_next))
+    (and_from _ _
+    (there-is (condition_faults false) condition_of is_well_formed_condition whole-formed (codes "condition") path value (append-is_nil_right _ _ to_condition))
+    (and_from _ _
+    (list_at-is input_faults input_of is_well_formed_input input-formed (codes "inputs") path value (append-is_nil_right _ _ to_inputs))
+    (list_at-is output_faults (name_at (codes "messageName")) is_name output-formed (codes "outputs") path value (append-is_nil_right _ _ keys))))))
 
 agent_type-formed : (path : List ℕ) (value : Data)
     → agent_faults plain.variable path value ≡ [] → is_well_formed_agent (agent_of value) ≡ true
 agent_type-formed path value none =
     let keys = object-is (agent_keys plain.variable) path value none in
-    let front = left-none _ _ keys in
-    both _ _ (name-is _ _ (codes "name") value (left-none _ _ front))
-    (both _ _
-    (list_at-is plain.variable variable_of is_well_formed_variable variable-formed (codes "memory") path value (right-none _ _ front))
-    (list_at-is function_faults function_of is_well_formed_function function-formed (codes "functions") path value (right-none _ _ keys)))
+    let front = append-is_nil_left _ _ keys in
+    and_from _ _ (name-is _ _ (codes "name") value (append-is_nil_left _ _ front))
+    (and_from _ _
+    (list_at-is plain.variable variable_of is_well_formed_variable variable-formed (codes "memory") path value (append-is_nil_right _ _ front))
+    (list_at-is function_faults function_of is_well_formed_function function-formed (codes "functions") path value (append-is_nil_right _ _ keys)))
 
 -- what an environment stands for
 pub record IsFormed (value : Data) : Type 0 where
@@ -518,12 +505,12 @@ pub record IsFormed (value : Data) : Type 0 where
 environment-formed : (types : List ℕ → Data → List Shape) (path : List ℕ) (value : Data)
     → environment_faults types path value ≡ [] → IsFormed value
 environment-formed types path value none =
-    let to_units = left-none _ _ (object-is (environment_keys types) path value none) in
-    let to_files = left-none _ _ to_units in
+    let to_units = append-is_nil_left _ _ (object-is (environment_keys types) path value none) in
+    let to_files = append-is_nil_left _ _ to_units in
     record {
-      constants = list_at-is constant_faults (name_at (codes "name")) is_name constant-formed (codes "constants") path value (left-none _ _ to_files);
-      files = list_at-is file_faults filled is_filled file-formed (codes "functionFiles") path value (right-none _ _ to_files);
-      units = list_at-is unit_faults unit_of is_well_formed_unit unit-formed (codes "timeUnits") path value (right-none _ _ to_units);
+      constants = list_at-is constant_faults (name_at (codes "name")) is_name constant-formed (codes "constants") path value (append-is_nil_left _ _ to_files);
+      files = list_at-is file_faults filled is_filled file-formed (codes "functionFiles") path value (append-is_nil_right _ _ to_files);
+      units = list_at-is unit_faults unit_of is_well_formed_unit unit-formed (codes "timeUnits") path value (append-is_nil_right _ _ to_units);
     }
 
 nothing-formed : IsFormed null
@@ -544,12 +531,12 @@ model-formed value none =
     let whole = part (codes "xmodel") value in
     let path = at_key root (codes "xmodel") in
     let keys = object-is (xmodel_keys plain) path whole (object-is (required (xmodel_faults plain) (codes "xmodel")) root value none) in
-    let to_agents = left-none _ _ keys in
-    let to_messages = left-none _ _ to_agents in
-    let environment = environment_at-formed plain.types path whole (left-none _ _ to_messages) in
-    both _ _ environment.constants
-    (both _ _ environment.files
-    (both _ _ environment.units
-    (both _ _
-    (list_at-is (row_faults plain.variable) message_of is_well_formed_message message_type-formed (codes "messages") path whole (right-none _ _ to_messages))
-    (list_at-is (agent_faults plain.variable) agent_of is_well_formed_agent agent_type-formed (codes "agents") path whole (right-none _ _ to_agents)))))
+    let to_agents = append-is_nil_left _ _ keys in
+    let to_messages = append-is_nil_left _ _ to_agents in
+    let environment = environment_at-formed plain.types path whole (append-is_nil_left _ _ to_messages) in
+    and_from _ _ environment.constants
+    (and_from _ _ environment.files
+    (and_from _ _ environment.units
+    (and_from _ _
+    (list_at-is (row_faults plain.variable) message_of is_well_formed_message message_type-formed (codes "messages") path whole (append-is_nil_right _ _ to_messages))
+    (list_at-is (agent_faults plain.variable) agent_of is_well_formed_agent agent_type-formed (codes "agents") path whole (append-is_nil_right _ _ to_agents)))))

@@ -1,6 +1,8 @@
 -- What a value without shape faults of the wide form stands for is well formed.
-use Rattle.std.proofs.Common.{◌≡◌, ℕ, List, [], ◌∷◌, Bool, true, false, cond, ◌&&◌, refl, sym, subst, codes}
+use Rattle.std.proofs.Common.{◌≡◌, ℕ, List, [], ◌∷◌, Bool, true, false, cond, refl, sym, subst, codes}
 use Rattle.std.specs.List.{list_all}
+use Rattle.std.proofs.lemmas.Bool.{and_parts, and_from}
+use Rattle.flame_rows.proofs.Lists.{append-is_nil_left, append-is_nil_right}
 use Rattle.serde_json.specs.Data.{Data}
 use Rattle.flame_spec.specs.Names.{is_filled}
 use Rattle.flame_spec.specs.Paths.{root, at_key}
@@ -16,43 +18,43 @@ use Rattle.flame_xmml.specs.ShapeFaults.{wide_variable_faults, wide, wide_faults
 use Rattle.flame_xmml.specs.Models.{list_at, function_of}
 use Rattle.flame_xmml.specs.WideValues.{wide_variable_of, type_of, wide_message_of, wide_agent_of, nested_of}
 use Rattle.flame_xmml.specs.WideValues.{enabled_files, wide_of}
-use Rattle.flame_xmml.proofs.Formed.{left-none, right-none, both, object-is, name-is, filled-is, optional-is, list_at-is}
+use Rattle.flame_xmml.proofs.Formed.{object-is, name-is, filled-is, optional-is, list_at-is}
 use Rattle.flame_xmml.proofs.Formed.{is_null, length-formed, function-formed, environment_at-formed}
 
 wide_variable-formed : (path : List ℕ) (value : Data)
     → wide_variable_faults path value ≡ [] → is_well_formed_wide_variable (wide_variable_of value) ≡ true
 wide_variable-formed path value none =
-    let typed = left-none _ _ (object-is (variable_keys name_faults) path value none) in
-    both _ _ (name-is _ _ (codes "name") value (right-none _ _ typed))
-    (both _ _ (name-is _ _ (codes "type") value (left-none _ _ typed)) (length-formed value))
+    let typed = append-is_nil_left _ _ (object-is (variable_keys name_faults) path value none) in
+    and_from _ _ (name-is _ _ (codes "name") value (append-is_nil_right _ _ typed))
+    (and_from _ _ (name-is _ _ (codes "type") value (append-is_nil_left _ _ typed)) (length-formed value))
 
 type-formed : (path : List ℕ) (value : Data)
     → row_faults wide_variable_faults path value ≡ [] → is_well_formed_type (type_of value) ≡ true
 type-formed path value none =
     let keys = object-is (row_keys wide_variable_faults) path value none in
-    both _ _ (name-is _ _ (codes "name") value (left-none _ _ keys))
+    and_from _ _ (name-is _ _ (codes "name") value (append-is_nil_left _ _ keys))
     (list_at-is wide_variable_faults wide_variable_of is_well_formed_wide_variable wide_variable-formed
-    (codes "variables") path value (right-none _ _ keys))
+    (codes "variables") path value (append-is_nil_right _ _ keys))
 
 wide_message-formed : (path : List ℕ) (value : Data)
     → row_faults wide_variable_faults path value ≡ [] → is_well_formed_wide_message (wide_message_of value) ≡ true
 wide_message-formed path value none =
     let keys = object-is (row_keys wide_variable_faults) path value none in
-    both _ _ (name-is _ _ (codes "name") value (left-none _ _ keys))
+    and_from _ _ (name-is _ _ (codes "name") value (append-is_nil_left _ _ keys))
     (list_at-is wide_variable_faults wide_variable_of is_well_formed_wide_variable wide_variable-formed
-    (codes "variables") path value (right-none _ _ keys))
+    (codes "variables") path value (append-is_nil_right _ _ keys))
 
 wide_agent-formed : (path : List ℕ) (value : Data)
     → agent_faults wide_variable_faults path value ≡ [] → is_well_formed_wide_agent (wide_agent_of value) ≡ true
 wide_agent-formed path value none =
     let keys = object-is (agent_keys wide_variable_faults) path value none in
-    let front = left-none _ _ keys in
-    both _ _ (name-is _ _ (codes "name") value (left-none _ _ front))
-    (both _ _
+    let front = append-is_nil_left _ _ keys in
+    and_from _ _ (name-is _ _ (codes "name") value (append-is_nil_left _ _ front))
+    (and_from _ _
     (list_at-is wide_variable_faults wide_variable_of is_well_formed_wide_variable wide_variable-formed
-    (codes "memory") path value (right-none _ _ front))
+    (codes "memory") path value (append-is_nil_right _ _ front))
     (list_at-is function_faults function_of is_well_formed_function function-formed
-    (codes "functions") path value (right-none _ _ keys)))
+    (codes "functions") path value (append-is_nil_right _ _ keys)))
 
 -- the file of a nested one is named
 abbrev names_file : Nested → Bool
@@ -61,35 +63,27 @@ names_file nested = is_filled nested.file
 nested-formed : (path : List ℕ) (value : Data) → nested_faults path value ≡ [] → names_file (nested_of value) ≡ true
 nested-formed path value none =
     let keys = object-is nested_keys path value none in
-    filled-is _ _ (part (codes "file") value) (left-none _ _ keys)
-
-and_left : (a b : Bool) → a && b ≡ true → a ≡ true
-and_left true b e = refl
-and_left false b e = cc
-
-and_right : (a b : Bool) → a && b ≡ true → b ≡ true
-and_right true b e = e
-and_right false b e = cc
+    filled-is _ _ (part (codes "file") value) (append-is_nil_left _ _ keys)
 
 enabled-step : (enabled : Bool) (file : List ℕ) (files : List (List ℕ))
     → is_filled file ≡ true
     → list_all is_filled files ≡ true
     → list_all is_filled (cond enabled (file ∷ files) files) ≡ true
-enabled-step true file files here more = both _ _ here more
+enabled-step true file files here more = and_from _ _ here more
 enabled-step false file files here more = more
 
 enabled-formed : (named : List Nested) → list_all names_file named ≡ true → list_all is_filled (enabled_files named) ≡ true
 enabled-formed [] all = refl
 enabled-formed (nested ∷ more) all =
-    enabled-step nested.enabled nested.file (enabled_files more) (and_left _ _ all)
-    (enabled-formed more (and_right (names_file nested) _ all))
+    enabled-step nested.enabled nested.file (enabled_files more) (and_parts _ _ all).0
+    (enabled-formed more (and_parts (names_file nested) _ all).1)
 
 types-formed : (path : List ℕ) (value : Data)
     → environment_faults wide.types path value ≡ [] → list_all is_well_formed_type (list_at type_of (codes "dataTypes") value) ≡ true
 types-formed path value none =
     let keys = object-is (environment_keys wide.types) path value none in
     list_at-is (row_faults wide_variable_faults) type_of is_well_formed_type type-formed (codes "dataTypes") path value
-    (right-none (environment_lists path value) _ keys)
+    (append-is_nil_right (environment_lists path value) _ keys)
 
 types_at-formed : (path : List ℕ) (value : Data)
     → optional (environment_faults wide.types) (codes "environment") path value ≡ []
@@ -111,18 +105,18 @@ wide-formed value none =
     let whole = part (codes "xmodel") value in
     let path = at_key root (codes "xmodel") in
     let keys = object-is (xmodel_keys wide) path whole (object-is (required (xmodel_faults wide) (codes "xmodel")) root value none) in
-    let to_agents = left-none _ _ keys in
-    let to_messages = left-none _ _ to_agents in
-    let environment = environment_at-formed wide.types path whole (left-none _ _ to_messages) in
-    both _ _ environment.constants
-    (both _ _ environment.files
-    (both _ _ environment.units
-    (both _ _ (types_at-formed path whole (left-none _ _ to_messages))
-    (both _ _
+    let to_agents = append-is_nil_left _ _ keys in
+    let to_messages = append-is_nil_left _ _ to_agents in
+    let environment = environment_at-formed wide.types path whole (append-is_nil_left _ _ to_messages) in
+    and_from _ _ environment.constants
+    (and_from _ _ environment.files
+    (and_from _ _ environment.units
+    (and_from _ _ (types_at-formed path whole (append-is_nil_left _ _ to_messages))
+    (and_from _ _
     (list_at-is (row_faults wide_variable_faults) wide_message_of is_well_formed_wide_message wide_message-formed
-    (codes "messages") path whole (right-none _ _ to_messages))
-    (both _ _
+    (codes "messages") path whole (append-is_nil_right _ _ to_messages))
+    (and_from _ _
     (list_at-is (agent_faults wide_variable_faults) wide_agent_of is_well_formed_wide_agent wide_agent-formed
-    (codes "agents") path whole (right-none _ _ to_agents))
+    (codes "agents") path whole (append-is_nil_right _ _ to_agents))
     (enabled-formed (list_at nested_of (codes "models") whole)
-    (list_at-is nested_faults nested_of names_file nested-formed (codes "models") path whole (right-none _ _ keys))))))))
+    (list_at-is nested_faults nested_of names_file nested-formed (codes "models") path whole (append-is_nil_right _ _ keys))))))))

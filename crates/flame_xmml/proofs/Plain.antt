@@ -6,6 +6,7 @@ use Rattle.std.specs.Option.{option_map_or}
 use Rattle.std.specs.Str.{bytes_eq}
 use Rattle.std.proofs.lemmas.Bool.Decides.{nat_tests}
 use Rattle.std.proofs.lemmas.Slice.Eq.{bytes_eq-Decides}
+use Rattle.flame_rows.proofs.Lists.{append-is_nil_left, append-is_nil_right}
 use Rattle.serde_json.specs.Data.{Data}
 use Rattle.serde_json.specs.Find.{as_str}
 use Rattle.flame_spec.specs.Json.{kept}
@@ -25,7 +26,7 @@ use Rattle.flame_xmml.specs.Models.{name_at, length_at, list_at, variable_of, me
 use Rattle.flame_xmml.specs.WideValues.{wide_variable_of, type_of, wide_message_of, wide_agent_of, nested_of, enabled_files, wide_of}
 use Rattle.flame_xmml.specs.PlainFiles.{widened_variable, widened_message, widened_agent, widened}
 use Rattle.flame_xmml.proofs.Firsts.{none_both, object_faults-is}
-use Rattle.flame_xmml.proofs.Formed.{left-none, right-none, object-is, leaf-is, optional-is, no_members, is_null}
+use Rattle.flame_xmml.proofs.Formed.{object-is, leaf-is, optional-is, no_members, is_null}
 
 -- an object whose keys have no faults is one
 object-there : (faults : List ℕ → Data → List Shape) (path : List ℕ) (value : Data)
@@ -55,21 +56,17 @@ type-is path value none =
       ap (λ o. unwrap_or (option_and_then (kept is_name) o) []) text,
     )
 
--- in both forms there is no fault, and the one stands for what the other does
-abbrev IsSame : {X Y : Type 0} → List Shape → (X → Y) → X → Y → Type 0
-IsSame faults widen plainly widely = (faults ≡ []) × (widely ≡ widen plainly)
-
 variable-same : (path : List ℕ) (value : Data)
     → variable_faults int_faults path value ≡ []
     → (wide_variable_faults path value ≡ []) × (wide_variable_of value ≡ widened_variable (variable_of value))
 variable-same path value none =
     let keys = object-is (variable_keys int_faults) path value none in
-    let typed = left-none _ _ keys in
-    let kind = type-is path value (left-none _ _ typed) in (
+    let typed = append-is_nil_left _ _ keys in
+    let kind = type-is path value (append-is_nil_left _ _ typed) in (
       object_faults-is (variable_keys name_faults) path value (object-there (variable_keys int_faults) path value none)
           ∙ none_both (typed_keys name_faults path value) _
-          (none_both (required name_faults (codes "type") path value) _ kind.0 (right-none (required int_faults (codes "type") path value) _ typed))
-          (right-none (typed_keys int_faults path value) _ keys),
+          (none_both (required name_faults (codes "type") path value) _ kind.0 (append-is_nil_right (required int_faults (codes "type") path value) _ typed))
+          (append-is_nil_right (typed_keys int_faults path value) _ keys),
       λ i. record { name = name_at (codes "name") value; kind = kind.1 i; length = length_at value },
     )
 
@@ -82,8 +79,8 @@ module _ {X Y : Type 0} (faults faults' : List ℕ → Data → List Shape) (rea
       × (map read' values ≡ map widen (map read values))
   each-same path i [] none = (refl, refl)
   each-same path i (value ∷ values) none =
-      let here = member (at_number path i) value (left-none _ _ none) in
-      let more = each-same path (i + 1) values (right-none (faults (at_number path i) value) _ none) in (
+      let here = member (at_number path i) value (append-is_nil_left _ _ none) in
+      let more = each-same path (i + 1) values (append-is_nil_right (faults (at_number path i) value) _ none) in (
         none_both (faults' (at_number path i) value) _ here.0 more.0,
         λ j. here.1 j ∷ more.1 j,
       )
@@ -119,9 +116,9 @@ message-same : (path : List ℕ) (value : Data)
 message-same path value none =
     let keys = object-is (row_keys plain.variable) path value none in
     let variables = list-same plain.variable wide_variable_faults variable_of wide_variable_of widened_variable variable-same
-    (codes "variables") path value (right-none (required name_faults (codes "name") path value) _ keys) in (
+    (codes "variables") path value (append-is_nil_right (required name_faults (codes "name") path value) _ keys) in (
       object_faults-is (row_keys wide_variable_faults) path value (object-there (row_keys plain.variable) path value none)
-          ∙ none_both (required name_faults (codes "name") path value) _ (left-none _ _ keys) variables.0,
+          ∙ none_both (required name_faults (codes "name") path value) _ (append-is_nil_left _ _ keys) variables.0,
       λ i. record { name = name_at (codes "name") value; variables = variables.1 i },
     )
 
@@ -130,15 +127,15 @@ agent-same : (path : List ℕ) (value : Data)
     → (agent_faults wide_variable_faults path value ≡ []) × (wide_agent_of value ≡ widened_agent (agent_of value))
 agent-same path value none =
     let keys = object-is (agent_keys plain.variable) path value none in
-    let front = left-none _ _ keys in
+    let front = append-is_nil_left _ _ keys in
     let memory = list-same plain.variable wide_variable_faults variable_of wide_variable_of widened_variable variable-same
-    (codes "memory") path value (right-none (required name_faults (codes "name") path value) _ front) in (
+    (codes "memory") path value (append-is_nil_right (required name_faults (codes "name") path value) _ front) in (
       object_faults-is (agent_keys wide_variable_faults) path value (object-there (agent_keys plain.variable) path value none)
           ∙ none_both
           (required name_faults (codes "name") path value ++ optional (list_faults wide_variable_faults) (codes "memory") path value)
           _
-          (none_both (required name_faults (codes "name") path value) _ (left-none _ _ front) memory.0)
-          (right-none
+          (none_both (required name_faults (codes "name") path value) _ (append-is_nil_left _ _ front) memory.0)
+          (append-is_nil_right
           (required name_faults (codes "name") path value ++ optional (list_faults plain.variable) (codes "memory") path value)
           _
           keys),
@@ -198,11 +195,11 @@ environment-same path value none = by (has (codes "environment") value) refl
         let whole = optional-is (environment_faults plain.types) (codes "environment") path value none e in
         let keys = object-is (environment_keys plain.types) there inside whole in
         let types = empty-same (row_faults wide_variable_faults) type_of (codes "dataTypes") there inside
-        (right-none (environment_lists there inside) _ keys) in (
+        (append-is_nil_right (environment_lists there inside) _ keys) in (
           ap (λ b. cond b (environment_faults wide.types there inside) []) e
               ∙ object_faults-is (environment_keys wide.types) there inside
               (object-there (environment_keys plain.types) there inside whole)
-              ∙ none_both (environment_lists there inside) _ (left-none (environment_lists there inside) _ keys) types.0,
+              ∙ none_both (environment_lists there inside) _ (append-is_nil_left (environment_lists there inside) _ keys) types.0,
           types.1,
         )
     by false e = (
@@ -219,15 +216,15 @@ plain-same value none =
     let path = at_key root (codes "xmodel") in
     let inner = object-is (required (xmodel_faults plain) (codes "xmodel")) root value none in
     let keys = object-is (xmodel_keys plain) path whole inner in
-    let to_agents = left-none _ _ keys in
-    let to_messages = left-none _ _ to_agents in
-    let environment = environment-same path whole (left-none _ _ to_messages) in
+    let to_agents = append-is_nil_left _ _ keys in
+    let to_messages = append-is_nil_left _ _ to_agents in
+    let environment = environment-same path whole (append-is_nil_left _ _ to_messages) in
     let messages = list-same (row_faults plain.variable) (row_faults wide_variable_faults) message_of wide_message_of widened_message
     message-same (codes "messages") path whole
-    (right-none (optional (environment_faults plain.types) (codes "environment") path whole) _ to_messages) in
+    (append-is_nil_right (optional (environment_faults plain.types) (codes "environment") path whole) _ to_messages) in
     let agents = list-same (agent_faults plain.variable) (agent_faults wide_variable_faults) agent_of wide_agent_of widened_agent
-    agent-same (codes "agents") path whole (right-none _ _ to_agents) in
-    let nested = empty-same nested_faults nested_of (codes "models") path whole (right-none _ _ keys) in
+    agent-same (codes "agents") path whole (append-is_nil_right _ _ to_agents) in
+    let nested = empty-same nested_faults nested_of (codes "models") path whole (append-is_nil_right _ _ keys) in
     let lists = environment_of (part (codes "environment") whole) in (
       object_faults-is (required (xmodel_faults wide) (codes "xmodel")) root value
           (object-there (required (xmodel_faults plain) (codes "xmodel")) root value none)

@@ -2,6 +2,7 @@
 use Rattle.std.proofs.Common.{◌≡◌, ℕ, [], List, Some, length, map, ap, sym, ◌∙◌, arith, slice_index_or}
 use Rattle.std.specs.Prelude.{slice_get}
 use Rattle.std.proofs.lemmas.List.{length-map, length-replicate}
+use Rattle.flame_rows.proofs.Lists.{take-written}
 use Rattle.flame_spec.specs.Below.{all_below}
 use Rattle.flame_spec.specs.Definitions.{Definition, helpers}
 use Rattle.flame_spec.specs.HelperFaults.{statements_call, is_called_by}
@@ -10,7 +11,6 @@ use Rattle.flame_lookup.specs.Sources.{context_at}
 use Rattle.flame_lookup.specs.WordsFound.{definition_found}
 use Rattle.flame_lookup.specs.declared.found.CFunction.{CFunction}
 use Rattle.flame_graph.specs.Marks.{marked_where}
-use Rattle.flame_graph.proofs.Marking.{whole}
 use Rattle.flame_calls.proofs.Listing.{listed_more}
 use Rattle.flame_calls.proofs.Marks.{no_lists}
 use Rattle.flame_calls.proofs.Writing.{found_at}
@@ -43,7 +43,7 @@ loop-i-preserved c =
     let body = c.items.result.now in
     let items = c.deref_mut.ensures.value in
     let same : length c.mark_statements.new.lists ≡ length c.loop-i.lists.items = c.mark_statements.auto.lists ∙ ap (length {A = List ℕ}) items in
-    let lent = whole c.mark_statements.new.lists c.loop-i.lists.items c.loop-i.lists.len same (omega arith) in
+    let lent = take-written c.mark_statements.new.lists c.loop-i.lists.items c.loop-i.lists.len same (omega arith) in
     let there : slice_get (helpers sources.model sources.units) i ≡ Some (definition_found helper) =
     ap (λ ds. slice_get ds i) (sym c.requires.all) ∙ found_at c.args.all.now i helper c.loop-i-test.true c.index-all-i.is in
     record {

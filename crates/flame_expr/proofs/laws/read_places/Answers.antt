@@ -20,7 +20,8 @@ there tokens at k = subst (λ n. drop n (drop at tokens) ≡ drop (at + k) token
 abbrev Rest : List Token → ℕ → Expression → List Token → Type 0
 Rest tokens at e rest = Reads 6 (drop at tokens) e rest
 
-place : (tokens : List Token) (at : ℕ) → at ≤ length tokens → Longest (level 6) (drop at tokens) → ((e : Expression) × (end : ℕ) × IsExpressionAt tokens at e end) ⊎ ((stop : ℕ) × IsNoExpressionAt tokens at stop)
+place : (tokens : List Token) (at : ℕ) → at ≤ length tokens → Longest (level 6) (drop at tokens) →
+    ((e : Expression) × (end : ℕ) × IsExpressionAt tokens at e end) ⊎ ((stop : ℕ) × IsNoExpressionAt tokens at stop)
 place tokens at h l =
     let k = l.count in
     let within : at + k ≤ length tokens = omega (arith, h, l.longest.within, length-drop at tokens) in

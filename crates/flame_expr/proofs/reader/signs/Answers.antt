@@ -19,4 +19,6 @@ pub returns-in_default-clause-tree : goal.returns-in_default-clause-tree
 returns-in_default-clause-tree c = signs_read c.args.tokens.now c.args.at c.loop-kind.place c.loop-kind.found.items c.loop-kind.invariant
 
 pub returns-in_default-clause-ended : goal.returns-in_default-clause-ended
-returns-in_default-clause-ended c = signs_ended c.args.tokens.now c.args.at c.loop-kind.place c.loop-kind.found.items c.loop-kind.invariant (ap sign_of (sym c.lexeme_at.ensures) ∙ sym c.in_default.ensures)
+returns-in_default-clause-ended c =
+    signs_ended c.args.tokens.now c.args.at c.loop-kind.place c.loop-kind.found.items c.loop-kind.invariant
+    (ap sign_of (sym c.lexeme_at.ensures) ∙ sym c.in_default.ensures)

@@ -4,12 +4,12 @@ use Rattle.std.specs.Prelude.{◌&&◌}
 use Rattle.std.specs.List.{All}
 use Rattle.std.proofs.Math.Bool.{and-true, and-false}
 use Rattle.std.proofs.lemmas.Bool.{eq-eqb, ne_eqb}
+use Rattle.flame_rows.proofs.Lists.{take-written}
 use Rattle.flame_spec.specs.Below.{is_in}
 use Rattle.flame_graph.specs.Graph.{follows, waits}
 use Rattle.flame_graph.specs.Backs.{pointed, ArePointing, back_from}
 use Rattle.flame_graph.proofs.Counting.{below_all, in_passing}
 use Rattle.flame_graph.proofs.Following.{list_is}
-use Rattle.flame_graph.proofs.Marking.{whole}
 use Rattle.flame_graph.proofs.Walking.{pointing_more, pointed_none}
 use Rattle.flame_graph.proofs.cycle.point_back.Goals as goal
 use Rattle.flame_graph.proofs.cycle.point_back.Goals.{then-open-ne0, else-open-ne0}
@@ -35,7 +35,7 @@ loop-f-preserved c =
           let list = list_is c.args.lists.now f w.index-lists-f.result w.numbers.result.now c.requires.ascending below w.index-lists-f.is w.numbers.ensures in
           let items = w.deref_mut.ensures.value in
           let same : length w.point.new.backs ≡ length c.loop-f.backs.items = w.point.auto.backs ∙ ap (length {A = Option ℕ}) items in
-          let lent = whole w.point.new.backs c.loop-f.backs.items c.loop-f.backs.len same (omega arith) in
+          let lent = take-written w.point.new.backs c.loop-f.backs.items c.loop-f.backs.len same (omega arith) in
           let waiting : waits ws f ≡ true = ap not (ne_eqb (get_or ws f 0) 0 w.if-open-ne0.true) in
           let more = pointing_more f n before ws c.loop-f.backs.items w.point.new.backs c.loop-f.invariant same
           (λ g l. w.point.ensures g (omega (arith, l, ap (length {A = Option ℕ}) items, c.loop-f.invariant.len))

@@ -3,6 +3,7 @@ use Rattle.std.proofs.Common.{◌≡◌, ℕ, [], ◌+◌, ◌<◌, ◌≤◌, L
 use Rattle.std.specs.List.{All}
 use Rattle.std.proofs.lemmas.List.{take_more, take_all, get_or_read}
 use Rattle.std.proofs.lemmas.List.FromFn.{fill_by_all}
+use Rattle.flame_rows.proofs.Lists.{take-written}
 use Rattle.flame_spec.specs.Below.{is_in}
 use Rattle.flame_spec.specs.ModelOrder.{order}
 use Rattle.flame_spec.specs.Layers.{layer}
@@ -11,7 +12,6 @@ use Rattle.flame_graph.specs.Graph.{follows}
 use Rattle.flame_graph.specs.Heights.{lifted, reached}
 use Rattle.flame_graph.proofs.Counting.{below_all, in_passing}
 use Rattle.flame_graph.proofs.Following.{list_is, follows_inside}
-use Rattle.flame_graph.proofs.Marking.{whole}
 use Rattle.flame_graph.proofs.Reaching.{reached_push, reached_turn, reached_end}
 use Rattle.flame_graph.proofs.heights.layers.Goals as goal
 
@@ -74,7 +74,7 @@ loop-node-preserved c =
     let turn : x ≡ layer n before f = read ∙ inv.at f below ∙ reached_turn n before fs i c.requires.order c.requires.whole (follows_inside c.args.lists.now) c.loop-node-test.true in
     let items = c.deref_mut.ensures.value in
     let same : length c.lift.new.heights ≡ length hs = c.lift.auto.heights ∙ ap (length {A = ℕ}) items in
-    let lent = whole c.lift.new.heights hs c.loop-node.heights.len same (omega arith) in
+    let lent = take-written c.lift.new.heights hs c.loop-node.heights.len same (omega arith) in
     let now : (g : ℕ) → g < n → slice_index c.lift.new.heights g ≡ lifted (x + 1) (is_in g c.numbers.result.now) (slice_index hs g) = λ g l. c.lift.ensures g (omega (arith, l, ap (length {A = ℕ}) items, inv.len)) ∙ ap (λ xs. lifted (x + 1) (is_in g c.numbers.result.now) (slice_index xs g)) items in
     record {
       len = ap (length {A = ℕ}) lent ∙ same ∙ inv.len;

@@ -2,13 +2,13 @@
 use Rattle.std.proofs.Common.{◌≡◌, ℕ, [], ◌∷◌, ◌++◌, ◌+◌, ◌-◌, ◌<◌, List, length, ap, sym, ◌∙◌, subst, arith, slice_index}
 use Rattle.std.specs.Prelude.{◌==◌, ◌&&◌, ◌||◌}
 use Rattle.std.specs.List.{All}
+use Rattle.flame_rows.proofs.Lists.{take-written}
 use Rattle.flame_spec.specs.Below.{all_below, is_in, times}
 use Rattle.flame_spec.specs.ModelOrder.{with_next, order_after}
 use Rattle.flame_spec.proofs.Orders.{next_is_next, order_push, IsOrder}
 use Rattle.flame_graph.specs.Graph.{follows, AreWaiting}
 use Rattle.flame_graph.proofs.Counting.{below_all}
 use Rattle.flame_graph.proofs.Following.{list_is}
-use Rattle.flame_graph.proofs.Marking.{whole}
 use Rattle.flame_graph.proofs.Turns.{AreReady, next_none, next_some, turn_enough, turn_counts, turn_ready, order_more, order_end}
 use Rattle.flame_graph.proofs.Walking.{whole_waiting, left_waits}
 use Rattle.flame_graph.proofs.order.put_in_order.Goals as goal
@@ -73,7 +73,7 @@ loop-turn-preserved c =
     let list = list_is c.args.lists.now f c.index-lists-next.result c.numbers.result.now c.requires.ascending now.below c.index-lists-next.is c.numbers.ensures in
     let items = c.deref_mut.ensures.value in
     let same : length c.settle.new.waiting ≡ length ws = c.settle.auto.waiting ∙ ap (length {A = ℕ}) items in
-    let lent = whole c.settle.new.waiting ws c.loop-turn.waiting.len same (omega arith) in
+    let lent = take-written c.settle.new.waiting ws c.loop-turn.waiting.len same (omega arith) in
     let pushed : c.push.new.self.items ≡ fs ++ f ∷ [] = c.in_ok-push-in-Some.ensures.items in
     let counts = turn_counts n before fs ws c.settle.new.waiting f now i.counts same (λ g l. ap (λ xs. slice_index c.settle.new.waiting g + times g xs) (sym list) ∙ c.in_ok-settle-in-Some.ensures.counts g (omega (arith, l, ap (length {A = ℕ}) items)) ∙ ap (λ xs. slice_index xs g) items) in
     let ready = turn_ready n before fs c.settle.new.waiting c.loop-turn.ready c.take.new.self c.settle.new.ready f now i.sound i.ready c.in-Some.ensures counts (λ g. c.in_ok-settle-in-Some.ensures.ready g ∙ ap (λ xs. is_in g c.take.new.self || (is_in g xs && (slice_index c.settle.new.waiting g == 0))) list) in

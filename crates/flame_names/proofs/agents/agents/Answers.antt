@@ -2,13 +2,15 @@ use Rattle.std.proofs.Common.{◌≡◌, ◌∙◌, ◌++◌, ◌∷◌, [], Lis
 use Rattle.std.specs.Prelude.{◌||◌}
 use Rattle.std.proofs.lemmas.List.{map_more, take_more}
 use Rattle.std.proofs.lemmas.Result.{err_from_is_err_and}
+use Rattle.std.proofs.lemmas.List.Folds.{list_any-append}
+use Rattle.std.specs.Str.{bytes_eq}
 use Rattle.flame_spec.specs.KnownNames.{is_among}
 use Rattle.flame_spec.specs.Paths.{at_number}
 use Rattle.flame_spec.specs.NameFaults.{type_names, function_names, names_of_functions, agent_faults}
 use Rattle.flame_names.specs.PlacePaths.{text_of}
 use Rattle.flame_names.specs.TableScopes.{declared_of}
 use Rattle.flame_names.proofs.Rests.{fails-member, none-member}
-use Rattle.flame_names.proofs.Sharing.{is_among-append, names_of_functions-push}
+use Rattle.flame_names.proofs.Sharing.{names_of_functions-push}
 use Rattle.flame_names.proofs.agents.agents.Goals as goal
 
 pub returns-in_err-add_agent-clause-first : goal.returns-in_err-add_agent-clause-first
@@ -70,7 +72,7 @@ loop-i-preserved c =
       shared = λ name.
           c.in_ok-add_agent.ensures.functions name
           ∙ ap (λ b. b || is_among name (function_names agent.functions)) (c.loop-i.invariant.shared name)
-          ∙ sym (is_among-append name (names_of_functions (take i agents)) (function_names agent.functions))
+          ∙ sym (list_any-append (bytes_eq name) (names_of_functions (take i agents)) (function_names agent.functions))
           ∙ ap (is_among name) (sym (names_of_functions-push (take i agents) agent))
           ∙ ap
           (λ types. is_among name (names_of_functions types))

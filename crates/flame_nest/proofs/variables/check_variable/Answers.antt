@@ -1,11 +1,12 @@
 use Rattle.std.proofs.Common.{◌∙◌, ◌∷◌, [], ap, sym, not}
 use Rattle.std.specs.Prelude.{◌&&◌, ◌||◌, is_some}
 use Rattle.std.proofs.lemmas.Result.{err_from_is_err_and, on_ok_weaker, IfErr-weaker}
+use Rattle.flame_rows.proofs.Lists.{append-nils}
 use Rattle.flame_spec.specs.KnownNames.{is_among}
 use Rattle.flame_nest.specs.declared.faults.NestKind.TheVariants.{UnknownType, TypedArray, TooWide, LongName}
 use Rattle.flame_nest.specs.FlatModels.{flat_variables}
 use Rattle.flame_nest.specs.NestFaults.{type_names, is_int, is_wide}
-use Rattle.flame_nest.proofs.Firsts.{fails-append, fails-skip, fails-same, none-append, where-same, where-false, never_both}
+use Rattle.flame_nest.proofs.Firsts.{fails-append, fails-skip, fails-same, where-same, where-false, never_both}
 use Rattle.flame_nest.proofs.variables.check_variable.Goals as goal
 
 pub returns-in_err-refuse-clause-first : goal.returns-in_err-refuse-clause-first
@@ -50,15 +51,15 @@ returns-clause-none c =
     on_ok_weaker
     c.refuse-3.result
     (λ e.
-    none-append
+    append-nils
     _
     _
     (sym (where-same _ _ UnknownType file name unknown) ∙ c.in_ok-refuse.ensures.none)
-    (none-append
+    (append-nils
     _
     _
     (sym (where-same _ _ TypedArray file name array) ∙ c.in_ok-refuse-2.ensures.none)
-    (none-append
+    (append-nils
     _
     _
     (where-false _ TooWide file name narrow)

@@ -1,10 +1,11 @@
 use Rattle.std.proofs.Common.{◌∙◌, ap, sym}
 use Rattle.std.proofs.lemmas.Result.{err_from_is_err_and, on_ok_weaker, IfErr-weaker}
+use Rattle.flame_rows.proofs.Lists.{append-nils}
 use Rattle.flame_nest.specs.FlatModels.{with_new}
 use Rattle.flame_nest.specs.NestFaults.{meant_by, types_faults, messages_faults, agents_faults}
 use Rattle.flame_nest.specs.GivenTables.{given_in}
 use Rattle.flame_nest.specs.FileWalks.{known_with}
-use Rattle.flame_nest.proofs.Firsts.{fails-append, fails-skip, fails-same, none-append}
+use Rattle.flame_nest.proofs.Firsts.{fails-append, fails-skip, fails-same}
 use Rattle.flame_nest.proofs.walking.check_file.Goals as goal
 
 pub returns-in_err-check_types-clause-first : goal.returns-in_err-check_types-clause-first
@@ -57,12 +58,12 @@ returns-clause-none c =
     on_ok_weaker
     c.check_agents.result
     (λ e.
-    none-append
+    append-nils
     _
     _
     (ap (types_faults file (given_in c.args.types.now) c.args.kinds.now) (sym c.items.ensures)
     ∙ c.in_ok-check_types.ensures.none)
-    (none-append
+    (append-nils
     _
     _
     (sym

@@ -16,16 +16,44 @@ use Rattle.flame_expr.specs.contracts.lexemes.Lexeme as kind
 use Rattle.flame_parse.proofs.simple.called.Goals as goal
 
 pub returns-in_err-found-clause-stopped : goal.returns-in_err-found-clause-stopped
-returns-in_err-found-clause-stopped c = stops_by _ _ c.from_residual.ensures.1 (λ n h. one_stopped (alike_stopped [] ((form some_args ∷ lexeme Close ∷ []) ∷ []) ((maybe (form some_args) ∷ lexeme Close ∷ []) ∷ []) c.args.tokens.now c.args.at n (omega arith) (omega arith) (begin.called_alike (first (drop c.args.at c.args.tokens.now)) (λ q. same_false kind.the_type c.lexeme_at.result Close (sym c.eq.ensures ∙ c.if-eq.false) (c.lexeme_at.ensures ∙ q))) (any_stopped (stopped_before joins_args [] (form some_args ∷ []) (lexeme Close ∷ []) c.args.tokens.now c.args.at n refl h)))) c.in_err-found.ensures.stopped
+returns-in_err-found-clause-stopped c =
+    stops_by _ _ c.from_residual.ensures.1
+    (λ n h. one_stopped
+    (alike_stopped [] ((form some_args ∷ lexeme Close ∷ []) ∷ []) ((maybe (form some_args) ∷ lexeme Close ∷ []) ∷ []) c.args.tokens.now c.args.at n
+    (omega arith) (omega arith)
+    (begin.called_alike (first (drop c.args.at c.args.tokens.now))
+    (λ q. same_false kind.the_type c.lexeme_at.result Close (sym c.eq.ensures ∙ c.if-eq.false) (c.lexeme_at.ensures ∙ q)))
+    (any_stopped (stopped_before joins_args [] (form some_args ∷ []) (lexeme Close ∷ []) c.args.tokens.now c.args.at n refl h))))
+    c.in_err-found.ensures.stopped
 
 pub returns-in_err-end-clause-stopped : goal.returns-in_err-end-clause-stopped
-returns-in_err-end-clause-stopped c = stops_by _ _ c.from_residual-in_err-end.ensures.1 (λ n h. one_stopped (alike_stopped [] ((form some_args ∷ lexeme Close ∷ []) ∷ []) ((maybe (form some_args) ∷ lexeme Close ∷ []) ∷ []) c.args.tokens.now c.args.at n (omega arith) (omega arith) (begin.called_alike (first (drop c.args.at c.args.tokens.now)) (λ q. same_false kind.the_type c.lexeme_at.result Close (sym c.eq.ensures ∙ c.if-eq.false) (c.lexeme_at.ensures ∙ q))) (any_stopped (stopped_then joins_args [] (form some_args ∷ []) (lexeme Close ∷ []) c.args.tokens.now c.args.at c.in_ok-found.mid n refl c.in_ok-found.ensures.ended h)))) c.in_err-end.ensures.stopped
+returns-in_err-end-clause-stopped c =
+    stops_by _ _ c.from_residual-in_err-end.ensures.1
+    (λ n h. one_stopped
+    (alike_stopped [] ((form some_args ∷ lexeme Close ∷ []) ∷ []) ((maybe (form some_args) ∷ lexeme Close ∷ []) ∷ []) c.args.tokens.now c.args.at n
+    (omega arith) (omega arith)
+    (begin.called_alike (first (drop c.args.at c.args.tokens.now))
+    (λ q. same_false kind.the_type c.lexeme_at.result Close (sym c.eq.ensures ∙ c.if-eq.false) (c.lexeme_at.ensures ∙ q)))
+    (any_stopped
+    (stopped_then joins_args [] (form some_args ∷ []) (lexeme Close ∷ []) c.args.tokens.now c.args.at c.in_ok-found.mid n refl
+    c.in_ok-found.ensures.ended h))))
+    c.in_err-end.ensures.stopped
 
 pub returns-clause-ended : goal.returns-clause-ended
-returns-clause-ended c = one_ended (alike_ended [] ((form some_args ∷ lexeme Close ∷ []) ∷ []) ((maybe (form some_args) ∷ lexeme Close ∷ []) ∷ []) c.args.tokens.now c.args.at c.in_ok-end.end (omega arith) (omega arith) (begin.called_alike (first (drop c.args.at c.args.tokens.now)) (λ q. same_false kind.the_type c.lexeme_at.result Close (sym c.eq.ensures ∙ c.if-eq.false) (c.lexeme_at.ensures ∙ q))) (any_ended (ended_then joins_args [] (form some_args ∷ []) (lexeme Close ∷ []) c.args.tokens.now c.args.at c.in_ok-found.mid c.in_ok-end.end refl c.in_ok-found.ensures.ended c.in_ok-end.ensures.ended)))
+returns-clause-ended c =
+    one_ended
+    (alike_ended [] ((form some_args ∷ lexeme Close ∷ []) ∷ []) ((maybe (form some_args) ∷ lexeme Close ∷ []) ∷ []) c.args.tokens.now c.args.at
+    c.in_ok-end.end (omega arith) (omega arith)
+    (begin.called_alike (first (drop c.args.at c.args.tokens.now))
+    (λ q. same_false kind.the_type c.lexeme_at.result Close (sym c.eq.ensures ∙ c.if-eq.false) (c.lexeme_at.ensures ∙ q)))
+    (any_ended
+    (ended_then joins_args [] (form some_args ∷ []) (lexeme Close ∷ []) c.args.tokens.now c.args.at c.in_ok-found.mid c.in_ok-end.end refl
+    c.in_ok-found.ensures.ended c.in_ok-end.ensures.ended)))
 
 pub returns-clause-tree : goal.returns-clause-tree
-returns-clause-tree c = end_of (grammar.Called (drop c.args.at c.args.tokens.now) (expressions c.in_ok-found.found.items)) c.args.tokens.now c.in_ok-found.mid c.in_ok-end.end c.in_ok-end.ensures.next (grammar.some_args c.in_ok-found.ensures.tree c.in_ok-end.ensures.found)
+returns-clause-tree c =
+    end_of (grammar.Called (drop c.args.at c.args.tokens.now) (expressions c.in_ok-found.found.items)) c.args.tokens.now c.in_ok-found.mid
+    c.in_ok-end.end c.in_ok-end.ensures.next (grammar.some_args c.in_ok-found.ensures.tree c.in_ok-end.ensures.found)
 
 pub returns-then-eq-clause-tree : goal.returns-then-eq-clause-tree
 returns-then-eq-clause-tree c =

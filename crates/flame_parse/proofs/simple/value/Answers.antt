@@ -10,19 +10,32 @@ use Rattle.flame_parse.proofs.Assigns.{call_read}
 use Rattle.flame_parse.proofs.simple.value.Goals as goal
 
 pub returns-then-calls-clause-tree : goal.returns-then-calls-clause-tree
-returns-then-calls-clause-tree c = rw (c.of.ensures, c.line_at-line.ensures, c.in_ok-word.ensures) (call_read c.args.tokens.now c.args.at c.in_ok-found.close c.in_ok-end.end (expressions c.in_ok-found.found.items) (c.calls.ensures.yes c.if-calls.true) c.in_ok-found.ensures.tree c.in_ok-end.ensures.found c.in_ok-end.ensures.next)
+returns-then-calls-clause-tree c =
+    rw (c.of.ensures, c.line_at-line.ensures, c.in_ok-word.ensures)
+    (call_read c.args.tokens.now c.args.at c.in_ok-found.close c.in_ok-end.end (expressions c.in_ok-found.found.items)
+    (c.calls.ensures.yes c.if-calls.true) c.in_ok-found.ensures.tree c.in_ok-end.ensures.found c.in_ok-end.ensures.next)
 
 pub returns-then-calls-clause-ended : goal.returns-then-calls-clause-ended
-returns-then-calls-clause-ended c = values.call_ended c.args.tokens.now c.args.at c.in_ok-found.close c.in_ok-end.end (c.calls.ensures.yes c.if-calls.true) c.in_ok-found.ensures.ended c.in_ok-end.ensures.ended
+returns-then-calls-clause-ended c =
+    values.call_ended c.args.tokens.now c.args.at c.in_ok-found.close c.in_ok-end.end (c.calls.ensures.yes c.if-calls.true)
+    c.in_ok-found.ensures.ended c.in_ok-end.ensures.ended
 
 pub returns-in_err-found-clause-stopped : goal.returns-in_err-found-clause-stopped
-returns-in_err-found-clause-stopped c = stops_by _ _ c.from_residual.ensures.1 (λ n h. values.call_stopped c.args.tokens.now c.args.at n (c.calls.ensures.yes c.if-calls.true) h) c.in_err-found.ensures.stopped
+returns-in_err-found-clause-stopped c =
+    stops_by _ _ c.from_residual.ensures.1 (λ n h. values.call_stopped c.args.tokens.now c.args.at n (c.calls.ensures.yes c.if-calls.true) h)
+    c.in_err-found.ensures.stopped
 
 pub returns-in_err-end-clause-stopped : goal.returns-in_err-end-clause-stopped
-returns-in_err-end-clause-stopped c = stops_by _ _ c.from_residual-in_err-end.ensures.1 (λ n h. values.call_end_stopped c.args.tokens.now c.args.at c.in_ok-found.close n (c.calls.ensures.yes c.if-calls.true) c.in_ok-found.ensures.ended h) c.in_err-end.ensures.stopped
+returns-in_err-end-clause-stopped c =
+    stops_by _ _ c.from_residual-in_err-end.ensures.1
+    (λ n h. values.call_end_stopped c.args.tokens.now c.args.at c.in_ok-found.close n (c.calls.ensures.yes c.if-calls.true)
+    c.in_ok-found.ensures.ended h)
+    c.in_err-end.ensures.stopped
 
 pub returns-in_err-tree-clause-stopped : goal.returns-in_err-tree-clause-stopped
-returns-in_err-tree-clause-stopped c = stops_by _ _ c.from_residual-in_err-tree.ensures.1 (λ n h. values.plain_stopped c.args.tokens.now c.args.at n (c.calls.ensures.no c.if-calls.false) h) c.in_err-tree.ensures.stopped
+returns-in_err-tree-clause-stopped c =
+    stops_by _ _ c.from_residual-in_err-tree.ensures.1
+    (λ n h. values.plain_stopped c.args.tokens.now c.args.at n (c.calls.ensures.no c.if-calls.false) h) c.in_err-tree.ensures.stopped
 
 pub returns-clause-tree : goal.returns-clause-tree
 returns-clause-tree c = grammar.an_expression c.in_ok-tree.ensures.tree

@@ -27,7 +27,22 @@ units-init c = rw c.new-found.ensures.items (run_begin joins_unit (many (form a_
 pub units-preserved : goal.units-preserved
 units-preserved c =
     let j : joins_on (first (drop c.units.place c.args.tokens.now)) joins_unit ≡ true = ap (λ d. joins_on d joins_unit) (sym c.in-Int.ensures) in
-    rw c.in_ok-push.ensures.items (run_step defined joins_unit (many (form a_def) ∷ []) grammar.Definitions c.args.tokens.now c.args.at c.units.place c.in_ok-next.end c.units.found.items c.in_ok-next.next c.units.invariant (omega (arith, c.in_ok-next.ensures.ahead)) c.in_ok-next.ensures.ended.within (λ ds rest x. grammar.definition_more c.in_ok-next.ensures.tree x) (λ end x. many_ended [] joins_unit (form a_def) c.args.tokens.now c.units.place c.in_ok-next.end end refl j c.in_ok-next.ensures.ahead c.in_ok-next.ensures.ended x) (λ n x. many_stopped [] joins_unit (form a_def) c.args.tokens.now c.units.place c.in_ok-next.end n refl j c.in_ok-next.ensures.ahead c.in_ok-next.ensures.ended x))
+    rw c.in_ok-push.ensures.items
+    (run_step defined joins_unit (many (form a_def) ∷ []) grammar.Definitions c.args.tokens.now c.args.at c.units.place c.in_ok-next.end
+    c.units.found.items c.in_ok-next.next c.units.invariant (omega (arith, c.in_ok-next.ensures.ahead)) c.in_ok-next.ensures.ended.within
+    (λ ds rest x. grammar.definition_more c.in_ok-next.ensures.tree x)
+    (λ end x. many_ended [] joins_unit (form a_def) c.args.tokens.now c.units.place c.in_ok-next.end end refl j c.in_ok-next.ensures.ahead
+    c.in_ok-next.ensures.ended x)
+    (λ n x. many_stopped [] joins_unit (form a_def) c.args.tokens.now c.units.place c.in_ok-next.end n refl j c.in_ok-next.ensures.ahead
+    c.in_ok-next.ensures.ended x))
 
 pub returns-in_default : goal.returns-in_default
-returns-in_default c = record { tree = run_read joins_unit (many (form a_def) ∷ []) grammar.Definitions c.args.tokens.now c.args.at c.units.place (map defined c.units.found.items) c.units.invariant grammar.no_definition; ended = c.units.invariant.ended c.units.place (one_ended (here_ended joins_unit ((many (form a_def) ∷ []) ∷ []) c.args.tokens.now c.units.place c.units.invariant.within (begin.unit_ends (first (drop c.units.place c.args.tokens.now)) (unlike c.lexeme_at.ensures c.in_default.not-Int)))); stopped = tt }
+returns-in_default c = record {
+  tree = run_read joins_unit (many (form a_def) ∷ []) grammar.Definitions c.args.tokens.now c.args.at c.units.place (map defined c.units.found.items)
+      c.units.invariant grammar.no_definition;
+  ended = c.units.invariant.ended c.units.place
+      (one_ended
+      (here_ended joins_unit ((many (form a_def) ∷ []) ∷ []) c.args.tokens.now c.units.place c.units.invariant.within
+      (begin.unit_ends (first (drop c.units.place c.args.tokens.now)) (unlike c.lexeme_at.ensures c.in_default.not-Int))));
+  stopped = tt;
+}

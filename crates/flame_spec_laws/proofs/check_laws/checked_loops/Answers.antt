@@ -1,10 +1,10 @@
 -- What loops, fields and jumps are in C functions without faults.
 use Rattle.std.proofs.Common.{codes}
+use Rattle.flame_rows.proofs.Lists.{append-is_nil_left}
 use Rattle.flame_spec.specs.declared.faults.CheckKind.TheVariants.{StrayBreak}
 use Rattle.flame_spec.specs.Trees.{field, field_at, loop_over, break, continue}
+use Rattle.flame_spec.proofs.FaultTests.{fault_where-none}
 use Rattle.flame_spec_laws.specs.BodyParts.{value, doing}
-use Rattle.flame_spec_laws.proofs.Found.{left-none}
-use Rattle.flame_spec_laws.proofs.NoFaults.{fault_where-none}
 use Rattle.flame_spec_laws.proofs.CheckedBodies.{part-none}
 use Rattle.flame_spec_laws.proofs.Sights.{within}
 use Rattle.flame_spec_laws.proofs.Loops.{field_read, field_at_read, loop_found, not_nested}
@@ -24,7 +24,7 @@ returns-clause-fields c = λ line word variable model units d at sight none is s
 pub returns-clause-elements : goal.returns-clause-elements
 returns-clause-elements c = λ line word variable index_line index model units d at sight none is stands.
     field_at_read at sight line word variable
-    (left-none _ _
+    (append-is_nil_left _ _
     (part-none (value (field_at line word variable index_line index)) model units d at sight none is stands))
 
 pub returns-clause-breaks : goal.returns-clause-breaks

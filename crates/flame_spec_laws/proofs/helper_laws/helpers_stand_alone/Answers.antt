@@ -1,8 +1,8 @@
 -- What stands in no helper.
+use Rattle.flame_rows.proofs.Lists.{append-is_nil_left}
 use Rattle.flame_spec.specs.Trees.{name, get, field, field_at, call, loop_over}
 use Rattle.flame_spec.specs.Trees.{at as element}
 use Rattle.flame_spec_laws.specs.BodyParts.{value, assigning, doing}
-use Rattle.flame_spec_laws.proofs.Found.{left-none}
 use Rattle.flame_spec_laws.proofs.CheckedBodies.{part-none}
 use Rattle.flame_spec_laws.proofs.Names.{name_read, name_indexed, name_assigned}
 use Rattle.flame_spec_laws.proofs.Calls.{getter, is_call}
@@ -36,7 +36,7 @@ returns-clause-fields c = λ line word variable model units d at sight none is s
 pub returns-clause-field_elements : goal.returns-clause-field_elements
 returns-clause-field_elements c = λ line word variable index_line index model units d at sight none is stands alone.
     let (read, row, array) = field_at_read at sight line word variable
-    (left-none _ _
+    (append-is_nil_left _ _
     (part-none (value (field_at line word variable index_line index)) model units d at sight none is stands)) in
     no_message at alone row.message row.known
 

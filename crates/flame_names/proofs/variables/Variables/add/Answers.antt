@@ -3,13 +3,13 @@ use Rattle.std.specs.Option.{is_some}
 use Rattle.std.specs.Map.{lookup}
 use Rattle.std.specs.Str.{bytes_eq}
 use Rattle.std.proofs.lemmas.List.{map_push}
+use Rattle.flame_rows.proofs.Truths.{is_some-false}
 use Rattle.indexmap.proofs.CallerLemmas.{insert_entry-new}
 use Rattle.flame_spec.specs.declared.models.Variable.{Variable}
 use Rattle.flame_spec.specs.Columns.{width, width_of}
 use Rattle.flame_spec.specs.KnownNames.{is_among, variable_names}
 use Rattle.flame_names.specs.VariableTables.{variables_in_table, counted}
 use Rattle.flame_names.proofs.Arrays.{there-is}
-use Rattle.flame_names.proofs.Looks.{none-is}
 use Rattle.flame_names.proofs.Widths.{width-push, counted-more}
 use Rattle.flame_names.proofs.variables.Variables.add.Goals as goal
 
@@ -29,7 +29,7 @@ table_more c =
     ap
     variables_in_table
     (c.in_ok-insert.ensures.entries
-    ∙ insert_entry-new (λ x y. bytes_eq x.now y.now) c.self.inside.lengths c.as_str.result length (none-is _ absent))
+    ∙ insert_entry-new (λ x y. bytes_eq x.now y.now) c.self.inside.lengths c.as_str.result length (is_some-false _ absent))
     ∙ map_push
     (λ entry. let v : Variable = record { name = entry.0.now; length = entry.1 } in v)
     entries

@@ -2,12 +2,13 @@ use Rattle.std.proofs.Common.{◌≡◌, ◌∙◌, List, ℕ, sym, ap, map, opt
 use Rattle.std.specs.Option.{option_copied}
 use Rattle.std.specs.Map.{lookup}
 use Rattle.std.specs.Str.{bytes_eq}
+use Rattle.std.proofs.lemmas.Bool.{not-true}
 use Rattle.flame_spec.specs.declared.models.Variable.{Variable}
 use Rattle.flame_spec.specs.declared.wide.DataType.{DataType}
 use Rattle.flame_nest.specs.declared.kinds.Kind.{Kind}
 use Rattle.flame_nest.specs.NestFaults.{is_wide}
 use Rattle.flame_nest.specs.KindTables.{look, table_of, IsKinds}
-use Rattle.flame_nest.proofs.Looks.{look-shown, look-all, not_true}
+use Rattle.flame_nest.proofs.Looks.{look-shown, look-all}
 use Rattle.flame_nest.proofs.kinds.Kinds.fields.Goals as goal
 
 abbrev shown : List (Bor (List ℕ) × Kind) → List (List ℕ × List Variable)
@@ -54,7 +55,7 @@ returns-in-None-clause-found c =
 
 pub returns-in-Some-clause-narrow : goal.returns-in-Some-clause-narrow
 returns-in-Some-clause-narrow c =
-    not_true
+    not-true
     _
     (look-all
     (λ fields. not (is_wide fields))
