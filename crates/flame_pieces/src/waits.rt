@@ -1,6 +1,7 @@
 //! What waits for what.
 
-ghost use Rattle.std.specs.Prelude.{◌≡◌, ℕ, ◌+◌, ◌<◌, ◌≤◌, false, IfOk, OnOk, OnErr, length, map, replicate, slice_index};
+ghost use Rattle.std.specs.Prelude.{◌≡◌, ℕ, ◌+◌, ◌<◌, ◌≤◌, false, IfOk, OnOk, OnErr, length, map, replicate};
+ghost use Rattle.std.specs.Prelude.{slice_index};
 ghost use Rattle.std.specs.List.{All};
 ghost use Rattle.flame_spec.specs.Below.{times};
 ghost use Rattle.flame_pieces.specs.Waiting.{awaited, thing_at, is_free, unwaited, waited_by, with_waiter, with_done};
@@ -29,9 +30,9 @@ impl Awaited {
     }
 }
 
-/// What waits for what: some things get done, and others wait for them. Both are numbered from 0. For each that waits it is
-/// counted how many it waits for still, so that it costs nothing to tell whether it is free, and as much as there are that
-/// wait for a thing to tell that this is done.
+/// What waits for what: some things get done, and others wait for them. Both are numbered from 0. For each that waits
+/// it is counted how many it waits for still, so that it costs nothing to tell whether it is free, and as much as there
+/// are that wait for a thing to tell that this is done.
 #[derive(Debug, Drop)]
 pub struct Waits {
     things: Vec<Awaited>,
@@ -87,12 +88,13 @@ impl Waits {
         })
     }
 
-    /// The one of this number waits for the thing, which is not done. `NoMemory` comes also where 32 bits cannot count for
-    /// how many it waits.
+    /// The one of this number waits for the thing, which is not done. `NoMemory` comes also where 32 bits cannot count
+    /// for how many it waits.
     pub fn add(&mut self, thing: u32, waiter: u32) -> Result<(), NoMemory>
         requires open { (thing_at self.old.things thing).done ≡ false }
         requires within { waiter < self.old.count }
-        ensures { OnOk result (self.new ≡ with_waiter thing waiter self.old) }
+        ensures ok { OnOk result (self.new ≡ with_waiter thing waiter self.old) }
+        ensures err { OnErr result (self.new ≡ self.old) }
     {
         let Some(count) = self.counts[waiter as usize].checked_add(1) else {
             return Err(NoMemory);
