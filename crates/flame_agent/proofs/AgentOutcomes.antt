@@ -1,10 +1,8 @@
 -- The code of a function takes what an agent has before it, and gives its outcome.
-use Rattle.std.proofs.Common.{◌≡◌, ℕ, zero, suc, ◌<◌, List, [], ◌∷◌, map, length, Some, sym, ap, ◌∙◌, subst, arith}
-use Rattle.std.specs.Prelude.{ℤ, slice_get}
+use Rattle.std.proofs.Common.{◌≡◌, ℕ, List, map, Some, sym, ap, ◌∙◌, subst}
+use Rattle.std.specs.Prelude.{ℤ}
 use Rattle.flame_spec.specs.declared.outcomes.Source.{Source}
 use Rattle.flame_spec.specs.declared.outcomes.Widths.{Widths}
-use Rattle.flame_spec.specs.Before.{function_count}
-use Rattle.flame_spec.specs.Functions.{functions}
 use Rattle.flame_body.specs.FunctionBodies.{input_width, widths_in}
 use Rattle.flame_code.specs.Feeds.{Fed, not_begun}
 use Rattle.flame_code.specs.InputRows.{HaveWidths, rows_of}
@@ -17,17 +15,8 @@ use Rattle.flame_world.specs.Settings.{boards_of}
 use Rattle.flame_agent.specs.FunctionFits.{FitsFunction}
 use Rattle.flame_agent.proofs.ReadingWidths.{readings-fit, have-widths, rows-not-begun}
 
-within : {X : Type 0} (xs : List X) (k : ℕ) (x : X) → slice_get xs k ≡ Some x → k < length xs
-within [] k x at = absurd (cc)
-within (y ∷ ys) zero x at = omega arith
-within (y ∷ ys) (suc k) x at = let rest = within ys k x at in omega (arith, rest)
-
 module _ (source : Source) (function : ℕ) (setting : Setting) (memory : List ℤ)
     (fits : FitsFunction source.model function setting memory) where
-  -- there is such a function
-  pub function-there : function < function_count source.model
-  function-there = within (functions source.model) function fits.place fits.there
-
   -- what an agent reads by the inputs
   abbrev readings : List (List (List ℤ))
   readings = readings_from (place_of source function) source.model memory (boards_of setting)

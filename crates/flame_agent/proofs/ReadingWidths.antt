@@ -1,9 +1,10 @@
 -- What an agent reads is as wide as what lies on the boards.
-use Rattle.std.proofs.Common.{◌≡◌, ℕ, zero, suc, List, [], ◌∷◌, map, length, Option, Some, None, refl, sym, ap, ◌∙◌, subst, arith}
-use Rattle.std.specs.Prelude.{ℤ, slice_get, option_map}
+use Rattle.std.proofs.Common.{◌≡◌, ℕ, List, [], ◌∷◌, map, length, Option, Some, None, refl, sym, ap, ◌∙◌, arith}
+use Rattle.std.specs.Prelude.{ℤ, option_map}
 use Rattle.std.specs.List.{AllZip, zip, filter}
 use Rattle.std.proofs.lemmas.List.{length-map}
 use Rattle.std.proofs.lemmas.Option.{slice_get-map}
+use Rattle.flame_rows.proofs.Lists.{AllZip-at}
 use Rattle.flame_spec.specs.declared.models.AgentType.{AgentType}
 use Rattle.flame_spec.specs.declared.models.Input.{Input}
 use Rattle.flame_spec.specs.declared.models.MessageType.{MessageType}
@@ -14,11 +15,10 @@ use Rattle.flame_body.specs.FunctionBodies.{input_width}
 use Rattle.flame_code.specs.Feeds.{not_begun}
 use Rattle.flame_code.specs.InputRows.{HaveWidths, rows_of}
 use Rattle.flame_meaning.specs.Outcomes.{message_named}
-use Rattle.flame_meaning.specs.RangeLaws.{Each}
-use Rattle.flame_program.proofs.Zips.{zip-at, zip-back}
+use Rattle.flame_program.proofs.Zips.{zip-back}
 use Rattle.flame_world.specs.Meaning.{view_from, readings_from}
-use Rattle.flame_world.proofs.Eachs.{each_filter, each_sorted}
 use Rattle.flame_agent.specs.FunctionFits.{IsBoardFor, AreBoardsFor}
+use Rattle.flame_meaning.proofs.Eachs.{each_at, each_filter, each_sorted}
 
 -- ---- views of boards
 
@@ -54,11 +54,6 @@ readings-fit model place memory boards fit =
 
 -- ---- widths that a code sees
 
-each-at : {X : Type 0} (P : X → Type 0) (xs : List X) (k : ℕ) (x : X) → Each P xs → slice_get xs k ≡ Some x → P x
-each-at P [] k x all at = absurd (cc)
-each-at P (y ∷ ys) zero x all at = let same : y ≡ x = cc in subst P same all.0
-each-at P (y ∷ ys) (suc k) x all at = each-at P ys k x all.1 at
-
 zip-long : {A B : Type 0} (P : A → B → Type 0) (xs : List A) (ys : List B) → AllZip P xs ys → length ys ≡ length xs
 zip-long P [] [] all = refl
 zip-long P [] (y ∷ ys) all = absurd all
@@ -72,8 +67,8 @@ have-widths model inputs lists fit = record {
   count = zip-long (IsBoardFor model) inputs lists fit ∙ sym (length-map inputs (input_width model));
   wide = λ input place rows row listed at.
       let form = zip-back (IsBoardFor model) inputs lists input rows fit listed in
-      let own = zip-at (IsBoardFor model) inputs lists input form.0 rows fit form.1 listed in
-      let wide = each-at (λ row. length row ≡ input_width model form.0) rows place row own at in
+      let own = AllZip-at (IsBoardFor model) inputs lists input form.0 rows fit form.1 listed in
+      let wide = each_at (λ row. length row ≡ input_width model form.0) rows place row own at in
       slice_get-map (input_width model) inputs input ∙ ap (option_map (input_width model)) form.1 ∙ ap Some (sym wide);
 }
 

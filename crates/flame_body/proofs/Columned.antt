@@ -1,37 +1,17 @@
 -- Variables stand within rows, and what is numbered stands at its number.
 use Rattle.std.proofs.Common.{◌≡◌, ℕ, suc, ◌+◌, ◌≤◌, List, [], ◌∷◌, ◌++◌, map, Some, Bool, true, false, cond, refl, sym}
 use Rattle.std.proofs.Common.{ap, ◌∙◌, arith}
-use Rattle.std.specs.Prelude.{slice_get, slice_index_or, option_map, not}
+use Rattle.std.specs.Prelude.{slice_get, slice_index_or, option_map}
 use Rattle.std.specs.Str.{bytes_eq}
 use Rattle.std.proofs.lemmas.Option.{slice_get-map, get_or_from_slice_get}
 use Rattle.std.proofs.lemmas.Slice.Eq.{bytes_eq-Decides}
 use Rattle.flame_spec.specs.declared.models.MessageType.{MessageType}
 use Rattle.flame_spec.specs.declared.models.Variable.{Variable}
-use Rattle.flame_spec.specs.declared.faults.CheckKind.{CheckKind}
 use Rattle.flame_spec.specs.Columns.{width, width_of, columned_from, columned_where}
-use Rattle.flame_spec.specs.ExpressionFaults.{fault_where}
 use Rattle.flame_spec.specs.KnownNames.{variables_in}
 use Rattle.flame_spec.specs.Lists.{numbered_from}
-use Rattle.flame_spec.specs.Scopes.{Context}
 
 -- ---- no faults
-
-pub none-left : {X : Type 0} (xs ys : List X) → xs ++ ys ≡ [] → xs ≡ []
-none-left [] ys h = refl
-none-left (x ∷ xs) ys h = absurd (cc)
-
-pub none-right : {X : Type 0} (xs ys : List X) → xs ++ ys ≡ [] → ys ≡ []
-none-right [] ys h = h
-none-right (x ∷ xs) ys h = absurd (cc)
-
-pub not-found : (test : Bool) (context : Context) (kind : CheckKind) (line : ℕ) (word : List ℕ)
-    → fault_where test context kind line word ≡ [] → test ≡ false
-not-found true context kind line word h = absurd (cc)
-not-found false context kind line word h = refl
-
-pub holds-then : (b : Bool) → not b ≡ false → b ≡ true
-holds-then true h = refl
-holds-then false h = absurd (cc)
 
 -- what is false proves all
 pub never : {X : Type 0} → false ≡ true → X

@@ -6,6 +6,8 @@ use Rattle.std.specs.List.{list_all}
 use Rattle.std.specs.Option.{option_map_or}
 use Rattle.std.specs.Str.{bytes_eq}
 use Rattle.std.proofs.lemmas.Bool.Decides.{Decides-eqb}
+use Rattle.std.proofs.lemmas.Bool.{and_from}
+use Rattle.flame_rows.proofs.Lists.{append-is_nil_left, append-is_nil_right}
 use Rattle.flame_spec.specs.declared.models.AgentType.{AgentType}
 use Rattle.flame_spec.specs.declared.models.MessageType.{MessageType}
 use Rattle.flame_spec.specs.declared.models.Variable.{Variable}
@@ -44,8 +46,7 @@ use Rattle.flame_body.specs.BodyCalls.{all_calls_pass, statement_calls_pass, tre
 use Rattle.flame_body.proofs.CallForms.{calls-Empty, calls-Declare, calls-Assign, calls-Call, calls-Block}
 use Rattle.flame_body.proofs.CallForms.{arm_calls_pass, calls-If, calls-While, calls-For, calls-Do, calls-Loop}
 use Rattle.flame_body.proofs.CallForms.{calls-Return, calls-Break, calls-Continue}
-use Rattle.flame_body.proofs.Columned.{none-left, none-right, numbered-at}
-use Rattle.flame_body.proofs.FittedWords.{both}
+use Rattle.flame_body.proofs.Columned.{numbered-at}
 use Rattle.flame_body.proofs.FittedCalls.{deed-clean, row-at, numbered-count}
 
 -- of the helpers whose numbers are among those that are called, the numbers and how many parameters they have pass
@@ -200,7 +201,7 @@ module _ (passes : ℕ → ℕ → Bool) where
       → stored_calls_pass passes (numbered_stored (unfiled context) sight a.value) ≡ true
   assignment-counted context sight a pass none =
       stored-counted context sight a.value pass
-      (none-right
+      (append-is_nil_right
       (unknown_faults context sight a.line a.name
       ++ fault_where (is_read_only context a.name) context _ a.line a.name
       ++ subscript_faults context sight a.line a.name a.subscript)
@@ -229,15 +230,15 @@ module _ (passes : ℕ → ℕ → Bool) where
       let name = declared_faults context sight item.line item.name in
       let value = optional_stored_faults context (in_value_of item.name sight) item.value in
       let behind = items_faults context (after_name sight item.name) items in
-      both
+      and_from
       (initial_calls_pass passes
       (option_map (numbered_stored (unfiled context) (in_value_of item.name sight)) item.value))
       (list_all (λ (i : SlotItem). initial_calls_pass passes i.value)
       (numbered_items (unfiled context) (after_name sight item.name) items))
       (initial-counted context (in_value_of item.name sight) item.value (first-part passes context one more pass)
-      (none-right name value (none-left (item_faults context sight item) behind none)))
+      (append-is_nil_right name value (append-is_nil_left (item_faults context sight item) behind none)))
       (items-counted context (after_name sight item.name) items (last-part passes context one more pass)
-      (none-right (item_faults context sight item) behind none))
+      (append-is_nil_right (item_faults context sight item) behind none))
 
   -- ---- statements
 
@@ -268,16 +269,16 @@ module _ (passes : ℕ → ℕ → Bool) where
         let behind = statements_faults context (in_scope sight) otherwise in
         let after_all_tests = numbered_statements (unfiled context) (in_scope sight) otherwise in
         calls-If passes (numbered_arms (unfiled context) sight arms) after_all_tests
-        ∙ both (all_calls_pass (map (arm_calls_pass passes) (numbered_arms (unfiled context) sight arms)))
+        ∙ and_from (all_calls_pass (map (arm_calls_pass passes) (numbered_arms (unfiled context) sight arms)))
         (tree_calls_pass passes after_all_tests)
-        (arms-counted context sight arms (first-part passes context one two pass) (none-left front behind none))
+        (arms-counted context sight arms (first-part passes context one two pass) (append-is_nil_left front behind none))
         (statements-counted context (in_scope sight) otherwise (last-part passes context one two pass)
-        (none-right front behind none))
+        (append-is_nil_right front behind none))
     statement-counted context sight (while line test body) pass none =
         calls-While passes line (numbered (unfiled context) sight test)
         (numbered_statements (unfiled context) (in_loop over_none sight) body)
         ∙ statements-counted context (in_loop over_none sight) body pass
-        (none-right (expression_faults context sight test) (statements_faults context (in_loop over_none sight) body)
+        (append-is_nil_right (expression_faults context sight test) (statements_faults context (in_loop over_none sight) body)
         none)
     statement-counted context sight (for line first test step body) pass none =
         let one = λ (n : ℕ). statements_call context n first in
@@ -289,7 +290,7 @@ module _ (passes : ℕ → ℕ → Bool) where
         let tests = optional_faults context seen test in
         let steps = optional_assignment_faults context seen step in
         let bodies = statements_faults context (in_loop over_none seen) body in
-        let front = none-left (start ++ tests ++ steps) bodies none in
+        let front = append-is_nil_left (start ++ tests ++ steps) bodies none in
         let inner = numbered_statements (unfiled context) (in_loop over_none seen) body in
         let begun = tree_calls_pass passes (numbered_statements (unfiled context) (in_scope sight) first) in
         let stepped = step_calls_pass passes (option_map (numbered_assignment (unfiled context) seen) step) in
@@ -299,19 +300,19 @@ module _ (passes : ℕ → ℕ → Bool) where
           step = option_map (numbered_assignment (unfiled context) seen) step;
         } in
         calls-For passes line head inner
-        ∙ both (begun && stepped) (tree_calls_pass passes inner)
-        (both begun stepped
+        ∙ and_from (begun && stepped) (tree_calls_pass passes inner)
+        (and_from begun stepped
         (statements-counted context (in_scope sight) first (first-part passes context one two begins)
-        (none-left start tests (none-left (start ++ tests) steps front)))
-        (step-counted context seen step (last-part passes context one two begins) (none-right (start ++ tests) steps front)))
+        (append-is_nil_left start tests (append-is_nil_left (start ++ tests) steps front)))
+        (step-counted context seen step (last-part passes context one two begins) (append-is_nil_right (start ++ tests) steps front)))
         (statements-counted context (in_loop over_none seen) body
         (last-part passes context (λ n. one n || two n) three pass)
-        (none-right (start ++ tests ++ steps) bodies none))
+        (append-is_nil_right (start ++ tests ++ steps) bodies none))
     statement-counted context sight (do_while line body test) pass none =
         calls-Do passes line (numbered_statements (unfiled context) (in_loop over_none sight) body)
         (numbered (unfiled context) sight test)
         ∙ statements-counted context (in_loop over_none sight) body pass
-        (none-left (statements_faults context (in_loop over_none sight) body) (expression_faults context sight test) none)
+        (append-is_nil_left (statements_faults context (in_loop over_none sight) body) (expression_faults context sight test) none)
     statement-counted context sight (loop_over line word body end_line end_word) pass none =
         let found = message_looped (messages_at context) word in
         let start = start_faults context sight found line word in
@@ -320,7 +321,7 @@ module _ (passes : ℕ → ℕ → Bool) where
         calls-Loop passes line (input_looped (unfiled context) word)
         (numbered_statements (unfiled context) (in_loop (opened found) sight) body)
         ∙ statements-counted context (in_loop (opened found) sight) body pass
-        (none-right start bodies (none-left (start ++ bodies) finish none))
+        (append-is_nil_right start bodies (append-is_nil_left (start ++ bodies) finish none))
     statement-counted context sight (return e) pass none =
         calls-Return passes (numbered (unfiled context) sight e)
     statement-counted context sight (break line) pass none = calls-Break passes
@@ -337,12 +338,12 @@ module _ (passes : ℕ → ℕ → Bool) where
         let two = λ (n : ℕ). statements_call context n statements in
         let front = statement_faults context sight statement in
         let behind = statements_faults context (after sight statement) statements in
-        both (statement_calls_pass passes (numbered_statement (unfiled context) sight statement))
+        and_from (statement_calls_pass passes (numbered_statement (unfiled context) sight statement))
         (tree_calls_pass passes (numbered_statements (unfiled context) (after sight statement) statements))
         (statement-counted context sight statement (first-part passes context one two pass)
-        (none-left front behind none))
+        (append-is_nil_left front behind none))
         (statements-counted context (after sight statement) statements (last-part passes context one two pass)
-        (none-right front behind none))
+        (append-is_nil_right front behind none))
 
     arms-counted :
         (context : Context) (sight : Sight) (arms : Arms)
@@ -356,12 +357,12 @@ module _ (passes : ℕ → ℕ → Bool) where
         let tests = expression_faults context sight test in
         let bodies = statements_faults context (in_scope sight) body in
         let others = arms_faults context sight arms in
-        both (tree_calls_pass passes (numbered_statements (unfiled context) (in_scope sight) body))
+        and_from (tree_calls_pass passes (numbered_statements (unfiled context) (in_scope sight) body))
         (all_calls_pass (map (arm_calls_pass passes) (numbered_arms (unfiled context) sight arms)))
         (statements-counted context (in_scope sight) body (first-part passes context one two pass)
-        (none-right tests bodies (none-left (tests ++ bodies) others none)))
+        (append-is_nil_right tests bodies (append-is_nil_left (tests ++ bodies) others none)))
         (arms-counted context sight arms (last-part passes context one two pass)
-        (none-right (tests ++ bodies) others none))
+        (append-is_nil_right (tests ++ bodies) others none))
 
 -- a C function
 pub definition-pass :
@@ -371,7 +372,7 @@ pub definition-pass :
     → tree_calls_pass passes (numbered_definition context d) ≡ true
 definition-pass passes context d none pass =
     statements-counted passes context (after_parameters at_entry d.parameters) d.body pass
-    (none-right (parameters_faults context at_entry d.parameters)
+    (append-is_nil_right (parameters_faults context at_entry d.parameters)
     (statements_faults context (after_parameters at_entry d.parameters) d.body) none)
 
 -- the number of its parameters is that of the helper

@@ -6,6 +6,8 @@ use Rattle.std.specs.Prelude.{codes}
 use Rattle.std.specs.Str.{bytes_eq}
 use Rattle.std.proofs.lemmas.Bool.Decides.{Decides-eqb}
 use Rattle.std.proofs.lemmas.Option.{slice_get-map, slice_get_within, get_or_from_slice_get}
+use Rattle.std.proofs.lemmas.Bool.{lt-ltb, and_from, not-false}
+use Rattle.flame_rows.proofs.Lists.{append-is_nil_left, append-is_nil_right}
 use Rattle.flame_spec.specs.declared.models.AgentType.{AgentType}
 use Rattle.flame_spec.specs.declared.models.MessageType.{MessageType}
 use Rattle.flame_spec.specs.declared.models.Variable.{Variable}
@@ -23,6 +25,7 @@ use Rattle.flame_spec.specs.LookUps.{Given, in_memory, constant, iteration, memo
 use Rattle.flame_spec.specs.Scopes.{Context, Sight, names_seen, memory_at, given_at, is_local}
 use Rattle.flame_spec.specs.Trees.{Expression, name, field}
 use Rattle.flame_spec.specs.Trees.{Expressions, no_parts, part}
+use Rattle.flame_spec.proofs.FaultTests.{fault_where-none, is_length-true}
 use Rattle.flame_body.specs.declared.slots.SlotExpr.{SlotExpr}
 use Rattle.flame_body.specs.WordSlots.{local_number, slot_given, slot_or_given, slot_at, field_span, span_found}
 use Rattle.flame_body.specs.WordSlots.{input_read, deed_slot, deed_at}
@@ -32,15 +35,15 @@ use Rattle.flame_body.specs.FitLaws.{Suits, unfiled}
 use Rattle.flame_body.specs.BodyFits.{Around, Fit, unfit, one_value, whole_array, is_value, fit, fit_of_slot}
 use Rattle.flame_body.specs.BodyFits.{fit_of_bare, is_field, numbers_in, together}
 use Rattle.flame_body.specs.BodyFits.{numbers_of, row_fits, deed_fits, values_fit}
-use Rattle.flame_body.proofs.Columned.{none-left, none-right, not-found, holds-then, never, column-there, numbered-at}
+use Rattle.flame_body.proofs.Columned.{never, column-there, numbered-at}
 use Rattle.flame_body.proofs.FitForms.{fit-Name, fit-Field}
-use Rattle.flame_body.proofs.FittedWords.{memory-width, no-length, both, le-true, lt-true, given-within, local-seen}
+use Rattle.flame_body.proofs.FittedWords.{memory-width, no-length, le-true, given-within, local-seen}
 use Rattle.flame_body.proofs.FittedExpressions.{RowFound, row-found, field-stands, expression-fits, parts-fit}
 
 -- ---- how many numbers an argument stands for
 
 -- one value is one number
-value-number : (f : Fit) → is_value f ≡ true → numbers_in f ≡ Some 1
+pub value-number : (f : Fit) → is_value f ≡ true → numbers_in f ≡ Some 1
 value-number unfit h = absurd (cc)
 value-number one_value h = refl
 value-number (whole_array length) h = absurd (cc)
@@ -53,11 +56,6 @@ bare-numbers :
     → numbers_in (fit_of_bare b length) ≡ Some n
 bare-numbers b length n h g =
     ap (λ t. numbers_in (fit_of_bare t length)) h ∙ ap (λ o. numbers_in (fit_of_bare true o)) g
-
--- what is of a length has that length
-of-length : (n : ℕ) (o : Option ℕ) → is_length n o ≡ true → o ≡ Some n
-of-length n None h = absurd (cc)
-of-length n (Some other) h = ap Some ((Decides-eqb other n).0 h)
 
 -- an array of the memory, where it stands without an index
 array-given :
@@ -106,7 +104,7 @@ array-read :
 array-read context sight around word variable None n suits row is long = absurd (cc)
 array-read context sight around word variable (Some (c, v)) n suits row is long =
     let stands = field-stands context sight around word variable c v suits row is in
-    bare-numbers _ v.length n (both _ _ stands.inside (le-true _ _ stands.within)) long
+    bare-numbers _ v.length n (and_from _ _ stands.inside (le-true _ _ stands.within)) long
 
 -- an argument that is an array of this length
 array-numbers :
@@ -117,12 +115,12 @@ array-numbers :
     → numbers_in (fit around (numbered (unfiled context) sight e)) ≡ Some n
 array-numbers context sight around (name line word) n suits none long =
     ap numbers_in (fit-Name around (slot_at context sight word))
-    ∙ array-named context sight around word n suits (of-length n (length_given (given_at context word)) long)
+    ∙ array-named context sight around word n suits (is_length-true n (length_given (given_at context word)) long)
 array-numbers context sight around (field line word variable) n suits none long =
     ap numbers_in (fit-Field around (input_read context word) (field_span context word variable))
     ∙ array-read context sight around word variable (member_read context word variable) n suits
     (row-found context sight line word variable none) refl
-    (of-length n (length_found (member_read context word variable)) long)
+    (is_length-true n (length_found (member_read context word variable)) long)
 array-numbers context sight around e n suits none long = never long
 
 -- an argument stands for as many numbers as its variable is wide
@@ -139,8 +137,8 @@ argument-numbers context sight around line word (Some n) e suits none =
     let test = is_length n (length_of_argument context e) in
     let behind = fault_where (not test) context _ line word in
     array-numbers context sight around e n suits
-    (none-left front behind none)
-    (holds-then test (not-found (not test) context _ line word (none-right front behind none)))
+    (append-is_nil_left front behind none)
+    (not-false test (fault_where-none (not test) context _ line word (append-is_nil_right front behind none)))
 
 -- as many numbers as the row of the variables is wide
 arguments-numbers :
@@ -159,9 +157,9 @@ arguments-numbers context sight around line word (v ∷ vs) (part e parts) suits
     let rest = numbers_of (map (fit around) (numbered_parts (unfiled context) sight parts)) in
     let more : count parts ≡ length vs = omega arith in
     ap (λ o. together o rest)
-    (argument-numbers context sight around line word v.length e suits (none-left front behind none))
+    (argument-numbers context sight around line word v.length e suits (append-is_nil_left front behind none))
     ∙ ap (together (Some (width_of v)))
-    (arguments-numbers context sight around line word vs parts suits (none-right front behind none) more)
+    (arguments-numbers context sight around line word vs parts suits (append-is_nil_right front behind none) more)
 
 -- ---- rows
 
@@ -172,8 +170,8 @@ row-of-width :
     → numbers_of (map (fit around) arguments) ≡ Some w
     → row_fits around rows k arguments ≡ true
 row-of-width around rows k w arguments there numbers =
-    both (nat_lt k (length rows)) (is_length (slice_index_or rows k 0) (numbers_of (map (fit around) arguments)))
-    (lt-true _ _ (slice_get_within rows k w there))
+    and_from (nat_lt k (length rows)) (is_length (slice_index_or rows k 0) (numbers_of (map (fit around) arguments)))
+    (lt-ltb _ _ (slice_get_within rows k w there))
     (ap (is_length (slice_index_or rows k 0)) numbers
     ∙ (Decides-eqb w (slice_index_or rows k 0)).1 (sym (get_or_from_slice_get rows k w 0 there)))
 
@@ -194,7 +192,7 @@ numbered-count context sight no_parts = refl
 numbered-count context sight (part e parts) = let more = numbered-count context sight parts in omega arith
 
 -- arguments beyond the variables are values
-plain-arguments :
+pub plain-arguments :
     (context : Context) (sight : Sight) (line : ℕ) (word : List ℕ) (arguments : Expressions)
     → arguments_faults context sight line word [] arguments ≡ parts_faults context sight arguments
 plain-arguments context sight line word no_parts = refl
@@ -230,13 +228,13 @@ deed-clean context sight deed line word arguments none =
     let counts = fault_where (not (count arguments == wanted deed)) context _ line word in
     let outputs = fault_where (sends_no_output context deed) context _ line word in
     let inner = arguments_faults context sight line word (places_of deed) arguments in
-    let front = none-left (whole ++ counts) outputs (none-left (whole ++ counts ++ outputs) inner none) in
+    let front = append-is_nil_left (whole ++ counts) outputs (append-is_nil_left (whole ++ counts ++ outputs) inner none) in
     record {
-      single = not-found (sets_array deed) context _ line word (none-left whole counts front);
+      single = fault_where-none (sets_array deed) context _ line word (append-is_nil_left whole counts front);
       counted = (Decides-eqb (count arguments) (wanted deed)).0
-          (holds-then (count arguments == wanted deed)
-          (not-found (not (count arguments == wanted deed)) context _ line word (none-right whole counts front)));
-      clean = none-right (whole ++ counts ++ outputs) inner none;
+          (not-false (count arguments == wanted deed)
+          (fault_where-none (not (count arguments == wanted deed)) context _ line word (append-is_nil_right whole counts front)));
+      clean = append-is_nil_right (whole ++ counts ++ outputs) inner none;
     }
 
 -- a call that sets a variable
@@ -255,10 +253,10 @@ sets-fit context sight around c v line word arguments suits is none =
     column-there (λ variable. bytes_eq (codes "set_" ++ variable.name) word) (memory_at context) c v is in
     let wide : around.widths.memory ≡ width (memory_at context) =
     ap (λ x. x.memory) suits.widths ∙ memory-width context.model context.runs in
-    both (nat_lt c around.widths.memory && (length (numbered_parts (unfiled context) sight arguments) == 1))
+    and_from (nat_lt c around.widths.memory && (length (numbered_parts (unfiled context) sight arguments) == 1))
     (values_fit around (numbered_parts (unfiled context) sight arguments))
-    (both (nat_lt c around.widths.memory) (length (numbered_parts (unfiled context) sight arguments) == 1)
-    (lt-true _ _ (omega arith))
+    (and_from (nat_lt c around.widths.memory) (length (numbered_parts (unfiled context) sight arguments) == 1)
+    (lt-ltb _ _ (omega arith))
     ((Decides-eqb (length (numbered_parts (unfiled context) sight arguments)) 1).1
     (numbered-count (unfiled context) sight arguments ∙ clean.counted)))
     (parts-fit context sight around arguments suits

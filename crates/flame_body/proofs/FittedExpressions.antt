@@ -5,6 +5,8 @@ use Rattle.std.specs.Prelude.{slice_index_or, is_some, nat_lt, not, codes}
 use Rattle.std.specs.List.{list_all}
 use Rattle.std.specs.Str.{bytes_eq}
 use Rattle.std.proofs.lemmas.Slice.Eq.{bytes_eq-Decides}
+use Rattle.std.proofs.lemmas.Bool.{lt-ltb, and_from, not-false}
+use Rattle.flame_rows.proofs.Lists.{append-is_nil_left, append-is_nil_right}
 use Rattle.flame_spec.specs.declared.models.Input.{Input}
 use Rattle.flame_spec.specs.declared.models.MessageType.{MessageType}
 use Rattle.flame_spec.specs.declared.models.Model.{Model}
@@ -21,6 +23,7 @@ use Rattle.flame_spec.specs.LookUps.{Given, in_memory, constant, iteration, memo
 use Rattle.flame_spec.specs.Scopes.{Context, Sight, memory_at, messages_in, messages_at, given_at, is_open_over, input_in, input_found}
 use Rattle.flame_spec.specs.Trees.{Expression, number, name, field, get, at, field_at, signed, chain, all_of, any_of}
 use Rattle.flame_spec.specs.Trees.{Expressions, no_parts, part, Links, no_links, link}
+use Rattle.flame_spec.proofs.FaultTests.{fault_where-none}
 use Rattle.flame_body.specs.declared.slots.SlotLink.{SlotLink}
 use Rattle.flame_body.specs.WordSlots.{slot_at, cells_at, cells_found, cells_given, span_found, field_span}
 use Rattle.flame_body.specs.WordSlots.{field_cells, got_column, input_read, number_found}
@@ -28,12 +31,12 @@ use Rattle.flame_body.specs.NumberedTrees.{numbered, numbered_parts, numbered_li
 use Rattle.flame_body.specs.FunctionBodies.{widths_in, input_width}
 use Rattle.flame_body.specs.BodyFits.{Around, fits, values_fit, is_value, is_inside, are_within, is_field}
 use Rattle.flame_body.specs.BodyFits.{are_field_cells, width_of_input, fit_of_bare}
-use Rattle.flame_body.proofs.Columned.{none-left, none-right, not-found, holds-then, column-there, numbered-at}
+use Rattle.flame_body.proofs.Columned.{column-there, numbered-at}
 use Rattle.flame_body.proofs.Columned.{mapped-at, variables-of}
 use Rattle.flame_body.proofs.FitForms.{fit-Number, fit-Name, fit-Field, fit-Get, fit-At, fit-FieldAt, fit-Unary}
 use Rattle.flame_body.proofs.FitForms.{fit-Chain, fit-All, fit-Any}
 use Rattle.flame_body.specs.FitLaws.{Suits, unfiled}
-use Rattle.flame_body.proofs.FittedWords.{memory-width, no-length, bare-value, value-value, both, le-true, lt-true}
+use Rattle.flame_body.proofs.FittedWords.{memory-width, no-length, bare-value, value-value, le-true}
 use Rattle.flame_body.proofs.FittedWords.{given-within, name-fits}
 
 -- ---- arrays and getters
@@ -76,7 +79,7 @@ getter-fits context around line word (Some f) w is none plain =
     let one : width_of f.1 ≡ 1 = ap width_by (no-length f.1.length plain) in
     let wide : around.widths.memory ≡ width (memory_at context) =
     ap (λ x. x.memory) w ∙ memory-width context.model context.runs in
-    lt-true _ _ (omega arith)
+    lt-ltb _ _ (omega arith)
 
 -- ---- rows of messages
 
@@ -105,11 +108,11 @@ row-found context sight line word variable none =
         record {
           message = m;
           found = is;
-          opened = holds-then (is_open_over sight m.1)
-              (not-found test context _ line word (none-left (fault_where test context _ line word) behind h));
-          member = holds-then (is_some (variable_named m.1.variables variable))
-              (not-found (not (is_some (variable_named m.1.variables variable))) context _ line variable
-              (none-right (fault_where test context _ line word) behind h));
+          opened = not-false (is_open_over sight m.1)
+              (fault_where-none test context _ line word (append-is_nil_left (fault_where test context _ line word) behind h));
+          member = not-false (is_some (variable_named m.1.variables variable))
+              (fault_where-none (not (is_some (variable_named m.1.variables variable))) context _ line variable
+              (append-is_nil_right (fault_where test context _ line word) behind h));
         }
 
 pub row-width :
@@ -177,7 +180,7 @@ field-fits context sight around line word variable None suits row is plain =
 field-fits context sight around line word variable (Some (c, v)) suits row is plain =
     let stands = field-stands context sight around word variable c v suits row is in
     bare-value _ v.length
-    (both _ _ stands.inside (le-true _ _ stands.within))
+    (and_from _ _ stands.inside (le-true _ _ stands.within))
     (no-length v.length plain)
 
 field-cells-fit :
@@ -192,7 +195,7 @@ field-cells-fit context sight around word variable (Some (c, v)) suits row is ar
     let stands = field-stands context sight around word variable c v suits row is in
     let within = stands.within in
     let long : elements v.length ≡ width_of v = elements-there v array in
-    both _ _ stands.inside (le-true _ _ (omega arith))
+    and_from _ _ stands.inside (le-true _ _ (omega arith))
 
 -- ---- expressions
 
@@ -210,53 +213,53 @@ mutual
       let arrays = fault_where (is_found_array (member_read context word variable)) context _ line variable in
       ap is_value (fit-Field around (input_read context word) (field_span context word variable))
       ∙ field-fits context sight around line word variable (member_read context word variable) suits
-      (row-found context sight line word variable (none-left rows arrays none)) refl
-      (not-found (is_found_array (member_read context word variable)) context _ line variable
-      (none-right rows arrays none))
+      (row-found context sight line word variable (append-is_nil_left rows arrays none)) refl
+      (fault_where-none (is_found_array (member_read context word variable)) context _ line variable
+      (append-is_nil_right rows arrays none))
   expression-fits context sight around (get line word) suits none =
       let found = memory_got (memory_at context) word in
       let arrays = fault_where (is_found_array found) context _ line word in
       ap is_value (fit-Get around (got_column context word))
       ∙ value-value _ (getter-fits context around line word found suits.widths refl
-      (none-left (getter_faults context found line word) arrays none)
-      (not-found (is_found_array found) context _ line word
-      (none-right (getter_faults context found line word) arrays none)))
+      (append-is_nil_left (getter_faults context found line word) arrays none)
+      (fault_where-none (is_found_array found) context _ line word
+      (append-is_nil_right (getter_faults context found line word) arrays none)))
   expression-fits context sight around (at line word index_line index) suits none =
       let front = unknown_faults context sight line word ++ indexed_faults context line word in
       let inner = expression_faults context sight index in
       ap is_value (fit-At around (cells_at context word)
       (record { line = index_line; index = numbered (unfiled context) sight index }))
-      ∙ value-value _ (both _ _
+      ∙ value-value _ (and_from _ _
       (cells-fit context around word (given_at context word) suits.widths refl
-      (holds-then (names_array context word) (not-found (not (names_array context word)) context _ line word
-      (none-right (unknown_faults context sight line word) (indexed_faults context line word)
-      (none-left front inner none)))))
-      (expression-fits context sight around index suits (none-right front inner none)))
+      (not-false (names_array context word) (fault_where-none (not (names_array context word)) context _ line word
+      (append-is_nil_right (unknown_faults context sight line word) (indexed_faults context line word)
+      (append-is_nil_left front inner none)))))
+      (expression-fits context sight around index suits (append-is_nil_right front inner none)))
   expression-fits context sight around (field_at line word variable index_line index) suits none =
       let found = member_read context word variable in
       let rows = row_faults context sight line word variable in
       let arrays = fault_where (not (is_found_array found)) context _ line variable in
       let front = field_at_faults context sight line word variable in
       let inner = expression_faults context sight index in
-      let before = none-left front inner none in
+      let before = append-is_nil_left front inner none in
       ap is_value (fit-FieldAt around (input_read context word) (field_cells context word variable)
       (record { line = index_line; index = numbered (unfiled context) sight index }))
-      ∙ value-value _ (both _ _
+      ∙ value-value _ (and_from _ _
       (field-cells-fit context sight around word variable found suits
-      (row-found context sight line word variable (none-left rows arrays before)) refl
-      (holds-then (is_found_array found) (not-found (not (is_found_array found)) context _ line variable
-      (none-right rows arrays before))))
-      (expression-fits context sight around index suits (none-right front inner none)))
+      (row-found context sight line word variable (append-is_nil_left rows arrays before)) refl
+      (not-false (is_found_array found) (fault_where-none (not (is_found_array found)) context _ line variable
+      (append-is_nil_right rows arrays before))))
+      (expression-fits context sight around index suits (append-is_nil_right front inner none)))
   expression-fits context sight around (signed signs e) suits none =
       ap is_value (fit-Unary around signs (numbered (unfiled context) sight e))
       ∙ value-value _ (expression-fits context sight around e suits none)
   expression-fits context sight around (chain e more) suits none =
       ap is_value (fit-Chain around (numbered (unfiled context) sight e) (numbered_links (unfiled context) sight more))
-      ∙ value-value _ (both _ _
+      ∙ value-value _ (and_from _ _
       (expression-fits context sight around e suits
-      (none-left (expression_faults context sight e) (links_faults context sight more) none))
+      (append-is_nil_left (expression_faults context sight e) (links_faults context sight more) none))
       (links-fit context sight around more suits
-      (none-right (expression_faults context sight e) (links_faults context sight more) none)))
+      (append-is_nil_right (expression_faults context sight e) (links_faults context sight more) none)))
   expression-fits context sight around (all_of parts) suits none =
       ap is_value (fit-All around (numbered_parts (unfiled context) sight parts))
       ∙ value-value _ (parts-fit context sight around parts suits none)
@@ -271,11 +274,11 @@ mutual
       → values_fit around (numbered_parts (unfiled context) sight parts) ≡ true
   parts-fit context sight around no_parts suits none = refl
   parts-fit context sight around (part e parts) suits none =
-      both _ _
+      and_from _ _
       (expression-fits context sight around e suits
-      (none-left (expression_faults context sight e) (parts_faults context sight parts) none))
+      (append-is_nil_left (expression_faults context sight e) (parts_faults context sight parts) none))
       (parts-fit context sight around parts suits
-      (none-right (expression_faults context sight e) (parts_faults context sight parts) none))
+      (append-is_nil_right (expression_faults context sight e) (parts_faults context sight parts) none))
 
   links-fit :
       (context : Context) (sight : Sight) (around : Around) (links : Links)
@@ -285,8 +288,8 @@ mutual
       ≡ true
   links-fit context sight around no_links suits none = refl
   links-fit context sight around (link op line e links) suits none =
-      both _ _
+      and_from _ _
       (expression-fits context sight around e suits
-      (none-left (expression_faults context sight e) (links_faults context sight links) none))
+      (append-is_nil_left (expression_faults context sight e) (links_faults context sight links) none))
       (links-fit context sight around links suits
-      (none-right (expression_faults context sight e) (links_faults context sight links) none))
+      (append-is_nil_right (expression_faults context sight e) (links_faults context sight links) none))

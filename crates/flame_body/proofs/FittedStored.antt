@@ -1,8 +1,11 @@
 -- What is stored without faults fits, with numbers in place of names: assignments and declarations.
-use Rattle.std.proofs.Common.{◌≡◌, ℕ, ◌+◌, ◌≤◌, List, [], ◌∷◌, ◌++◌, Option, Some, None, Bool, true, false, refl, ap}
+use Rattle.std.proofs.Common.{◌≡◌, ℕ, ◌+◌, ◌≤◌, List, [], ◌∷◌, ◌++◌, Option, Some, None, true, false, refl, ap}
 use Rattle.std.proofs.Common.{◌∙◌, arith}
 use Rattle.std.specs.Prelude.{not, ◌||◌, option_map, is_some}
 use Rattle.std.specs.List.{list_all}
+use Rattle.std.proofs.lemmas.Bool.{lt-ltb, and_parts, and_from, not-false}
+use Rattle.flame_rows.proofs.Lists.{append-is_nil_left, append-is_nil_right}
+use Rattle.flame_rows.proofs.Truths.{or-true_left}
 use Rattle.flame_spec.specs.Columns.{width, width_by, width_of}
 use Rattle.flame_spec.specs.Definitions.{helper_named}
 use Rattle.flame_spec.specs.ExpressionFaults.{gives_array, names_array, fault_where, unknown_faults, indexed_faults}
@@ -15,6 +18,7 @@ use Rattle.flame_spec.specs.StatementFaults.{assignment_faults}
 use Rattle.flame_spec.specs.StatementFaults.{optional_assignment_faults, optional_stored_faults, declared_faults}
 use Rattle.flame_spec.specs.StatementFaults.{item_faults, items_faults}
 use Rattle.flame_spec.specs.Trees.{Expression, Stored, plain, called, Indexed, Assigned, Declared}
+use Rattle.flame_spec.proofs.FaultTests.{fault_where-none}
 use Rattle.flame_body.specs.declared.slots.SlotItem.{SlotItem}
 use Rattle.flame_body.specs.WordSlots.{local_number, target_or_given, target_at, cells_at}
 use Rattle.flame_body.specs.NumberedTrees.{numbered, numbered_stored, numbered_target, numbered_assignment}
@@ -23,8 +27,7 @@ use Rattle.flame_body.specs.FunctionBodies.{widths_in}
 use Rattle.flame_body.specs.FitLaws.{Suits, unfiled}
 use Rattle.flame_body.specs.BodyFits.{Around, fits, optional_fits, are_within, stored_fits, initial_fits, target_fits}
 use Rattle.flame_body.specs.BodyFits.{assignment_fits, step_fits}
-use Rattle.flame_body.proofs.Columned.{none-left, none-right, not-found, holds-then}
-use Rattle.flame_body.proofs.FittedWords.{memory-width, no-length, both, both-right, lt-true, given-within, local-seen}
+use Rattle.flame_body.proofs.FittedWords.{memory-width, no-length, given-within, local-seen}
 use Rattle.flame_body.proofs.FittedExpressions.{expression-fits, cells-fit}
 use Rattle.flame_body.proofs.FittedCalls.{helper-values}
 use Rattle.flame_body.proofs.KeptSuits.{suits-in-value, suits-after, name-declared}
@@ -61,11 +64,6 @@ initial-fits context sight around (Some stored) suits none = stored-fits context
 
 -- ---- assignments
 
--- one of two tests holds, and not the second
-either : (a b : Bool) → (a || b) ≡ true → b ≡ false → a ≡ true
-either true b h g = refl
-either false b h g = absurd (cc)
-
 -- what the model gives and is not only read is a memory variable, which stands within the memory
 given-target :
     (context : Context) (around : Around) (word : List ℕ) (found : Option Given)
@@ -81,7 +79,7 @@ given-target context around word (Some (in_memory c v)) w is there writable sing
     let within : c + width_of v ≤ width (memory_at context) = given-within context word c v is in
     let wide : around.widths.memory ≡ width (memory_at context) =
     ap (λ x. x.memory) w ∙ memory-width context.model context.runs in
-    lt-true _ _ (omega arith)
+    lt-ltb _ _ (omega arith)
 given-target context around word (Some (constant k)) w is there writable single = absurd (cc)
 given-target context around word (Some iteration) w is there writable single = absurd (cc)
 
@@ -95,7 +93,7 @@ name-target :
     → target_fits around (target_at (unfiled context) sight word) ≡ true
 name-target context sight around word suits visible writable single =
     by_number (local_number (names_seen sight) word) refl
-    (both-right (not (is_name_of sight.own word)) (is_some (given_at context word) || is_local sight word) visible)
+    (and_parts (not (is_name_of sight.own word)) (is_some (given_at context word) || is_local sight word) visible).1
   where
     by_number :
         (number : Option ℕ)
@@ -105,7 +103,7 @@ name-target context sight around word suits visible writable single =
     by_number (Some n) is there = refl
     by_number None is there =
         given-target context around word (given_at context word) suits.widths refl
-        (either (is_some (given_at context word)) (is_local sight word) there (local-seen sight word ∙ ap is_some is))
+        (or-true_left (is_some (given_at context word)) (is_local sight word) there (local-seen sight word ∙ ap is_some is))
         writable single
 
 -- what is assigned to
@@ -118,19 +116,19 @@ target-fits :
     → target_fits around (numbered_target (unfiled context) sight word subscript) ≡ true
 target-fits context sight around line word None suits known writable none =
     name-target context sight around word suits
-    (holds-then (is_visible context sight word)
-    (not-found (not (is_visible context sight word)) context _ line word known))
+    (not-false (is_visible context sight word)
+    (fault_where-none (not (is_visible context sight word)) context _ line word known))
     writable
-    (not-found (names_array context word) context _ line word none)
+    (fault_where-none (names_array context word) context _ line word none)
 target-fits context sight around line word (Some s) suits known writable none =
     let front = indexed_faults context line word in
     let inner = expression_faults context sight s.index in
-    both (are_within around.widths.memory (cells_at context word))
+    and_from (are_within around.widths.memory (cells_at context word))
     (fits around (numbered (unfiled context) sight s.index))
     (cells-fit context around word (given_at context word) suits.widths refl
-    (holds-then (names_array context word)
-    (not-found (not (names_array context word)) context _ line word (none-left front inner none))))
-    (expression-fits context sight around s.index suits (none-right front inner none))
+    (not-false (names_array context word)
+    (fault_where-none (not (names_array context word)) context _ line word (append-is_nil_left front inner none))))
+    (expression-fits context sight around s.index suits (append-is_nil_right front inner none))
 
 -- an assignment
 pub assignment-fits :
@@ -143,15 +141,15 @@ assignment-fits context sight around a suits none =
     let writable = fault_where (is_read_only context a.name) context _ a.line a.name in
     let place = subscript_faults context sight a.line a.name a.subscript in
     let value = stored_faults context sight a.value in
-    let front = none-left (known ++ writable ++ place) value none in
-    let name = none-left (known ++ writable) place front in
-    both (target_fits around (numbered_target (unfiled context) sight a.name a.subscript))
+    let front = append-is_nil_left (known ++ writable ++ place) value none in
+    let name = append-is_nil_left (known ++ writable) place front in
+    and_from (target_fits around (numbered_target (unfiled context) sight a.name a.subscript))
     (stored_fits around (numbered_stored (unfiled context) sight a.value))
     (target-fits context sight around a.line a.name a.subscript suits
-    (none-left known writable name)
-    (not-found (is_read_only context a.name) context _ a.line a.name (none-right known writable name))
-    (none-right (known ++ writable) place front))
-    (stored-fits context sight around a.value suits (none-right (known ++ writable ++ place) value none))
+    (append-is_nil_left known writable name)
+    (fault_where-none (is_read_only context a.name) context _ a.line a.name (append-is_nil_right known writable name))
+    (append-is_nil_right (known ++ writable) place front))
+    (stored-fits context sight around a.value suits (append-is_nil_right (known ++ writable ++ place) value none))
 
 -- an assignment that may be missing
 pub step-fits :
@@ -176,13 +174,13 @@ items-fit context sight around (item ∷ items) suits none =
     let name = declared_faults context sight item.line item.name in
     let value = optional_stored_faults context (in_value_of item.name sight) item.value in
     let behind = items_faults context (after_name sight item.name) items in
-    both
+    and_from
     (initial_fits around (option_map (numbered_stored (unfiled context) (in_value_of item.name sight)) item.value))
     (list_all (λ (i : SlotItem). initial_fits around i.value)
     (numbered_items (unfiled context) (after_name sight item.name) items))
     (initial-fits context (in_value_of item.name sight) around item.value
     (suits-in-value context sight around item.name suits)
-    (none-right name value (none-left (item_faults context sight item) behind none)))
+    (append-is_nil_right name value (append-is_nil_left (item_faults context sight item) behind none)))
     (items-fit context (after_name sight item.name) around items
     (suits-after context sight around item.line item.name (name-declared context sight item items none) suits)
-    (none-right (item_faults context sight item) behind none))
+    (append-is_nil_right (item_faults context sight item) behind none))

@@ -1,10 +1,12 @@
 -- What words stand for fits, where they have no faults.
 use Rattle.std.proofs.Common.{◌≡◌, ℕ, ◌+◌, ◌<◌, ◌≤◌, List, [], ◌∷◌, ◌++◌, length, Option, Some, None, Bool, true, false}
 use Rattle.std.proofs.Common.{cond, refl, sym, ap, ◌∙◌, arith}
-use Rattle.std.specs.Prelude.{is_some, nat_lt, nat_le, not, ◌&&◌, ◌||◌}
+use Rattle.std.specs.Prelude.{is_some, nat_lt, nat_le, not, ◌||◌}
 use Rattle.std.specs.Str.{bytes_eq}
 use Rattle.std.proofs.lemmas.Bool.Decides.{nat_tests}
 use Rattle.std.proofs.lemmas.Option.{slice_get_within}
+use Rattle.std.proofs.lemmas.Bool.{lt-ltb, and_parts, not-false}
+use Rattle.flame_rows.proofs.Lists.{append-is_nil_left, append-is_nil_right}
 use Rattle.flame_ops.specs.Ascii.{capitals}
 use Rattle.flame_spec.specs.declared.models.Model.{Model}
 use Rattle.flame_spec.specs.declared.models.Variable.{Variable}
@@ -16,11 +18,12 @@ use Rattle.flame_spec.specs.LookUps.{Given, in_memory, constant, iteration, give
 use Rattle.flame_spec.specs.LookUps.{constant_named, is_iteration}
 use Rattle.flame_spec.specs.Scopes.{Context, Sight, names_seen, memory_in, memory_at, given_at, is_local, is_visible}
 use Rattle.flame_spec.specs.Scopes.{is_name_of}
+use Rattle.flame_spec.proofs.FaultTests.{fault_where-none}
 use Rattle.flame_body.specs.WordSlots.{local_number, slot_given, slot_or_given, slot_at}
 use Rattle.flame_body.specs.FunctionBodies.{widths_in}
 use Rattle.flame_body.specs.FitLaws.{Suits}
 use Rattle.flame_body.specs.BodyFits.{Around, is_value, fit_of_slot, fit_of_bare, fit_of_value}
-use Rattle.flame_body.proofs.Columned.{none-left, none-right, not-found, holds-then, column-there, numbered-at}
+use Rattle.flame_body.proofs.Columned.{column-there, numbered-at}
 use Rattle.flame_body.proofs.NamesSeen.{among-laid, among-number}
 
 pub memory-width : (model : Model) (runs : Option Place) → (widths_in model runs).memory ≡ width (memory_in runs)
@@ -41,22 +44,8 @@ bare-value b length h n = ap (λ t. is_value (fit_of_bare t length)) h ∙ ap (�
 pub value-value : (b : Bool) → b ≡ true → is_value (fit_of_value b) ≡ true
 value-value b h = ap (λ t. is_value (fit_of_value t)) h
 
-pub both-left : (a b : Bool) → (a && b) ≡ true → a ≡ true
-both-left true b h = refl
-both-left false b h = absurd (cc)
-
-pub both-right : (a b : Bool) → (a && b) ≡ true → b ≡ true
-both-right true b h = h
-both-right false b h = absurd (cc)
-
-pub both : (a b : Bool) → a ≡ true → b ≡ true → (a && b) ≡ true
-both a b h g = ap (λ t. t && b) h ∙ g
-
 pub le-true : (a b : ℕ) → a ≤ b → nat_le a b ≡ true
 le-true a b h = grind (arith, nat_tests)
-
-pub lt-true : (a b : ℕ) → a < b → nat_lt a b ≡ true
-lt-true a b h = grind (arith, nat_tests)
 
 -- what a word is that the model gives as a memory variable
 given-memory :
@@ -138,7 +127,7 @@ given-fits context word widths (Some (constant n)) w is some plain =
     given-constant (memory_named (memory_at context) word) context.model.constants word n is in
     let wide : widths.constants ≡ length context.model.constants =
     ap (λ x. x.constants) w ∙ constants-width context.model context.runs in
-    value-value (nat_lt n widths.constants) (lt-true _ _ (omega arith))
+    value-value (nat_lt n widths.constants) (lt-ltb _ _ (omega arith))
 given-fits context word widths (Some iteration) w is some plain = refl
 
 by_local : (b l : Bool) → (b || l) ≡ true → l ≡ false → b ≡ true
@@ -153,11 +142,10 @@ pub name-fits :
     → is_value (fit_of_slot around.widths (slot_at context sight word)) ≡ true
 name-fits context sight around line word suits none =
     by_slot (local_number (names_seen sight) word) refl (given_at context word) refl
-    (both-right (not (is_name_of sight.own word)) (is_some (given_at context word) || is_local sight word)
-    (holds-then (is_visible context sight word) (not-found (not (is_visible context sight word)) context _ line word
-    (none-left (unknown_faults context sight line word) (bare_faults context line word) none))))
-    (not-found (names_array context word) context _ line word
-    (none-right (unknown_faults context sight line word) (bare_faults context line word) none))
+    (and_parts (not (is_name_of sight.own word)) (is_some (given_at context word) || is_local sight word) (not-false (is_visible context sight word) (fault_where-none (not (is_visible context sight word)) context _ line word
+    (append-is_nil_left (unknown_faults context sight line word) (bare_faults context line word) none)))).1
+    (fault_where-none (names_array context word) context _ line word
+    (append-is_nil_right (unknown_faults context sight line word) (bare_faults context line word) none))
   where
     by_slot :
         (number : Option ℕ)

@@ -7,6 +7,9 @@ use Rattle.std.specs.Str.{bytes_eq}
 use Rattle.std.proofs.lemmas.Bool.Decides.{Decides-eqb}
 use Rattle.std.proofs.lemmas.Option.{slice_get-map, slice_get_within}
 use Rattle.std.proofs.lemmas.Slice.Eq.{bytes_eq-Decides}
+use Rattle.std.proofs.lemmas.Bool.{lt-ltb, or_parts, not-false}
+use Rattle.flame_rows.proofs.Lists.{append-is_nil_left, append-is_nil_right}
+use Rattle.flame_rows.proofs.Truths.{is_some-false}
 use Rattle.flame_spec.specs.declared.models.Input.{Input}
 use Rattle.flame_spec.specs.declared.models.MessageType.{MessageType}
 use Rattle.flame_spec.specs.declared.models.Model.{Model}
@@ -22,12 +25,12 @@ use Rattle.flame_spec.specs.StatementFaults.{optional_stored_faults}
 use Rattle.flame_spec.specs.StatementFaults.{is_input, opened, start_faults}
 use Rattle.flame_spec.specs.ExpressionFaults.{fault_where}
 use Rattle.flame_spec.specs.Trees.{Declared}
+use Rattle.flame_spec.proofs.FaultTests.{fault_where-none}
 use Rattle.flame_body.specs.WordSlots.{number_found}
 use Rattle.flame_body.specs.FunctionBodies.{widths_in, input_width}
 use Rattle.flame_body.specs.FitLaws.{Suits}
 use Rattle.flame_body.specs.BodyFits.{Around, at_beginning, in_plain_loop, in_input_loop, is_inside}
-use Rattle.flame_body.proofs.Columned.{none-left, none-right, not-found, holds-then, never, numbered-at, same-number}
-use Rattle.flame_body.proofs.FittedWords.{lt-true}
+use Rattle.flame_body.proofs.Columned.{never, numbered-at, same-number}
 
 -- what a place has round it suits what it sees; it is inside an input only where a loop over its message is open; and
 -- it is in a loop where one is open
@@ -43,16 +46,6 @@ pub record Stands (context : Context) (sight : Sight) (around : Around) : Type 0
 or-right : (a b : Bool) → b ≡ true → (a || b) ≡ true
 or-right true b h = refl
 or-right false b h = h
-
--- neither of two tests holds
-none-of-either : (a b : Bool) → (a || b) ≡ false → b ≡ false
-none-of-either true b h = absurd (cc)
-none-of-either false b h = h
-
--- nothing is there
-pub not-there : {X : Type 0} (o : Option X) → is_some o ≡ false → o ≡ None
-not-there None h = refl
-not-there (Some x) h = absurd (cc)
 
 -- ---- inputs
 
@@ -248,9 +241,8 @@ fresh-name :
     → declared_faults context sight line name ≡ []
     → given_at context name ≡ None
 fresh-name context sight line name none =
-    not-there (given_at context name)
-    (none-of-either (is_among name sight.scope) (is_some (given_at context name))
-    (not-found (is_taken context sight name) context _ line name none))
+    is_some-false (given_at context name)
+    (or_parts (is_among name sight.scope) (is_some (given_at context name)) (fault_where-none (is_taken context sight name) context _ line name none)).1
 
 -- nor to any local, once the name is declared
 suits-fresh :
@@ -306,8 +298,8 @@ stands-after-parameters context sight around (p ∷ ps) s none =
     let front = declared_faults context sight p.line p.name in
     let behind = parameters_faults context (after_name sight p.name) ps in
     stands-after-parameters context (after_name sight p.name) around ps
-    (stands-after context sight around p.line p.name (none-left front behind none) s)
-    (none-right front behind none)
+    (stands-after context sight around p.line p.name (append-is_nil_left front behind none) s)
+    (append-is_nil_right front behind none)
 
 -- the first item of a declaration may have its name
 pub name-declared :
@@ -315,9 +307,9 @@ pub name-declared :
     → items_faults context sight (item ∷ items) ≡ []
     → declared_faults context sight item.line item.name ≡ []
 name-declared context sight item items none =
-    none-left (declared_faults context sight item.line item.name)
+    append-is_nil_left (declared_faults context sight item.line item.name)
     (optional_stored_faults context (in_value_of item.name sight) item.value)
-    (none-left (item_faults context sight item) (items_faults context (after_name sight item.name) items) none)
+    (append-is_nil_left (item_faults context sight item) (items_faults context (after_name sight item.name) items) none)
 
 -- once the items of a declaration are declared
 pub stands-after-items :
@@ -329,7 +321,7 @@ stands-after-items context sight around [] s none = s
 stands-after-items context sight around (item ∷ items) s none =
     stands-after-items context (after_name sight item.name) around items
     (stands-after context sight around item.line item.name (name-declared context sight item items none) s)
-    (none-right (item_faults context sight item) (items_faults context (after_name sight item.name) items) none)
+    (append-is_nil_right (item_faults context sight item) (items_faults context (after_name sight item.name) items) none)
 
 -- ---- message loops
 
@@ -382,10 +374,10 @@ loop-stands context sight around (Some m) line word s none =
     let strange = fault_where (not (is_input context.runs m.1)) context _ line word in
     let nested = fault_where (is_open_over sight m.1) context _ line word in
     let input = input-there context.runs m.1
-    (holds-then (is_input context.runs m.1)
-    (not-found (not (is_input context.runs m.1)) context _ line word (none-left strange nested none))) in
+    (not-false (is_input context.runs m.1)
+    (fault_where-none (not (is_input context.runs m.1)) context _ line word (append-is_nil_left strange nested none))) in
     let closed : is_open_over sight m.1 ≡ false =
-    not-found (is_open_over sight m.1) context _ line word (none-right strange nested none) in
+    fault_where-none (is_open_over sight m.1) context _ line word (append-is_nil_right strange nested none) in
     let count : length around.widths.inputs ≡ length (widths_in context.model context.runs).inputs =
     ap (λ w. length w.inputs) s.suits.widths in
     let below : input.0.0 < length (widths_in context.model context.runs).inputs =
@@ -393,7 +385,7 @@ loop-stands context sight around (Some m) line word s none =
     record {
       number = input.0.0;
       is = ap number_found input.1;
-      within = lt-true _ _ (omega arith);
+      within = lt-ltb _ _ (omega arith);
       outside = not-inside context sight around m.1 input.0.0 input.0.1 s input.1 closed;
       stands = stands-in-input context sight around m.1 input.0.0 input.0.1 input.1 s;
     }

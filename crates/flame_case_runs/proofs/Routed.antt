@@ -1,16 +1,15 @@
 -- What the routes of a model tell of the function of a number, which may have none.
 use Rattle.std.proofs.Common.{◌≡◌, ℕ, zero, suc, List, [], ◌∷◌, map, Option, Some, None, refl, sym, ap, ◌∙◌, subst}
-use Rattle.std.specs.Prelude.{ℤ, option_map, slice_get, slice_index_or}
+use Rattle.std.specs.Prelude.{ℤ, slice_get, slice_index_or}
 use Rattle.std.specs.List.{AllZip}
-use Rattle.flame_spec.specs.declared.models.Input.{Input}
-use Rattle.flame_spec.specs.declared.models.MessageType.{MessageType}
 use Rattle.flame_spec.specs.declared.models.Model.{Model}
 use Rattle.flame_spec.specs.Functions.{Place, functions}
-use Rattle.flame_meaning.specs.Outcomes.{message_named, outputs_at}
+use Rattle.flame_meaning.specs.Outcomes.{outputs_at}
 use Rattle.flame_route.specs.declared.routes.Route.{Route}
 use Rattle.flame_route.specs.declared.routes.Routes.{Routes}
 use Rattle.flame_route.specs.ModelRoutes.{AreRoutesOf, IsRouteOf}
-use Rattle.flame_world.specs.InputBoards.{board_of, boards_named}
+use Rattle.flame_world.specs.InputBoards.{boards_named}
+use Rattle.flame_core.proofs.NamedNumbers.{named-numbers}
 
 -- ---- two lists, place by place
 
@@ -39,29 +38,6 @@ nothing_beside R (x ∷ xs) [] k all at = absurd all
 nothing_beside R (x ∷ xs) (z ∷ ys) zero all at = absurd cc
 nothing_beside R (x ∷ xs) (z ∷ ys) (suc k) all at = nothing_beside R xs ys k all.1 at
 
--- ---- boards by the numbers of their messages
-
-abbrev numbered_input : Model → Input → Option ℕ
-numbered_input model input = option_map (λ found. found.0) (message_named model.messages input.message)
-
-module _ (model : Model) (boards : List (List (List ℤ))) where
-  board-at : (found : Option (ℕ × MessageType)) (number : ℕ) → option_map (λ f. f.0) found ≡ Some number
-      → slice_index_or boards number [] ≡ board_of found boards
-  board-at None number is = absurd cc
-  board-at (Some found) number is = let same : number ≡ found.0 = cc in ap (λ n. slice_index_or boards n []) same
-
-  boards-at : (inputs : List Input) (numbers : List ℕ)
-      → map (numbered_input model) inputs ≡ map Some numbers
-      → map (λ number. slice_index_or boards number []) numbers
-      ≡ map (λ input. board_of (message_named model.messages input.message) boards) inputs
-  boards-at [] [] is = refl
-  boards-at [] (number ∷ numbers) is = absurd cc
-  boards-at (input ∷ inputs) [] is = absurd cc
-  boards-at (input ∷ inputs) (number ∷ numbers) is =
-      let here : numbered_input model input ≡ Some number = cc in
-      let rest : map (numbered_input model) inputs ≡ map Some numbers = cc in
-      λ i. board-at (message_named model.messages input.message) number here i ∷ boards-at inputs numbers rest i
-
 -- ---- the function of a number
 
 module _ (model : Model) (routes : Routes) (function : ℕ) (are : AreRoutesOf model routes) where
@@ -72,7 +48,7 @@ module _ (model : Model) (routes : Routes) (function : ℕ) (are : AreRoutesOf m
       ≡ boards_named (slice_get (functions model) function) model boards
   inputs-there route boards at =
       let place = beside (IsRouteOf model) (functions model) routes.routes function route are.each at in
-      boards-at model boards place.item.function.inputs route.inputs place.related.inputs
+      named-numbers model boards place.item.function.inputs route.inputs place.related.inputs
       ∙ ap (λ (p : Option Place). boards_named p model boards) (sym place.there)
 
   -- its outputs are numbered

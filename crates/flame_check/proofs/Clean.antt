@@ -2,6 +2,7 @@
 use Rattle.std.proofs.Common.{◌≡◌, ℕ, List, [], ◌∷◌, ◌++◌, refl, sym, ap, ◌∙◌, Bool, true, false, cond, Some}
 use Rattle.std.specs.Prelude.{find, slice_get, not, ◌&&◌}
 use Rattle.std.specs.List.{flat_map}
+use Rattle.flame_rows.proofs.Lists.{append-is_nil_left, append-is_nil_right, list_any-at}
 use Rattle.flame_spec.specs.declared.faults.CheckFault.{CheckFault}
 use Rattle.flame_spec.specs.declared.models.Model.{Model}
 use Rattle.flame_spec.specs.declared.trees.Parameter.{Parameter}
@@ -13,8 +14,7 @@ use Rattle.flame_spec.specs.Definitions.{Definition, definitions, has_none, help
 use Rattle.flame_spec.specs.Definitions.{is_transition}
 use Rattle.flame_spec.specs.Functions.{Place, functions}
 use Rattle.flame_spec.specs.HelperFaults.{deep_faults, helper_context, recursive_faults}
-use Rattle.flame_check.proofs.Members.{Passes, any_passes, found_passes, gives_none, kept_passes, none_before}
-use Rattle.flame_check.proofs.Members.{none_behind}
+use Rattle.flame_check.proofs.Members.{Passes, found_passes, gives_none, kept_passes}
 use Rattle.flame_check.proofs.Parts.{laid_out}
 
 -- the faults behind those of C functions that are defined twice
@@ -31,7 +31,7 @@ none_behind_twice :
     → behind_twice model units ≡ []
 unfolding behind_twice
 none_behind_twice model units h =
-    none_behind (twice_faults [] (definitions units)) (behind_twice model units)
+    append-is_nil_right (twice_faults [] (definitions units)) (behind_twice model units)
     (sym
     (laid_out (twice_faults [] (definitions units)) (flat_map (with_parameters_faults model) (definitions units))
     (flat_map (missing_faults (definitions units)) (functions model)) (recursive_faults model (helpers model units))
@@ -45,7 +45,7 @@ pub all_bare :
     → check_faults model units ≡ []
     → flat_map (with_parameters_faults model) (definitions units) ≡ []
 unfolding behind_twice
-all_bare model units h = none_before _ _ (none_behind_twice model units h)
+all_bare model units h = append-is_nil_left _ _ (none_behind_twice model units h)
 
 -- no body has a fault
 pub clean_bodies :
@@ -54,9 +54,9 @@ pub clean_bodies :
     → flat_map (bodies_faults model (helpers model units)) (definitions units) ≡ []
 unfolding behind_twice
 clean_bodies model units h =
-    none_behind (recursive_faults model (helpers model units) ++ deep_faults model (helpers model units)) _
-    (none_behind (flat_map (missing_faults (definitions units)) (functions model)) _
-    (none_behind (flat_map (with_parameters_faults model) (definitions units)) _ (none_behind_twice model units h)))
+    append-is_nil_right (recursive_faults model (helpers model units) ++ deep_faults model (helpers model units)) _
+    (append-is_nil_right (flat_map (missing_faults (definitions units)) (functions model)) _
+    (append-is_nil_right (flat_map (with_parameters_faults model) (definitions units)) _ (none_behind_twice model units h)))
 
 -- ---- helpers
 
@@ -101,7 +101,7 @@ pub bare :
 bare model units number place d h runs =
     let found = found_passes (is_for place.function) (definitions units) d runs.found in
     let any =
-    any_passes (is_run_by d) (functions model) number place runs.there (run_by model units number place d runs) in
+    list_any-at (is_run_by d) (functions model) number place runs.there (run_by model units number place d runs) in
     let none =
     gives_none (with_parameters_faults model) (definitions units) found.place d (all_bare model units h) found.there in
     by_list d.parameters
@@ -124,7 +124,7 @@ clean_run model units number place d h runs =
     let hs = helpers model units in
     let found = found_passes (is_for place.function) (definitions units) d runs.found in
     let named =
-    any_passes (λ (p : Place). is_for p.function d) (functions model) number place runs.there found.passes in
+    list_any-at (λ (p : Place). is_for p.function d) (functions model) number place runs.there found.passes in
     let body =
     gives_none (bodies_faults model hs) (definitions units) found.place d (clean_bodies model units h) found.there in
     let all : flat_map (body_faults model hs d) (functions model) ≡ [] =

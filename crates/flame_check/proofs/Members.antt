@@ -3,6 +3,7 @@ use Rattle.std.proofs.Common.{◌≡◌, ℕ, zero, suc, ◌+◌, ◌<◌, List,
 use Rattle.std.proofs.Common.{true, false, ◌||◌, cond, Some, arith}
 use Rattle.std.specs.Prelude.{find, slice_get, is_some}
 use Rattle.std.specs.List.{filter, flat_map, list_any}
+use Rattle.flame_rows.proofs.Lists.{append-is_nil_left, append-is_nil_right}
 use Rattle.flame_spec.specs.Lists.{numbers_from}
 
 -- it stands in this place of the list, and passes the test
@@ -46,22 +47,6 @@ kept_passes {X} test (y ∷ xs) i x h = by_test (λ j. kept_passes test xs j x) 
     by_test more true t (suc j) e = one_more test y xs x (more j e)
     by_test more false t j e = one_more test y xs x (more j e)
 
--- one passes where this one does
-pub any_passes :
-    {X : Type 0} (test : X → Bool) (xs : List X) (i : ℕ) (x : X)
-    → slice_get xs i ≡ Some x
-    → test x ≡ true
-    → list_any test xs ≡ true
-any_passes test [] i x h t = absurd (cc)
-any_passes test (y ∷ xs) zero x h t =
-    let same : y ≡ x = cc in
-    ap (λ b. b || list_any test xs) (ap test same ∙ t)
-any_passes test (y ∷ xs) (suc i) x h t = falls (test y) (list_any test xs) (any_passes test xs i x h t)
-  where
-    falls : (a b : Bool) → b ≡ true → a || b ≡ true
-    falls true b e = refl
-    falls false b e = e
-
 -- something is found where one passes
 pub is_some-find : {X : Type 0} (test : X → Bool) (xs : List X) → is_some (find test xs) ≡ list_any test xs
 is_some-find test [] = refl
@@ -74,15 +59,6 @@ is_some-find {X} test (x ∷ xs) = by_test (test x) (is_some-find test xs)
     by_test true e = refl
     by_test false e = e
 
--- both parts of nothing are nothing
-pub none_before : {Y : Type 0} (ys zs : List Y) → ys ++ zs ≡ [] → ys ≡ []
-none_before [] zs e = refl
-none_before (y ∷ ys) zs e = absurd (cc)
-
-pub none_behind : {Y : Type 0} (ys zs : List Y) → ys ++ zs ≡ [] → zs ≡ []
-none_behind [] zs e = e
-none_behind (y ∷ ys) zs e = absurd (cc)
-
 -- what an item gives, where all of them together give nothing
 pub gives_none :
     {X Y : Type 0} (gives : X → List Y) (xs : List X) (i : ℕ) (x : X)
@@ -92,9 +68,9 @@ pub gives_none :
 gives_none gives [] i x none h = absurd (cc)
 gives_none gives (y ∷ xs) zero x none h =
     let same : y ≡ x = cc in
-    ap gives (sym same) ∙ none_before (gives y) (flat_map gives xs) none
+    ap gives (sym same) ∙ append-is_nil_left (gives y) (flat_map gives xs) none
 gives_none gives (y ∷ xs) (suc i) x none h =
-    gives_none gives xs i x (none_behind (gives y) (flat_map gives xs) none) h
+    gives_none gives xs i x (append-is_nil_right (gives y) (flat_map gives xs) none) h
 
 -- ---- numbers
 

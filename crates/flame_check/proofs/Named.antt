@@ -3,10 +3,10 @@ use Rattle.std.proofs.Common.{◌≡◌, ℕ, ◌+◌, ◌<◌, List, ◌∷◌,
 use Rattle.std.proofs.Common.{cond, Option, Some, unwrap_or}
 use Rattle.std.specs.Str.{bytes_eq}
 use Rattle.std.proofs.lemmas.List.{at_drop_more}
+use Rattle.flame_rows.proofs.Bytes.{bytes_eq-sym}
 use Rattle.flame_spec.specs.declared.models.MessageType.{MessageType}
 use Rattle.flame_spec.specs.Columns.{width}
 use Rattle.flame_spec.specs.KnownNames.{variables_in}
-use Rattle.flame_lookup.proofs.Firsts.{bytes_eq_comm}
 
 choice :
     (b : Bool) (here : ℕ) (rest : Option ℕ) (message : MessageType) (messages : List MessageType) (name : List ℕ)
@@ -27,7 +27,7 @@ pub width_in_front :
     → unwrap_or (cond (bytes_eq key name) (Some here) rest) 0 ≡ width (variables_in (drop i messages) name)
 width_in_front messages i message key name here rest h is named wide more =
     ap (λ b. unwrap_or (cond b (Some here) rest) 0)
-    (ap (λ word. bytes_eq word name) named ∙ bytes_eq_comm message.name name)
+    (ap (λ word. bytes_eq word name) named ∙ bytes_eq-sym message.name name)
     ∙ choice (bytes_eq name message.name) here rest message (drop (i + 1) messages) name wide more
     ∙ sym
     (at_drop_more (λ l. width (variables_in l name)) messages i message h

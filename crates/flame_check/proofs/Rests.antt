@@ -15,6 +15,7 @@ use Rattle.flame_spec.specs.FirstFaults.{FailsBy, FailsFirst}
 use Rattle.flame_spec.specs.KnownNames.{is_among}
 use Rattle.flame_spec.specs.Lists.{first}
 use Rattle.flame_lookup.specs.Sources.{names_before}
+use Rattle.flame_numbering.proofs.Firsts.{first_more}
 
 -- equal faults have the same first
 pub fails_same : (fail : Fail CheckFault) (xs ys : List CheckFault) → xs ≡ ys → FailsFirst ys fail → FailsFirst xs fail
@@ -27,18 +28,6 @@ pub fails_by :
     → FailsFirst (fault ∷ more) fail
 fails_by fault more (Fault other) h = ap Some (sym h)
 fails_by fault more NoMemory h = tt
-
-first_stays : (xs ys : List CheckFault) (fault : CheckFault) → first xs ≡ Some fault → first (xs ++ ys) ≡ Some fault
-first_stays [] ys fault h = absurd (cc)
-first_stays (x ∷ xs) ys fault h = h
-
--- the first of a list is the first of it with more behind it
-pub first_before :
-    (xs ys : List CheckFault) (fail : Fail CheckFault)
-    → FailsFirst xs fail
-    → FailsFirst (xs ++ ys) fail
-first_before xs ys (Fault fault) h = first_stays xs ys fault h
-first_before xs ys NoMemory h = tt
 
 -- ---- item by item
 
@@ -63,7 +52,7 @@ pub rest_fails :
 rest_fails see faults xs i x whole fail h is rest first =
     fails_same fail whole (faults (see x) ++ flat_map faults (map see (drop (i + 1) xs)))
     (rest ∙ rest_is see faults xs i x h is)
-    (first_before (faults (see x)) (flat_map faults (map see (drop (i + 1) xs))) fail first)
+    (first_more (faults (see x)) (flat_map faults (map see (drop (i + 1) xs))) fail first)
 
 -- ---- the same of items as they are
 
@@ -90,7 +79,7 @@ pub item_fails :
 item_fails faults xs i d whole fail h rest first =
     fails_same fail whole (faults (get_or xs i d) ++ flat_map faults (drop (i + 1) xs))
     (rest ∙ at_drop_more (flat_map faults) xs i d h)
-    (first_before (faults (get_or xs i d)) (flat_map faults (drop (i + 1) xs)) fail first)
+    (first_more (faults (get_or xs i d)) (flat_map faults (drop (i + 1) xs)) fail first)
 
 -- ---- names of earlier C functions
 

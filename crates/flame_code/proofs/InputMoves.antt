@@ -4,6 +4,7 @@ use Rattle.std.specs.Prelude.{ℤ, slice_get, slice_set, slice_index, option_and
 use Rattle.std.specs.Option.{option_map_or}
 use Rattle.std.proofs.lemmas.Bool.{ltb-true, eqb-true, eq-eqb, cases_Bool}
 use Rattle.std.proofs.lemmas.Option.{slice_get-map, get_or_from_slice_get}
+use Rattle.flame_rows.proofs.Lists.{slice_get-slice_set}
 use Rattle.flame_code.specs.Feeds.{Fed, with_come, has_more, with_more, with_input, last_of, last_come, at_start, has_next, at_next, field}
 use Rattle.flame_code.specs.InputRows.{rows_of, HaveWidths}
 use Rattle.flame_code.specs.Routines.{Delivered, delivery}
@@ -15,11 +16,6 @@ get_other (y ∷ ys) zero zero x ne = absurd (ne refl)
 get_other (y ∷ ys) zero (suc k) x ne = refl
 get_other (y ∷ ys) (suc i) zero x ne = refl
 get_other (y ∷ ys) (suc i) (suc k) x ne = get_other ys i k x (λ e. ne (ap suc e))
-
-get_same : (xs : List Fed) (i : ℕ) (x y : Fed) → slice_get xs i ≡ Some y → slice_get (slice_set xs i x) i ≡ Some x
-get_same [] i x y e = cc
-get_same (z ∷ zs) zero x y e = refl
-get_same (z ∷ zs) (suc i) x y e = get_same zs i x y e
 
 set_rows : (xs : List Fed) (i : ℕ) (x y : Fed) → slice_get xs i ≡ Some y → x.rows ≡ y.rows → rows_of (slice_set xs i x) ≡ rows_of xs
 set_rows [] i x y e same = refl
@@ -56,9 +52,6 @@ rows-at_next i feeds = rows-kept with_more feeds i (λ fed. more_rows_by (has_mo
 
 -- ---- what was delivered
 
-same_or_not : (b : Bool) (x y : Bool) → b ≡ false → cond b x y ≡ y
-same_or_not b x y e = ap (λ t. cond t x y) e
-
 -- an input that moves without a delivery
 pub stays_current : (change : Fed → Fed) (i : ℕ) (d : Delivered) (feeds : List Fed) → AreCurrent d feeds → AreCurrent (delivery i false d) (with_input change i feeds)
 stays_current change i d feeds all k e =
@@ -81,7 +74,7 @@ some_row [] p h = absurd (omega arith)
 some_row (r ∷ rs) zero h = (r, refl)
 some_row (r ∷ rs) (suc p) h = some_row rs p (omega arith)
 
-last_of-next : (rows : List (List ℤ)) (p : ℕ) → last_of (p + 1) rows ≡ slice_get rows p
+pub last_of-next : (rows : List (List ℤ)) (p : ℕ) → last_of (p + 1) rows ≡ slice_get rows p
 last_of-next rows p = let e : p + 1 ≡ suc p = omega arith in ap (λ n. last_of n rows) e
 
 came_by : (i : ℕ) (feeds : List Fed) (o : Option Fed) → slice_get feeds i ≡ o → option_map_or has_more o false ≡ true
@@ -90,7 +83,7 @@ came_by i feeds None e h = absurd (let bad : false ≡ true = h in cc)
 came_by i feeds (Some fed) e h =
     let row = some_row fed.rows fed.come (ltb-true _ _ h) in
     let moved : with_more fed ≡ with_come (fed.come + 1) fed = ap (λ b. cond b (with_come (fed.come + 1) fed) fed) h in
-    (row.0, ap (option_and_then last_come) (get_same feeds i (with_more fed) fed e) ∙ ap last_come moved ∙ last_of-next fed.rows fed.come ∙ row.1)
+    (row.0, ap (option_and_then last_come) (slice_get-slice_set feeds i (with_more fed) fed e) ∙ ap last_come moved ∙ last_of-next fed.rows fed.come ∙ row.1)
 
 -- an input of which a row came
 pub comes_current : (i : ℕ) (d : Delivered) (feeds : List Fed) → AreCurrent d feeds → has_next i feeds ≡ true → AreCurrent (delivery i true d) (at_next i feeds)

@@ -3,9 +3,8 @@ use Rattle.std.proofs.Common.{◌≡◌, ◌≢◌, ℕ, zero, suc, ◌+◌, ◌
 use Rattle.std.specs.Prelude.{slice_get, nat_le}
 use Rattle.std.specs.List.{list_all}
 use Rattle.std.specs.Option.{option_map_or}
-use Rattle.std.proofs.lemmas.Bool.{and_parts, false_from_ne_true, eqb-true, ltb-true, leb-true}
+use Rattle.std.proofs.lemmas.Bool.{and_parts, false_from_ne_true, eqb-true, ltb-true, leb-true, not-true}
 use Rattle.std.proofs.lemmas.Option.{slice_get_within}
-use Rattle.std.proofs.Math.ListN.{drop_of_length-le}
 use Rattle.flame_spec.specs.declared.outcomes.Widths.{Widths}
 use Rattle.flame_code.specs.declared.instrs.Instr.{Instr}
 use Rattle.flame_code.specs.declared.instrs.Instr.TheVariants.{Mem, SetMem, MemAt, SetMemAt}
@@ -20,10 +19,6 @@ use Rattle.flame_code.specs.Labels.{has_input, has_passed, has_jumped, fits_at, 
 either : (a b : Bool) → (a || b) ≡ true → (a ≡ true) ⊎ (b ≡ true)
 either true b e = inl refl
 either false b e = inr e
-
-not_false : (b : Bool) → not b ≡ true → b ≡ false
-not_false true e = cc
-not_false false e = refl
 
 six : (a b c d e f : Bool) → (a && (b && (c && (d && (e && f))))) ≡ true → (a ≡ true) × (b ≡ true) × (c ≡ true) × (d ≡ true) × (e ≡ true) × (f ≡ true)
 six true true true true true f h = (refl, refl, refl, refl, refl, h)
@@ -42,14 +37,10 @@ member test (x ∷ xs) k all e =
     (λ t. member test xs k (and_parts _ _ all).1 t)
     (either (x == k) (has_input xs k) e)
 
--- what the label knows was delivered
-Knows : List ℕ → Delivered → Type 0
-Knows rows d = (k : ℕ) → has_input rows k ≡ true → d k ≡ true
-
 gone : (k i : ℕ) (rows : List ℕ) (d : Delivered) → ((k : ℕ) → has_input rows k ≡ true → d k ≡ true) → (not (k == i) && has_input rows k) ≡ true → cond (k == i) false (d k) ≡ true
 gone k i rows d knows e =
     let p = and_parts _ _ e in
-    ap (λ b. cond b false (d k)) (not_false (k == i) p.0) ∙ knows k p.1
+    ap (λ b. cond b false (d k)) (not-true (k == i) p.0) ∙ knows k p.1
 
 come : (k i : ℕ) (rows : List ℕ) (d : Delivered) → ((k : ℕ) → has_input rows k ≡ true → d k ≡ true) → ((k == i) || has_input rows k) ≡ true → cond (k == i) true (d k) ≡ true
 come k i rows d knows e = by_case (k == i) (either (k == i) (has_input rows k) e) (knows k)
@@ -185,7 +176,7 @@ module _ (r : Routine) (labels : List Label) (fit : labels_fit r labels ≡ true
 
     next_label : goes_on i ≡ true → Behind r.widths i here.label (has_passed i here.label.rows) (slice_get labels (p + 1))
     next_label g =
-        ⊎_elim (λ n. absurd (let bad : false ≡ true = sym (not_false (goes_on i) n) ∙ g in cc))
+        ⊎_elim (λ n. absurd (let bad : false ≡ true = sym (not-true (goes_on i) n) ∙ g in cc))
         (λ e. behind r.widths i here.label (has_passed i here.label.rows) (slice_get labels (p + 1)) e)
         (either (not (goes_on i)) _ part_goes)
 
@@ -292,9 +283,6 @@ pub fit_more : (r : Routine) (labels : List Label) (p : ℕ) (i : Instr) (l : La
 fit_more r labels p i l a b =
     let e : suc p ≡ p + 1 = omega arith in
     fit_more_by r labels p p r.instrs labels i l a b ∙ ap (λ n. place_fits r labels p i l && all_fit r labels (p + 1) (drop n r.instrs) (drop n labels)) e
-
-pub fit_end : (r : Routine) (labels : List Label) (p : ℕ) → length r.instrs ≤ p → length labels ≡ length r.instrs → all_fit r labels p (drop p r.instrs) (drop p labels) ≡ true
-fit_end r labels p le e = ap (λ is. all_fit r labels p is (drop p labels)) (drop_of_length-le r.instrs le) ∙ ap (all_fit r labels p []) (drop_of_length-le labels (omega arith))
 
 pub lengths_differ : (r : Routine) (labels : List Label) → length labels ≢ length r.instrs → all_fit r labels 0 r.instrs labels ≡ false
 lengths_differ r labels ne = false_from_ne_true _ (λ all. ne (same_length r labels 0 r.instrs labels all))

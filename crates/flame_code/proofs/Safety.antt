@@ -415,9 +415,6 @@ module _ (r : Routine) (valid : IsValid r) where
   pub not_stuck : (g : Given) (c : Config) → Stands r c → step g r c ≢ stuck
   not_stuck g c stands e = subst (TurnsTo r c) e (turns_to g c stands)
 
-  pub place_within : (c : Config) → Stands r c → c.place < length r.instrs
-  place_within c stands = path_within c.place (length c.stack) stands.delivered stands.path
-
   module _ (g : Given) (c d : Config) (stands : Stands r c) (e : step g r c ≡ on d) where
     goes_to : Goes r c d
     goes_to = subst (TurnsTo r c) e (turns_to g c stands)

@@ -77,16 +77,6 @@ other_same a k n e d =
     ] in
     go (k == n) refl
 
--- numbers that are not the same are told apart
-pub neq-eqb : (k n : ℕ) → (k ≡ n → ⊥) → (k == n) ≡ false
-neq-eqb k n other =
-    let go : (b : Bool) → (k == n) ≡ b → b ≡ false =
-    λ b. elim b as (λ b. (k == n) ≡ b → b ≡ false) [
-      | true ↦ λ is. absurd (other (eqb-true k n is))
-      | false ↦ λ is. refl
-    ] in
-    go (k == n) refl
-
 -- a number below the next one that is not the same is below
 pub other_less : (k n : ℕ) → k < suc n → (n ≡ k → ⊥) → k < n
 other_less k n less other = omega (arith, less, other)

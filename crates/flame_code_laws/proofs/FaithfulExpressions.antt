@@ -1,14 +1,13 @@
 -- The code of an expression that fits gives the expression's value, and that of arguments their numbers.
-use Rattle.std.proofs.Common.{◌≡◌, ℕ, zero, suc, ◌+◌, ◌<◌, ◌≤◌, Bool, true, false, not, ◌&&◌, cond, List, [], ◌∷◌, ◌++◌, length, map, Option, Some, None, refl, sym, ap, ◌∙◌, subst, arith, length-append, leb-true}
-use Rattle.std.specs.Prelude.{ℤ, pos, negsuc, Result, Ok, Err, slice_get, nat_lt, option_and_then, int_lt, int_le}
+use Rattle.std.proofs.Common.{◌≡◌, ℕ, zero, suc, ◌+◌, ◌<◌, ◌≤◌, Bool, true, not, ◌&&◌, cond, List, [], ◌∷◌, ◌++◌, length, map, Option, Some, None, refl, sym, ap, ◌∙◌, subst, arith, length-append, leb-true}
+use Rattle.std.specs.Prelude.{ℤ, pos, Result, Ok, slice_get, nat_lt, option_and_then, int_lt, int_le}
 use Rattle.std.specs.Ordering.{int_eq}
 use Rattle.std.specs.List.{list_all}
 use Rattle.std.proofs.lemmas.Bool.{and_parts}
 use Rattle.std.proofs.lemmas.Option.{same_Some, slice_get-get_or}
-use Rattle.flame_ops.specs.declared.integers.Cause.TheVariants.{Overflow}
 use Rattle.flame_ops.specs.declared.integers.Op.{Op}
 use Rattle.flame_ops.specs.declared.integers.Op.TheVariants as op
-use Rattle.flame_ops.specs.Integers.{applied, negated, truth, is_int}
+use Rattle.flame_ops.specs.Integers.{applied, negated, truth}
 use Rattle.flame_spec.specs.declared.faults.Fault.{Fault}
 use Rattle.flame_spec.specs.declared.trees.Sign.{Sign}
 use Rattle.flame_spec.specs.declared.trees.SignKind.{SignKind}
@@ -24,19 +23,19 @@ use Rattle.flame_body.specs.declared.slots.SlotExpr.TheVariants.{rolls-Number, r
 use Rattle.flame_body.specs.declared.slots.SlotExpr.TheOpen.{SlotExpr-F}
 use Rattle.flame_body.specs.declared.slots.SlotLink.{SlotLink}
 use Rattle.flame_body.specs.declared.slots.SlotSubscript.{SlotSubscript}
-use Rattle.flame_body.specs.BodyFits.{Around, Fit, is_value, fit, fits, fit_of_value, fit_of_bare, fit_of_slot, are_within, are_field_cells, is_field, is_within, is_inside, width_of_input, values_fit, numbers_in, together, numbers_of as count_of}
+use Rattle.flame_body.specs.BodyFits.{Around, Fit, is_value, fit, fits, fit_of_value, fit_of_bare, fit_of_slot, are_within, are_field_cells, is_field, is_within, is_inside, width_of_input, values_fit, numbers_in, numbers_of as count_of}
 use Rattle.flame_body.proofs.FitForms.{fit-Number, fit-Name, fit-Field, fit-Get, fit-At, fit-FieldAt, fit-Unary, fit-Chain, fit-All, fit-Any}
 use Rattle.flame_code.specs.declared.instrs.Instr.{Instr}
 use Rattle.flame_code.specs.declared.instrs.Instr.TheVariants.{Push, Loc, Const, Iter, Mem, Neg, Not, Add, Sub, Mul, Div, Rem, Lt, Gt, Le, Ge, Eq, Ne, MemAt, Jump, JumpZero, JumpNotZero}
 use Rattle.flame_code.specs.declared.instrs.Instr.TheVariants as instr
 use Rattle.flame_code.specs.Feeds.{field}
-use Rattle.flame_code.specs.Machine.{Config, Turn, on, act, next, element_of, with_element, push_found}
+use Rattle.flame_code.specs.Machine.{Config, Turn, on, act, next, with_element, push_found}
 use Rattle.flame_compile.specs.Pieces.{Piece, row, one, both, in_order}
 use Rattle.flame_compile.specs.Emit.{operator, sign_code, signs_code, column_of, each_column, columns, load, tested_size, tested, expression, link, arguments}
 use Rattle.flame_compile.proofs.Forms.{expression-Number, expression-Name, expression-Field, expression-Get, expression-At, expression-FieldAt, expression-Unary, expression-Chain, expression-All, expression-Any, all_piece, any_piece}
 use Rattle.flame_compile.proofs.Sized.{expression_sized, arguments_sized}
-use Rattle.flame_meaning.specs.Scenes.{Progress, numbers_from, numbers_by}
-use Rattle.flame_meaning.specs.Expressions.{on_value, at_line, holds, signed_by, signs_value, bad_index, element_value, one_of, values_and}
+use Rattle.flame_meaning.specs.Scenes.{Progress, numbers_from}
+use Rattle.flame_meaning.specs.Expressions.{on_value, at_line, holds, signed_by, signs_value, bad_index, element_value}
 use Rattle.flame_number_laws.specs.NumberedScenes.{NumberedScene, local_at, slot_value, span_numbers, cell_column}
 use Rattle.flame_number_laws.specs.NumberedMeaning.{ExpressionMeaning, Valued, one_value, chain_value, chained, all_value, any_value, element_of as element_read, meaning_of, value_of, link_of, argument_numbers}
 use Rattle.flame_number_laws.proofs.NumberedForms.{name_meaning, field_meaning, element, meaning-Number, meaning-Name, meaning-Field, meaning-Get, meaning-At, meaning-FieldAt, meaning-Unary, meaning-Chain}
@@ -47,175 +46,8 @@ use Rattle.flame_code_laws.specs.Likeness.{Alike}
 use Rattle.flame_code_laws.specs.NamedLocals.{slot_below, names_below, all_below, links_below}
 use Rattle.flame_code_laws.proofs.BelowForms.{below-Number, below-Name, below-Field, below-Get, below-At, below-FieldAt, below-Unary, below-Chain, below-All, below-Any}
 use Rattle.flame_code_laws.proofs.Going.{has_left, has_right, has_first, has_rest, valued, numbered, valued_then, one_given, numbers_then, value_moved, numbers_moved, performed, failed, held, branched}
-
--- ---- tests and numbers
-
--- the result is these numbers
-abbrev Are : Result (List ℤ) Fault → List ℤ → Type 0
-Are x vs = x ≡ Ok vs
-
--- equal results have equal numbers
-same_Ok : (vs ws : List ℤ) → Are (Ok vs) ws → vs ≡ ws
-same_Ok vs ws e = cc
-
--- the value of a comparison is a number of int, so its line tells nothing
-compared :
-    (b : Bool) (line : ℕ)
-    → at_line 0 (cond (is_int (truth b)) (Ok (truth b)) (Err Overflow))
-    ≡ at_line line (cond (is_int (truth b)) (Ok (truth b)) (Err Overflow))
-compared true line = refl
-compared false line = refl
-
--- a test holds twice refused where it holds
-twice_not : (b : Bool) → b ≡ not (not b)
-twice_not true = refl
-twice_not false = refl
-
--- a value fits where a test holds
-tested_value : (b : Bool) → is_value (fit_of_value b) ≡ true → b ≡ true
-tested_value false e = e
-tested_value true e = refl
-
--- so do the numbers of a value
-tested_numbers : (b : Bool) (n : ℕ) → numbers_in (fit_of_value b) ≡ Some n → b ≡ true
-tested_numbers false n e = absurd (let bad : None ≡ Some n = e in cc)
-tested_numbers true n e = refl
-
--- so do the numbers of a variable without an index
-tested_bare : (b : Bool) (size : Option ℕ) (n : ℕ) → numbers_in (fit_of_bare b size) ≡ Some n → b ≡ true
-tested_bare false size n e = absurd (let bad : None ≡ Some n = e in cc)
-tested_bare true size n e = refl
-
--- a value has one number
-one_long :
-    (b : Bool) (x : Result ℤ Fault) (n : ℕ) (vs : List ℤ)
-    → numbers_in (fit_of_value b) ≡ Some n → one_of x ≡ Ok vs → length vs ≡ n
-one_long false x n vs e is = absurd (let bad : None ≡ Some n = e in cc)
-one_long true (Ok v) n vs e is = sym (ap length (same_Ok (v ∷ []) vs is)) ∙ same_Some 1 n e
-one_long true (Err fault) n vs e is = absurd (let bad : Are (Err fault) vs = is in cc)
-
--- so many numbers from a column on are so many
-from_long : (count column : ℕ) (numbers : List ℤ) → length (numbers_from count column numbers) ≡ count
-from_long zero column numbers = refl
-from_long (suc count) column numbers = ap suc (from_long count (column + 1) numbers)
-
--- a variable has as many numbers as it is wide
-bare_long :
-    (b : Bool) (size : Option ℕ) (column : ℕ) (numbers : List ℤ) (n : ℕ) (vs : List ℤ)
-    → numbers_in (fit_of_bare b size) ≡ Some n
-    → Are (Ok (numbers_by size column numbers (number_at numbers column))) vs
-    → length vs ≡ n
-bare_long false size column numbers n vs e is = absurd (let bad : None ≡ Some n = e in cc)
-bare_long true None column numbers n vs e is =
-    sym (ap length (same_Ok (number_at numbers column ∷ []) vs is)) ∙ same_Some 1 n e
-bare_long true (Some size) column numbers n vs e is =
-    sym (ap length (same_Ok (numbers_from size column numbers) vs is)) ∙ from_long size column numbers
-    ∙ same_Some size n e
-
--- a variable without an index that is one value is no array
-single_bare :
-    (b : Bool) (size : Option ℕ) → is_value (fit_of_bare b size) ≡ true → (b ≡ true) × (size ≡ None)
-single_bare false size e = absurd (let bad : false ≡ true = e in cc)
-single_bare true None e = (refl, refl)
-single_bare true (Some n) e = absurd (let bad : false ≡ true = e in cc)
-
--- the column of an element is within its array
-cell_within :
-    (cells : Cells) (i : ℤ) (m : ℕ) → cell_column cells i ≡ Some m → m < cells.column + cells.length
-cell_within cells (negsuc n) m e = absurd (let bad : None ≡ Some m = e in cc)
-cell_within cells (pos n) m e =
-    let go :
-    (b : Bool) → nat_lt n cells.length ≡ b
-    → cond b (Some (cells.column + n)) None ≡ Some m → m < cells.column + cells.length =
-    λ b. elim b as (λ b. nat_lt n cells.length ≡ b
-    → cond b (Some (cells.column + n)) None ≡ Some m → m < cells.column + cells.length) [
-      | true ↦ λ lt is. let same : cells.column + n ≡ m = same_Some (cells.column + n) m is in
-          let less : n < cells.length = leb-true (suc n) cells.length lt in omega (arith, same, less)
-      | false ↦ λ lt is. absurd (let bad : None ≡ Some m = is in cc)
-    ] in
-    go (nat_lt n cells.length) refl e
-
--- the numbers of a variable are as many from its column on as it is wide
-spanned :
-    (size : Option ℕ) (column : ℕ) (numbers : List ℤ)
-    → numbers_from (width_by size) column numbers
-    ≡ numbers_by size column numbers (number_at numbers column)
-spanned None column numbers = refl
-spanned (Some n) column numbers = refl
-
--- the machine finds the same column
-pub same_column : (cells : Cells) (i : ℤ) → element_of cells.column cells.length i ≡ cell_column cells i
-same_column cells (pos n) = refl
-same_column cells (negsuc n) = refl
-
--- parts with jumps are as long as their size says
-tested_long :
-    (jump : Instr) (es : List SlotExpr) (p : ℕ)
-    → length ((tested jump (map expression es)).code p) ≡ tested_size (map expression es)
-tested_long jump [] p = refl
-tested_long jump (e ∷ es) p =
-    let part = (expression e).code p in
-    let front = part ++ jump ∷ [] in
-    omega (
-      arith,
-      length-append front ((tested jump (map expression es)).code (p + length front)),
-      length-append part (jump ∷ []),
-      expression_sized e p,
-      tested_long jump es (p + length front),
-    )
-
--- the place behind parts with jumps and three further instructions
-choice_end :
-    (jump : ℕ → Instr) (u v : ℤ) (es : List SlotExpr) (p : ℕ)
-    → p + tested_size (map expression es) + 3
-    ≡ p + length ((in_order (tested (jump (p + tested_size (map expression es) + 2)) (map expression es)
-    ∷ one (Push u) ∷ one (Jump (p + tested_size (map expression es) + 3)) ∷ one (Push v) ∷ [])).code p)
-choice_end jump u v es p =
-    let size = tested_size (map expression es) in
-    let f = p + size + 2 in
-    let tests = (tested (jump f) (map expression es)).code p in
-    omega (
-      arith,
-      length-append tests (Push u ∷ Jump (p + size + 3) ∷ Push v ∷ []),
-      tested_long (jump f) es p,
-    )
-
--- both are numbers, and this is their sum
-record Together (x y : Option ℕ) (n : ℕ) : Type 0 where
-  left : ℕ
-  right : ℕ
-  left_is : x ≡ Some left
-  right_is : y ≡ Some right
-  sum : left + right ≡ n
-
--- where there is a sum
-together_of : (x y : Option ℕ) (n : ℕ) → together x y ≡ Some n → Together x y n
-together_of (Some a) (Some b) n e = record {
-  left = a;
-  right = b;
-  left_is = refl;
-  right_is = refl;
-  sum = same_Some (a +
-      b) n e;
-}
-together_of (Some a) None n e = absurd (let bad : None ≡ Some n = e in cc)
-together_of None y n e = absurd (let bad : None ≡ Some n = e in cc)
-
--- numbers and numbers behind them are as many as both
-both_long :
-    (x y : Result (List ℤ) Fault) (vs : List ℤ) (a b n : ℕ)
-    → values_and x y ≡ Ok vs
-    → a + b ≡ n
-    → ((us : List ℤ) → x ≡ Ok us → length us ≡ a)
-    → ((us : List ℤ) → y ≡ Ok us → length us ≡ b)
-    → length vs ≡ n
-both_long (Err fault) y vs a b n is sum left right = absurd (let bad : Are (Err fault) vs = is in cc)
-both_long (Ok us) (Err fault) vs a b n is sum left right = absurd (let bad : Are (Err fault) vs = is in cc)
-both_long (Ok us) (Ok ws) vs a b n is sum left right =
-    let one = left us refl in
-    let two = right ws refl in
-    let long = length-append us ws in
-    sym (ap length (same_Ok (us ++ ws) vs is)) ∙ omega (arith, one, two, long, sum)
+use Rattle.flame_compile.proofs.LabelledExpressions.{tested_long, together_of}
+use Rattle.flame_code_laws.proofs.FormNumbers.{same_Ok, compared, twice_not, tested_value, tested_numbers, tested_bare, one_long, bare_long, single_bare, cell_within, spanned, same_column, choice_end, both_long}
 
 module _ (run : Running) (around : Around) (before : NumberedScene) (s : Progress) (c : Config) (a : Alike run around before s
     c) where

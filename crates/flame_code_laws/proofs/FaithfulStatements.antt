@@ -48,20 +48,7 @@ use Rattle.flame_code_laws.proofs.Comings.{alike_of, comes_led, value_comes}
 use Rattle.flame_code_laws.proofs.FaithfulStores.{comes_at, comes_with, comes_from, arrived, items_come, assignment_comes, deed_comes}
 use Rattle.flame_code_laws.proofs.RowTurns.{changed_feed, come_to, rowed, feeds_follow, rows_come}
 use Rattle.flame_code_laws.proofs.Turning.{Whole, scoped, inside, scoped_sound, inside_sound, reframed, left_comes, comes_then, comes_on, BodyComes, turn_comes, turns_come}
-
--- arms are as long as their size says
-arms_long :
-    (arms : List SlotArm) (leave again e p : ℕ)
-    → length ((arms_code (map arm arms) leave again e).code p) ≡ arms_size (map arm arms)
-arms_long [] leave again e p = refl
-arms_long (a ∷ arms) leave again e p =
-    let front = (arm_piece (arm a) leave again e).code p in
-    omega (
-      arith,
-      length-append front ((arms_code (map arm arms) leave again e).code (p + length front)),
-      arm_sized (arm a) (expression_sized a.test) (statements_sized a.body) leave again (p + arm_size (arm a)) e p,
-      arms_long arms leave again e (p + length front),
-    )
+use Rattle.flame_compile.proofs.LabelledStatements.{arms_long}
 
 -- an input whose rows are listed is there, and begins with none that has come
 start_by :

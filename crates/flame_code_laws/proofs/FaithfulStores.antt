@@ -2,12 +2,13 @@
 use Rattle.std.proofs.Common.{◌≡◌, ℕ, zero, suc, ◌+◌, ◌<◌, ◌≤◌, ◌==◌, Bool, true, false, ◌&&◌, cond, List, [], ◌∷◌, ◌++◌, length, map, Option, Some, None, refl, sym, ap, ◌∙◌, subst, arith, length-append, eq-eqb, lt-ltb}
 use Rattle.std.specs.Prelude.{ℤ, pos, slice_get, slice_set, slice_index_or, nat_lt}
 use Rattle.std.specs.List.{list_all}
-use Rattle.std.proofs.lemmas.Bool.{and_parts, eqb-true, eqb-false, ltb-true}
+use Rattle.std.proofs.lemmas.Bool.{and_parts, eqb-true, eqb-false, ltb-true, ne_eqb}
 use Rattle.flame_ops.specs.declared.integers.Op.{Op}
 use Rattle.flame_ops.specs.Integers.{applied}
 use Rattle.flame_spec.specs.CallFaults.{is_length}
 use Rattle.flame_spec.specs.Conditions.{number_at}
 use Rattle.flame_spec.specs.declared.outcomes.Widths.{Widths}
+use Rattle.flame_spec.proofs.FaultTests.{is_length-true}
 use Rattle.flame_body.specs.declared.slots.Cells.{Cells}
 use Rattle.flame_body.specs.declared.slots.SlotDeed.{SlotDeed}
 use Rattle.flame_body.specs.declared.slots.SlotDeed.TheVariants.{Sets, Sends, Bears, Calls}
@@ -18,7 +19,7 @@ use Rattle.flame_body.specs.declared.slots.SlotItem.{SlotItem}
 use Rattle.flame_body.specs.declared.slots.SlotTarget.{SlotTarget}
 use Rattle.flame_body.specs.declared.slots.SlotTarget.TheVariants as target
 use Rattle.flame_body.specs.declared.slots.SlotAssign.{SlotAssign}
-use Rattle.flame_body.specs.BodyFits.{Around, fit, fits, values_fit, numbers_of as count_of, numbers_in, is_value, together, stored_fits, initial_fits, target_fits, are_within, assignment_fits, deed_fits, one_value as one_fit, unfit, whole_array, Fit}
+use Rattle.flame_body.specs.BodyFits.{Around, fit, fits, values_fit, numbers_of as count_of, together, stored_fits, initial_fits, target_fits, are_within, assignment_fits, deed_fits}
 use Rattle.flame_code.specs.declared.instrs.Instr.{Instr}
 use Rattle.flame_code.specs.declared.instrs.Instr.TheVariants.{Push, Dup, Drop, Loc, SetLoc, Mem, SetMem, MemAt, SetMemAt, Send, Bear, Call}
 use Rattle.flame_code.specs.Machine.{Config, Turn, calls, act, next, set_local, store as stores, with_element, pay_from}
@@ -36,14 +37,11 @@ use Rattle.flame_code_laws.specs.NamedLocals.{names_below, all_below}
 use Rattle.flame_code_laws.specs.LocalNumbers.{stored_below, initial_below, items_numbered, target_below, assignment_below}
 use Rattle.flame_code_laws.specs.Standings.{Answered, Frame, IsSound, Follows, Comes}
 use Rattle.flame_code_laws.proofs.Going.{has_left, has_right, has_first, has_rest, valued, numbered, performed, failed as fails}
-use Rattle.flame_code_laws.proofs.FaithfulExpressions.{expression_does, arguments_give, numbers_long, operator_runs, cell_runs, same_column}
-use Rattle.flame_code_laws.proofs.Comings.{row_taken, other_less, neq-eqb, set_long, set_read, refuel, alike_of, refueled, comes_led, value_comes, values_come}
-
--- a value has one number
-value_count : (x : Fit) → is_value x ≡ true → numbers_in x ≡ Some 1
-value_count unfit e = absurd (let bad : false ≡ true = e in cc)
-value_count one_fit e = refl
-value_count (whole_array size) e = absurd (let bad : false ≡ true = e in cc)
+use Rattle.flame_code_laws.proofs.FaithfulExpressions.{expression_does, arguments_give, numbers_long, operator_runs, cell_runs}
+use Rattle.flame_code_laws.proofs.Comings.{row_taken, other_less, set_long, set_read, refuel, alike_of, refueled, comes_led, value_comes, values_come}
+use Rattle.flame_meaning.proofs.Fitting.{fitted_whole}
+use Rattle.flame_body.proofs.FittedCalls.{value-number}
+use Rattle.flame_code_laws.proofs.FormNumbers.{same_column}
 
 -- single values are as many numbers as there are values
 values_count :
@@ -54,23 +52,9 @@ values_count [] around e = refl
 values_count (e ∷ es) around all_fit_it =
     let parts = and_parts (fits around e) (values_fit around es) all_fit_it in
     let count : 1 + length es ≡ suc (length es) = omega arith in
-    ap (λ o. together o (count_of (map (fit around) es))) (value_count (fit around e) parts.0)
+    ap (λ o. together o (count_of (map (fit around) es))) (value-number (fit around e) parts.0)
     ∙ ap (together (Some 1)) (values_count es around parts.1)
     ∙ ap Some count
-
--- what is as long as a row is cut to it unchanged
-fitted_whole : (n : ℕ) (vs : List ℤ) → length vs ≡ n → fitted n vs ≡ vs
-fitted_whole zero [] e = refl
-fitted_whole zero (v ∷ vs) e = absurd (let bad : suc (length vs) ≡ 0 = e in omega (arith, bad))
-fitted_whole (suc n) [] e = absurd (let bad : 0 ≡ suc n = e in omega (arith, bad))
-fitted_whole (suc n) (v ∷ vs) e =
-    let less : length vs ≡ n = (let long : suc (length vs) ≡ suc n = e in omega (arith, long)) in
-    ap (λ xs. v ∷ xs) (fitted_whole n vs less)
-
--- the length of a row that fits
-counted : (size : ℕ) (o : Option ℕ) → is_length size o ≡ true → o ≡ Some size
-counted size None e = absurd (let bad : false ≡ true = e in cc)
-counted size (Some n) e = ap Some (eqb-true n size e)
 
 -- a local that is declared is read, and the others are as they were
 declared_read :
@@ -92,7 +76,7 @@ declared_read v s c number k reads is within =
           let other = eqb-false (length s.locals) k e in
           let less : k < suc (length s.locals) = ltb-true k (suc (length s.locals)) within in
           ap (λ t. cond t v (c.locals k))
-          (neq-eqb k number (λ same. other (sym is ∙ sym same)))
+          (ne_eqb k number (λ same. other (sym is ∙ sym same)))
           ∙ reads k (lt-ltb k (length s.locals) (other_less k (length s.locals) less other))
     ] in
     go (length s.locals == k) refl
@@ -828,14 +812,14 @@ module _ (run : Running) (f : Frame) (sound : IsSound run f) where
       let counts = count_of (map (fit f.around) es) in
       let parts = and_parts (nat_lt number (length f.around.widths.messages)) (is_length width counts) fit_it in
       arguments_come es width s c p (Send number ∷ []) (λ vs. done (Sends number) vs f.before s) follows
-      (counted width counts parts.1) low_it has
+      (is_length-true width counts parts.1) low_it has
       (λ vs q long has_last. sent_on number vs s c q follows long has_last)
   deed_comes (Bears number) es s c p follows fit_it low_it has =
       let width = slice_index_or f.around.widths.agents number 0 in
       let counts = count_of (map (fit f.around) es) in
       let parts = and_parts (nat_lt number (length f.around.widths.agents)) (is_length width counts) fit_it in
       arguments_come es width s c p (Bear number ∷ []) (λ vs. done (Bears number) vs f.before s) follows
-      (counted width counts parts.1) low_it has
+      (is_length-true width counts parts.1) low_it has
       (λ vs q long has_last. born_on number vs s c q follows long has_last)
   deed_comes (Calls line h) es s c p follows fit_it low_it has =
       let call = Call line h (length es) in

@@ -6,6 +6,7 @@ pub mod NumberedTrees
 -- How runs go on, instruction by instruction.
 pub mod Going
 -- Expressions and arguments.
+pub mod FormNumbers
 pub mod FaithfulExpressions
 -- What statements come to; stored values, declarations, assignments and call statements.
 pub mod Comings

@@ -5,6 +5,7 @@ use Rattle.std.specs.Prelude.{◌==◌, length, nat_lt, option_map}
 use Rattle.std.specs.List.{list_all}
 use Rattle.std.specs.Str.{bytes_eq}
 use Rattle.std.proofs.lemmas.Bool.Decides.{nat_tests}
+use Rattle.std.proofs.lemmas.Bool.{lt-ltb, and_from}
 use Rattle.flame_spec.specs.declared.trees.Parameter.{Parameter}
 use Rattle.flame_spec.specs.LookUps.{Given, in_memory, constant, iteration}
 use Rattle.flame_spec.specs.Scopes.{Context, Sight, names_seen, over_none, at_entry, in_scope, in_loop, in_value_of}
@@ -22,7 +23,6 @@ use Rattle.flame_body.specs.NumberedTrees.{numbered, numbered_parts, numbered_li
 use Rattle.flame_body.specs.NumberedTrees.{numbered_assignment, numbered_items, in_loop_named}
 use Rattle.flame_body.specs.NumberedTrees.{numbered_statement, numbered_statements, numbered_arms}
 use Rattle.flame_body.specs.FitLaws.{unfiled}
-use Rattle.flame_body.proofs.FittedWords.{both, lt-true}
 use Rattle.flame_code_laws.specs.NamedLocals.{slot_below, names_below, all_below, links_below}
 use Rattle.flame_code_laws.specs.LocalNumbers.{stored_below, initial_below, items_numbered, target_below}
 use Rattle.flame_code_laws.specs.LocalNumbers.{assignment_below, test_below, step_below, all_add, all_suit, numbering}
@@ -53,7 +53,7 @@ number-below :
 number-below count [] word within = refl
 number-below count (front ∷ names) word within =
     let enough : suc (length names) ≤ count = within in
-    by_test (bytes_eq front word) (lt-true (length names) count (omega arith))
+    by_test (bytes_eq front word) (lt-ltb (length names) count (omega arith))
     (number-below count names word (omega arith))
   where
     by_test :
@@ -112,7 +112,7 @@ mutual
       below-Unary (seen sight) signs (numbered context sight e) ∙ expression-below context sight e
   expression-below context sight (chain e more) =
       below-Chain (seen sight) (numbered context sight e) (numbered_links context sight more)
-      ∙ both _ _ (expression-below context sight e) (operands-below context sight more)
+      ∙ and_from _ _ (expression-below context sight e) (operands-below context sight more)
   expression-below context sight (all_of parts) =
       below-All (seen sight) (numbered_parts context sight parts) ∙ parts-below context sight parts
   expression-below context sight (any_of parts) =
@@ -123,14 +123,14 @@ mutual
       → all_below (seen sight) (numbered_parts context sight parts) ≡ true
   parts-below context sight no_parts = refl
   parts-below context sight (part e parts) =
-      both _ _ (expression-below context sight e) (parts-below context sight parts)
+      and_from _ _ (expression-below context sight e) (parts-below context sight parts)
 
   operands-below :
       (context : Context) (sight : Sight) (links : Links)
       → links_below (seen sight) (numbered_links context sight links) ≡ true
   operands-below context sight no_links = refl
   operands-below context sight (link op line e links) =
-      both _ _ (expression-below context sight e) (operands-below context sight links)
+      and_from _ _ (expression-below context sight e) (operands-below context sight links)
 
 -- a test that may be missing
 test-below :
@@ -168,7 +168,7 @@ assignment-below :
     (context : Context) (sight : Sight) (a : Assigned)
     → assignment_below (seen sight) (numbered_assignment context sight a) ≡ true
 assignment-below context sight a =
-    both _ _ (target-below context sight a.name a.subscript) (stored-below context sight a.value)
+    and_from _ _ (target-below context sight a.name a.subscript) (stored-below context sight a.value)
 
 -- an assignment that may be missing
 step-below :
@@ -191,8 +191,8 @@ items-numbered context sight [] = refl
 items-numbered context sight (item ∷ items) =
     let next : seen sight + 1 ≡ suc (seen sight) = omega arith in
     let behind = numbered_items context (after_name sight item.name) items in
-    both _ _ (itself (seen sight))
-    (both _ _ (initial-below context (in_value_of item.name sight) item.value)
+    and_from _ _ (itself (seen sight))
+    (and_from _ _ (initial-below context (in_value_of item.name sight) item.value)
     (ap (items_numbered behind) next ∙ items-numbered context (after_name sight item.name) items))
 
 -- behind them one name more is seen for each
@@ -300,11 +300,11 @@ mutual
       ∙ statements-numbered context (in_scope sight) body
   statement-numbered context sight (branch arms otherwise) =
       suits-If (numbered_arms context sight arms) (numbered_statements context (in_scope sight) otherwise) (seen sight)
-      ∙ both _ _ (arms-numbered context sight arms) (statements-numbered context (in_scope sight) otherwise)
+      ∙ and_from _ _ (arms-numbered context sight arms) (statements-numbered context (in_scope sight) otherwise)
   statement-numbered context sight (while line test body) =
       ap (λ n. n.suits (seen sight)) (numbering-While line (numbered context sight test)
       (numbered_statements context (in_loop over_none sight) body))
-      ∙ both _ _ (expression-below context sight test) (statements-numbered context (in_loop over_none sight) body)
+      ∙ and_from _ _ (expression-below context sight test) (statements-numbered context (in_loop over_none sight) body)
   statement-numbered context sight (for line first test step body) =
       let inside = after_all (in_scope sight) first in
       let begun = numbered_statements context (in_scope sight) first in
@@ -314,15 +314,15 @@ mutual
       let head : SlotHead = record { first = begun; test = tested; step = stepped } in
       let behind = sym (seen-after-all context (in_scope sight) first) in
       ap (λ n. n.suits (seen sight)) (numbering-For line head inner)
-      ∙ both _ _
-      (both _ _ (statements-numbered context (in_scope sight) first)
-      (both _ _ (ap (λ n. test_below n tested) behind ∙ test-below context inside test)
+      ∙ and_from _ _
+      (and_from _ _ (statements-numbered context (in_scope sight) first)
+      (and_from _ _ (ap (λ n. test_below n tested) behind ∙ test-below context inside test)
       (ap (λ n. step_below n stepped) behind ∙ step-below context inside step)))
       (ap (all_suit (map numbering inner)) behind ∙ statements-numbered context (in_loop over_none inside) body)
   statement-numbered context sight (do_while line body test) =
       ap (λ n. n.suits (seen sight)) (numbering-Do line
       (numbered_statements context (in_loop over_none sight) body) (numbered context sight test))
-      ∙ both _ _ (statements-numbered context (in_loop over_none sight) body) (expression-below context sight test)
+      ∙ and_from _ _ (statements-numbered context (in_loop over_none sight) body) (expression-below context sight test)
   statement-numbered context sight (loop_over line word body end_line end_word) =
       ap (λ n. n.suits (seen sight)) (numbering-Loop line (input_looped context word)
       (numbered_statements context (in_loop_named context sight word) body))
@@ -338,7 +338,7 @@ mutual
   statements-numbered context sight no_more = refl
   statements-numbered context sight (also statement statements) =
       let behind = numbered_statements context (after sight statement) statements in
-      both _ _ (statement-numbered context sight statement)
+      and_from _ _ (statement-numbered context sight statement)
       (ap (all_suit (map numbering behind)) (sym (seen-after context sight statement))
       ∙ statements-numbered context (after sight statement) statements)
 
@@ -347,8 +347,8 @@ mutual
       → list_all (λ suits. suits (seen sight)) (map arm_numbered (numbered_arms context sight arms)) ≡ true
   arms-numbered context sight no_arms = refl
   arms-numbered context sight (arm test body arms) =
-      both _ _
-      (both _ _ (expression-below context sight test) (statements-numbered context (in_scope sight) body))
+      and_from _ _
+      (and_from _ _ (expression-below context sight test) (statements-numbered context (in_scope sight) body))
       (arms-numbered context sight arms)
 
 -- the law

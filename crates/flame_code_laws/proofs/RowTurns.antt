@@ -2,15 +2,16 @@
 use Rattle.std.proofs.Common.{◌≡◌, ℕ, zero, suc, ◌+◌, ◌<◌, ◌≤◌, ◌==◌, ◌||◌, Bool, true, false, cond, List, [], ◌∷◌, length, Some, refl, sym, ap, ◌∙◌, subst, arith, eq-eqb, lt-ltb}
 use Rattle.std.specs.Prelude.{ℤ, slice_get, slice_set, slice_index_or, nat_lt, option_and_then}
 use Rattle.std.specs.Option.{option_map_or}
-use Rattle.std.proofs.lemmas.Bool.{eqb-true, eqb-false, ltb-true, or_left, or_right}
+use Rattle.std.proofs.lemmas.Bool.{eqb-true, eqb-false, ltb-true, or_left, or_right, ne_eqb}
 use Rattle.std.proofs.lemmas.Option.{get_or_from_slice_get}
+use Rattle.flame_rows.proofs.Lists.{slice_get-slice_set}
 use Rattle.flame_spec.specs.declared.outcomes.Widths.{Widths}
 use Rattle.flame_body.specs.BodyFits.{Around, in_input_loop, is_inside}
 use Rattle.flame_code.specs.declared.instrs.Instr.TheVariants.{Next}
-use Rattle.flame_code.specs.Feeds.{Fed, with_come, has_more, with_more, last_of, last_come, with_input, at_next}
+use Rattle.flame_code.specs.Feeds.{Fed, with_come, has_more, with_more, last_come, with_input, at_next}
 use Rattle.flame_code.specs.InputRows.{rows_of}
 use Rattle.flame_code.specs.Machine.{Config, deliver, next as next_at, pay_from as paid_from}
-use Rattle.flame_code.proofs.InputMoves.{other-kept, rows-at_next}
+use Rattle.flame_code.proofs.InputMoves.{other-kept, rows-at_next, last_of-next}
 use Rattle.flame_meaning.specs.Scenes.{Progress}
 use Rattle.flame_meaning.specs.Ends.{End, went_on, broke, continued, returned, faulted, no_fuel}
 use Rattle.flame_meaning.specs.Loops.{after_turn, pay_from}
@@ -20,14 +21,8 @@ use Rattle.flame_code_laws.specs.CodeRuns.{Running, HasAt, at}
 use Rattle.flame_code_laws.specs.Likeness.{Current}
 use Rattle.flame_code_laws.specs.Standings.{Frame, IsSound, Follows, Reached, Comes}
 use Rattle.flame_code_laws.proofs.Going.{has_first, performed, failed}
-use Rattle.flame_code_laws.proofs.Comings.{refuel, comes_led, neq-eqb}
+use Rattle.flame_code_laws.proofs.Comings.{refuel, comes_led}
 use Rattle.flame_code_laws.proofs.Turning.{Whole}
-
--- what is written is found there
-get_same : (xs : List Fed) (i : ℕ) (x y : Fed) → slice_get xs i ≡ Some y → slice_get (slice_set xs i x) i ≡ Some x
-get_same [] i x y e = cc
-get_same (z ∷ xs) zero x y e = refl
-get_same (z ∷ xs) (suc i) x y e = get_same xs i x y e
 
 -- an input that is changed
 pub changed_feed :
@@ -36,7 +31,7 @@ pub changed_feed :
     → slice_get (with_input change input feeds) input ≡ Some (change fed)
 changed_feed change input feeds fed e =
     ap (λ o. slice_get (option_map_or (λ x. slice_set feeds input (change x)) o feeds) input) e
-    ∙ get_same feeds input (change fed) fed e
+    ∙ slice_get-slice_set feeds input (change fed) fed e
 
 -- an input that is not open is none of those that are
 pub not_open :
@@ -56,10 +51,6 @@ more_come :
     → come < length all → with_more (come_to all come) ≡ come_to all (come + 1)
 more_come all come less =
     ap (λ b. cond b (with_come (come + 1) (come_to all come)) (come_to all come)) (lt-ltb come (length all) less)
-
--- the row that came last
-last_next : (all : List (List ℤ)) (come : ℕ) → last_of (come + 1) all ≡ slice_get all come
-last_next all come = let is : come + 1 ≡ suc come = omega arith in ap (λ n. last_of n all) is
 
 -- a row's frame
 abbrev pub rowed : ℕ → List ℤ → List Fed → ℕ → ℕ → ℕ → ℕ → Frame → Frame
@@ -126,7 +117,7 @@ module _ (run : Running) (f : Frame) (sound : IsSound run f) (input : ℕ) (clos
         let width : slice_get run.routine.widths.inputs input ≡ Some (length row) =
         sound.rows.wide input come all row listed there in
         record {
-          last = ap (option_and_then last_come) come_fed ∙ last_next all come ∙ there ∙ ap Some (sym row_is);
+          last = ap (option_and_then last_come) come_fed ∙ last_of-next all come ∙ there ∙ ap Some (sym row_is);
           wide = ap length row_is
               ∙ sym (get_or_from_slice_get run.routine.widths.inputs input (length row) 0 width)
               ∙ sym (ap (λ (w : Widths). slice_index_or w.inputs input 0) sound.widths)
@@ -136,7 +127,7 @@ module _ (run : Running) (f : Frame) (sound : IsSound run f) (input : ℕ) (clos
         let apart : i ≡ input → ⊥ = λ same. eqb-false input i other (sym same) in
         let current = sound.current i within in
         let row_is : (standing_at input row f.before).current_rows i ≡ f.before.current_rows i =
-        ap (λ b. cond b row (f.before.current_rows i)) (neq-eqb i input apart) in
+        ap (λ b. cond b row (f.before.current_rows i)) (ne_eqb i input apart) in
         record {
           last = ap (option_and_then last_come) (other-kept with_more c.feeds input i apart ∙ follows.kept i within)
               ∙ current.last ∙ ap Some (sym row_is);

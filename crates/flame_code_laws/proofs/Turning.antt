@@ -3,7 +3,7 @@ use Rattle.std.proofs.Common.{◌≡◌, ℕ, zero, suc, ◌+◌, ◌-◌, ◌<�
 use Rattle.std.specs.Prelude.{ℤ, pos, Result, slice_get}
 use Rattle.std.specs.List.{list_any}
 use Rattle.std.specs.Ordering.{int_eq}
-use Rattle.std.proofs.lemmas.Bool.{ltb-true}
+use Rattle.std.proofs.lemmas.Bool.{ltb-true, ne_eqb}
 use Rattle.flame_spec.specs.declared.faults.Fault.{Fault}
 use Rattle.flame_body.specs.BodyFits.{in_plain_loop}
 use Rattle.flame_code.specs.declared.instrs.Instr.TheVariants.{JumpNotZero, Pay}
@@ -16,7 +16,7 @@ use Rattle.flame_number_laws.specs.NumberedScenes.{NumberedScene, local_at}
 use Rattle.flame_code_laws.specs.CodeRuns.{Running, HasAt, at, Leads, Gives}
 use Rattle.flame_code_laws.specs.Standings.{Frame, IsSound, Follows, Reached, Comes}
 use Rattle.flame_code_laws.proofs.Going.{has_first, valued, performed, failed}
-use Rattle.flame_code_laws.proofs.Comings.{refuel, comes_led, value_comes, neq-eqb}
+use Rattle.flame_code_laws.proofs.Comings.{refuel, comes_led, value_comes}
 
 -- ---- locals that end
 
@@ -28,7 +28,7 @@ drop_read k (suc n) [] less = refl
 drop_read k (suc n) (x ∷ xs) less =
     let other : length xs ≡ k → ⊥ = λ same. omega (arith, same, less) in
     drop_read k n xs (omega (arith, less))
-    ∙ sym (ap (λ b. cond b x.value (local_at k xs)) (neq-eqb (length xs) k other))
+    ∙ sym (ap (λ b. cond b x.value (local_at k xs)) (ne_eqb (length xs) k other))
 
 -- however it ends without a fault or a value, there are so many locals
 abbrev pub Whole : ℕ → End → Type 0

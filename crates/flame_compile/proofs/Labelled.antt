@@ -391,12 +391,3 @@ pub raised :
     → Labelled N w p is from (label h rows) marks
     → Labelled N w p is from (label k rows) marks
 raised {N} {w} {p} {is} {from} {marks} rows h k e x = subst (λ n. Labelled N w p is from (label n rows) marks) e x
-
--- the same, where the height before it is written in another way
-pub lowered :
-    {N : List Instr → List Label → Type 0} {w : Widths} {p : ℕ} {is : List Instr} {to : Label} {marks : List Mark}
-    (rows : List ℕ) (h k : ℕ)
-    → h ≡ k
-    → Labelled N w p is (label h rows) to marks
-    → Labelled N w p is (label k rows) to marks
-lowered {N} {w} {p} {is} {to} {marks} rows h k e x = subst (λ n. Labelled N w p is (label n rows) to marks) e x

@@ -20,7 +20,7 @@ use Rattle.flame_body.specs.declared.slots.SlotExpr.TheVariants.{rolls-Number, r
 use Rattle.flame_body.specs.declared.slots.SlotExpr.TheOpen.{SlotExpr-F}
 use Rattle.flame_body.specs.declared.slots.SlotLink.{SlotLink}
 use Rattle.flame_body.specs.declared.slots.SlotSubscript.{SlotSubscript}
-use Rattle.flame_body.specs.BodyFits.{Around, Fit, unfit, one_value, whole_array, is_value, fit, fits, fit_of_value, fit_of_bare, fit_of_slot, are_within, are_field_cells, is_field, is_within as stands_within, is_inside, width_of_input, values_fit, numbers_in, numbers_of, together}
+use Rattle.flame_body.specs.BodyFits.{Around, Fit, is_value, fit, fits, fit_of_value, fit_of_bare, fit_of_slot, are_within, are_field_cells, is_field, is_within as stands_within, is_inside, width_of_input, values_fit, numbers_in, numbers_of, together}
 use Rattle.flame_body.proofs.FitForms.{fit-Number, fit-Name, fit-Field, fit-Get, fit-At, fit-FieldAt, fit-Unary, fit-Chain, fit-All, fit-Any}
 use Rattle.flame_code.specs.declared.instrs.Instr.{Instr}
 use Rattle.flame_code.specs.declared.instrs.Instr.TheVariants.{Push, Loc, Const, Iter, Neg, Not, Jump, JumpZero, JumpNotZero}
@@ -33,6 +33,7 @@ use Rattle.flame_compile.specs.Emit.{operator, sign_code, signs_code, column_of,
 use Rattle.flame_compile.proofs.Forms.{expression-Number, expression-Name, expression-Field, expression-Get, expression-At, expression-FieldAt, expression-Unary, expression-Chain, expression-All, expression-Any, all_piece, any_piece}
 use Rattle.flame_compile.proofs.Sized.{expression_sized}
 use Rattle.flame_compile.proofs.Labelled.{label, Labelled, no_needs, Aim, aim_forward, nothing, is_plain, plain, jump, jump_zero, jump_not_zero, more, sealed, freed, joined, raised}
+use Rattle.flame_body.proofs.FittedCalls.{value-number}
 
 -- ---- how many values
 
@@ -52,12 +53,6 @@ bare_of :
 bare_of false size n e = absurd (let bad : None ≡ Some n = e in cc)
 bare_of true None n e = (refl, sym (same_Some 1 n e))
 bare_of true (Some size) n e = (refl, sym (same_Some size n e))
-
--- a value is one number
-value_number : (f : Fit) → is_value f ≡ true → numbers_in f ≡ Some 1
-value_number unfit e = absurd (let bad : false ≡ true = e in cc)
-value_number one_value e = refl
-value_number (whole_array size) e = absurd (let bad : false ≡ true = e in cc)
 
 -- ---- rows of instructions
 
@@ -192,7 +187,7 @@ by_value e piece test is fit_is holds around sound p h n number =
 one_number :
     (e : SlotExpr) → Holds e → (around : Around) → IsSound around → (p h : ℕ)
     → fits around e ≡ true → Leaving around p h 1 (expression e)
-one_number e holds around sound p h fit_it = holds around sound p h 1 (value_number (fit around e) fit_it)
+one_number e holds around sound p h fit_it = holds around sound p h 1 (value-number (fit around e) fit_it)
 
 -- columns of the memory
 memory_labelled :
@@ -282,7 +277,7 @@ links_labelled (l ∷ ls) around p h sound e =
 -- ---- `&&` and `||`
 
 -- parts with jumps are as long as their size says
-tested_long :
+pub tested_long :
     (jump_out : Instr) (es : List SlotExpr) (p : ℕ)
     → length ((tested jump_out (map expression es)).code p) ≡ tested_size (map expression es)
 tested_long jump_out [] p = refl
@@ -472,15 +467,15 @@ value_labelled e around p h sound fit_it = one_number e (expression_labelled e) 
 -- ---- arguments
 
 -- both are numbers, and this is their sum
-record Together (x y : Option ℕ) (n : ℕ) : Type 0 where
-  left : ℕ
-  right : ℕ
-  left_is : x ≡ Some left
-  right_is : y ≡ Some right
-  sum : left + right ≡ n
+pub record Together (x y : Option ℕ) (n : ℕ) : Type 0 where
+  pub left : ℕ
+  pub right : ℕ
+  pub left_is : x ≡ Some left
+  pub right_is : y ≡ Some right
+  pub sum : left + right ≡ n
 
 -- where there is a sum
-together_of : (x y : Option ℕ) (n : ℕ) → together x y ≡ Some n → Together x y n
+pub together_of : (x y : Option ℕ) (n : ℕ) → together x y ≡ Some n → Together x y n
 together_of (Some a) (Some b) n e =
     record { left = a; right = b; left_is = refl; right_is = refl; sum = same_Some (a + b) n e }
 together_of (Some a) None n e = absurd (let bad : None ≡ Some n = e in cc)
@@ -510,7 +505,7 @@ values_counted [] around e = refl
 values_counted (e ∷ es) around all_fit_it =
     let parts = and_parts (fits around e) (values_fit around es) all_fit_it in
     let count : 1 + length es ≡ suc (length es) = omega arith in
-    ap (λ o. together o (numbers_of (map (fit around) es))) (value_number (fit around e) parts.0)
+    ap (λ o. together o (numbers_of (map (fit around) es))) (value-number (fit around e) parts.0)
     ∙ ap (together (Some 1)) (values_counted es around parts.1)
     ∙ ap Some count
 

@@ -445,7 +445,7 @@ arm_long a leave again e p =
     arm_sized (arm a) (expression_sized a.test) (statements_sized a.body) leave again (p + arm_size (arm a)) e p
 
 -- so are arms
-arms_long :
+pub arms_long :
     (arms : List SlotArm) (leave again e p : ℕ)
     → length ((arms_code (map arm arms) leave again e).code p) ≡ arms_size (map arm arms)
 arms_long [] leave again e p = refl

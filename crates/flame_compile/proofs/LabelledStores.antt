@@ -1,10 +1,11 @@
 -- The code of what is stored, sent, born and called has labels.
-use Rattle.std.proofs.Common.{◌≡◌, ℕ, ◌+◌, ◌==◌, true, false, ◌&&◌, List, [], ◌∷◌, ◌++◌, length, map, Option, Some, None, refl, ap, arith, eqb-true}
+use Rattle.std.proofs.Common.{◌≡◌, ℕ, ◌+◌, ◌==◌, true, ◌&&◌, List, [], ◌∷◌, ◌++◌, length, map, Option, Some, None, refl, arith, eqb-true}
 use Rattle.std.specs.Prelude.{pos, slice_index_or, nat_lt}
 use Rattle.std.specs.List.{list_all}
 use Rattle.std.proofs.lemmas.Bool.{and_parts}
 use Rattle.flame_ops.specs.declared.integers.Op.{Op}
 use Rattle.flame_spec.specs.CallFaults.{is_length}
+use Rattle.flame_spec.proofs.FaultTests.{is_length-true}
 use Rattle.flame_body.specs.declared.slots.SlotAssign.{SlotAssign}
 use Rattle.flame_body.specs.declared.slots.SlotDeed.{SlotDeed}
 use Rattle.flame_body.specs.declared.slots.SlotDeed.TheVariants.{Sets, Sends, Bears, Calls}
@@ -149,11 +150,6 @@ assignment_labelled a around p sound e =
 
 -- ---- call statements
 
--- a length that is right
-counted : (size : ℕ) (o : Option ℕ) → is_length size o ≡ true → o ≡ Some size
-counted size None e = absurd (let bad : false ≡ true = e in cc)
-counted size (Some n) e = ap Some (eqb-true n size e)
-
 -- arguments, and an instruction that takes so many values
 row_labelled :
     (i : Instr) (es : List SlotExpr) (around : Around) (p n : ℕ)
@@ -181,14 +177,14 @@ deed_labelled (Sends number) es around p sound e =
     let w = around.widths in
     let width = slice_index_or w.messages number 0 in
     let parts = and_parts (nat_lt number (length w.messages)) (is_length width (numbers_of (map (fit around) es))) e in
-    row_labelled (Send number) es around p width sound (counted width (numbers_of (map (fit around) es)) parts.1)
+    row_labelled (Send number) es around p width sound (is_length-true width (numbers_of (map (fit around) es)) parts.1)
     (plain no_needs w (p + length ((arguments es).code p)) (Send number) (0 + width) 0 around.inputs refl (omega arith)
     (omega arith) refl parts.0)
 deed_labelled (Bears number) es around p sound e =
     let w = around.widths in
     let width = slice_index_or w.agents number 0 in
     let parts = and_parts (nat_lt number (length w.agents)) (is_length width (numbers_of (map (fit around) es))) e in
-    row_labelled (Bear number) es around p width sound (counted width (numbers_of (map (fit around) es)) parts.1)
+    row_labelled (Bear number) es around p width sound (is_length-true width (numbers_of (map (fit around) es)) parts.1)
     (plain no_needs w (p + length ((arguments es).code p)) (Bear number) (0 + width) 0 around.inputs refl (omega arith)
     (omega arith) refl parts.0)
 deed_labelled (Calls line helper) es around p sound e =

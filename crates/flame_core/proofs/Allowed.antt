@@ -3,6 +3,7 @@ use Rattle.std.proofs.Common.{◌≡◌, ℕ, ◌<◌, Bool, true, false, length
 use Rattle.std.specs.Prelude.{not}
 use Rattle.std.proofs.lemmas.Bool.{and_parts, cases_Bool, ltb-true, true≢false}
 use Rattle.std.proofs.lemmas.List.{length-map}
+use Rattle.std.proofs.lemmas.Option.{slice_get_within}
 use Rattle.flame_spec.specs.declared.models.Model.{Model}
 use Rattle.flame_spec.specs.Before.{function_count}
 use Rattle.flame_spec.specs.Below.{is_in}
@@ -12,7 +13,6 @@ use Rattle.flame_events.proofs.Sound.{opens_with}
 use Rattle.flame_events.proofs.Works.{kept_is_output}
 use Rattle.flame_events.specs.CoreFits.{FitsCore, FitsWork}
 use Rattle.flame_events.proofs.Spots.{get_there}
-use Rattle.flame_events.proofs.Works.{each_at}
 use Rattle.flame_spec.specs.Functions.{functions}
 use Rattle.flame_pieces.specs.Waiting.{thing_at}
 use Rattle.flame_pieces.specs.RunStatuses.{status_of as kept_status}
@@ -21,9 +21,10 @@ use Rattle.flame_progress.specs.declared.progress.Progress.{Progress}
 use Rattle.flame_progress.specs.RunCores.{core_of, kept_at}
 use Rattle.flame_progress.specs.RunWorkEvents.{OutputsOnce}
 use Rattle.flame_progress.specs.Tallying.{Tallies}
-use Rattle.flame_progress.proofs.Known.{got_within, may_hand_in_is, may_shut_is, open_within, outputs_once}
+use Rattle.flame_progress.proofs.Known.{may_hand_in_is, may_shut_is, open_within, outputs_once}
 use Rattle.flame_core.specs.RunReady.{InOrder}
 use Rattle.flame_core.proofs.Openings.{output_below}
+use Rattle.flame_meaning.proofs.Eachs.{each_at}
 
 module _ (model : Model) (progress : Progress) (counts : Counts) (tallies : Tallies model progress counts) where
   abbrev core : Core
@@ -91,7 +92,7 @@ module _ (model : Model) (progress : Progress) (counts : Counts) (tallies : Tall
       let among : is_in m outputs ≡ true = kept_is_output outputs hands.one.parts m hands.rows work.parts hands.part in
       record {
         known = less;
-        there = got_within (works_of (status_of core f)) k hands.one hands.there;
+        there = slice_get_within (works_of (status_of core f)) k hands.one hands.there;
         board = omega (arith, output_below model f m below among, tallies.messages);
         gathers = ⊎_elim
             (λ (frozen : is_frozen core m ≡ true).

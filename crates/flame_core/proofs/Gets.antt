@@ -1,13 +1,8 @@
 -- Elements of lists, and of two lists place by place.
-use Rattle.std.proofs.Common.{◌≡◌, ℕ, zero, suc, ◌+◌, ◌<◌, Bool, true, false, cond, List, [], ◌∷◌, length, map, drop, drop-cons, get_or, Some, refl, sym, ap, ◌∙◌, arith, subst}
+use Rattle.std.proofs.Common.{◌≡◌, ℕ, zero, suc, ◌+◌, ◌<◌, Bool, true, false, cond, List, [], ◌∷◌, length, map, drop, drop-cons, get_or, Some, refl, sym, ap, ◌∙◌, arith}
 use Rattle.std.specs.Prelude.{not, slice_get, slice_index_or}
-use Rattle.std.specs.List.{All, AllZip, position_or_len}
+use Rattle.std.specs.List.{All, position_or_len}
 use Rattle.flame_spec.specs.Lists.{numbers_from, numbers_where}
-
-pub get-there : {X : Type 0} (xs : List X) (k : ℕ) (x : X) → k < length xs → x ≡ get_or xs k x → slice_get xs k ≡ Some x
-get-there [] k x within at = absurd (omega (arith, within))
-get-there (y ∷ xs) zero x within at = ap Some (sym at)
-get-there (y ∷ xs) (suc k) x within at = get-there xs k x (omega (arith, within)) at
 
 pub record HasAt {X : Type 0} (xs : List X) (k : ℕ) : Type 0 where
   pub item : X
@@ -18,16 +13,6 @@ has-at [] k within = absurd (omega (arith, within))
 has-at (x ∷ xs) zero within = record { item = x; there = refl }
 has-at (x ∷ xs) (suc k) within =
     let later = has-at xs k (omega (arith, within)) in record { item = later.item; there = later.there }
-
-pub zip-get : {X Y : Type 0} (R : X → Y → Type 0) (xs : List X) (ys : List Y) (k : ℕ) (x : X) (y : Y)
-    → AllZip R xs ys → slice_get xs k ≡ Some x → slice_get ys k ≡ Some y → R x y
-zip-get R [] ys k x y all at there = absurd cc
-zip-get R (x′ ∷ xs) [] k x y all at there = absurd all
-zip-get R (x′ ∷ xs) (y′ ∷ ys) zero x y all at there =
-    let one : x′ ≡ x = cc in
-    let two : y′ ≡ y = cc in
-    subst (λ b. R x b) two (subst (λ a. R a y′) one all.0)
-zip-get R (x′ ∷ xs) (y′ ∷ ys) (suc k) x y all at there = zip-get R xs ys k x y all.1 at there
 
 pub mapped-get : {X Y : Type 0} (f : X → Y) (d : Y) (xs : List X) (k : ℕ) (x : X)
     → slice_get xs k ≡ Some x → slice_index_or (map f xs) k d ≡ f x

@@ -1,11 +1,11 @@
 -- Functions that began have their boards frozen, and frozen boards their writers shut, in each core that was reached.
 use Rattle.std.proofs.Common.{◌≡◌, ℕ, false, List, ap}
 use Rattle.std.specs.Prelude.{ℤ}
+use Rattle.flame_rows.proofs.Lists.{slice_index_or-map_one}
 use Rattle.flame_spec.specs.declared.models.Model.{Model}
 use Rattle.flame_spec.specs.Functions.{functions}
 use Rattle.flame_events.specs.CoreStates.{Waiting, is_shut, status_of, is_frozen, opening_core}
 use Rattle.flame_events.specs.LegalEvents.{writers}
-use Rattle.flame_events.proofs.CoreWidths.{all_one}
 use Rattle.flame_events.proofs.KeptCores.{kept_core}
 use Rattle.flame_events.proofs.Legality.{in_writers}
 use Rattle.flame_events.proofs.Works.{all_of_list}
@@ -15,10 +15,10 @@ use Rattle.flame_core.specs.RunReady.{InOrder}
 -- ---- at the beginning
 
 pub nothing_shut : (model : Model) (agents : List (List (List ℤ))) (f : ℕ) → is_shut (status_of (opening_core model agents) f) ≡ false
-nothing_shut model agents f = ap is_shut (all_one Waiting (functions model) f)
+nothing_shut model agents f = ap is_shut (slice_index_or-map_one Waiting (functions model) f)
 
 pub nothing_frozen : (model : Model) (agents : List (List (List ℤ))) (m : ℕ) → is_frozen (opening_core model agents) m ≡ false
-nothing_frozen model agents m = all_one false model.messages m
+nothing_frozen model agents m = slice_index_or-map_one false model.messages m
 
 -- ---- a core that was reached
 

@@ -1,7 +1,8 @@
 -- What agents leave belongs to types and messages of the model.
 use Rattle.std.proofs.Common.{◌≡◌, ℕ, zero, suc, ◌<◌, List, [], ◌∷◌, length, refl, arith}
-use Rattle.std.specs.Prelude.{ℤ, slice_get, IsSomeAnd, slice_index_or}
+use Rattle.std.specs.Prelude.{ℤ, slice_index_or}
 use Rattle.std.specs.List.{All}
+use Rattle.flame_rows.proofs.Lists.{slice_get-IsSomeAnd}
 use Rattle.flame_spec.specs.declared.outcomes.Born.{Born}
 use Rattle.flame_spec.specs.declared.outcomes.Effect.{Effect}
 use Rattle.flame_spec.specs.declared.outcomes.Outcome.{Outcome}
@@ -14,11 +15,6 @@ use Rattle.flame_meaning.specs.RangeLaws.{Each}
 use Rattle.flame_meaning.proofs.Leavings.{rows_have_widths}
 use Rattle.flame_world.specs.AgentRuns.{born_by, born_from, sent_by, sent_from}
 use Rattle.flame_world.proofs.Eachs.{all_each, each_flat_map}
-
-some-within : {X : Type 0} (P : X → Type 0) (xs : List X) (k : ℕ) → IsSomeAnd (slice_get xs k) P → k < length xs
-some-within P [] k some = absurd some
-some-within P (x ∷ xs) zero some = omega arith
-some-within P (x ∷ xs) (suc k) some = omega (arith, some-within P xs k some)
 
 each_at : {X : Type 0} (P : X → Type 0) (xs : List X) → Each P xs → All P xs
 each_at P [] all = λ k d less. absurd (omega (arith, less))
@@ -45,7 +41,7 @@ module _ (source : Source) (function : ℕ) (boards : List (List (List ℤ))) (c
       go : (o : Outcome) → ((effect : Effect) → o ≡ Ended effect → HasWidths source.model memory effect) → Each (λ (b : Born). b.agent < length source.model.agents) (born_by o)
       go (Ended effect) has =
           all_each (λ (b : Born). b.agent < length source.model.agents) effect.born
-          (λ k d less. some-within _ source.model.agents _ ((has effect refl).born k d less))
+          (λ k d less. slice_get-IsSomeAnd _ source.model.agents _ ((has effect refl).born k d less))
       go (Faulted fault) has = tt
 
   sent_at : (memory : List ℤ) → Each (λ (s : Sent). s.message < length source.model.messages) (sent_by (run memory))
@@ -54,7 +50,7 @@ module _ (source : Source) (function : ℕ) (boards : List (List (List ℤ))) (c
       go : (o : Outcome) → ((effect : Effect) → o ≡ Ended effect → HasWidths source.model memory effect) → Each (λ (s : Sent). s.message < length source.model.messages) (sent_by o)
       go (Ended effect) has =
           all_each (λ (s : Sent). s.message < length source.model.messages) effect.sent
-          (λ k d less. some-within _ source.model.messages _ ((has effect refl).sent k d less))
+          (λ k d less. slice_get-IsSomeAnd _ source.model.messages _ ((has effect refl).sent k d less))
       go (Faulted fault) has = tt
 
   pub born-within : (agents : List (List ℤ)) → All (λ (b : Born). b.agent < length source.model.agents) (born_from run agents)

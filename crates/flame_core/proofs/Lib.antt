@@ -1,7 +1,7 @@
 mod BoardBags
 mod StatePlaces
 mod LeftRows
-mod NamedNumbers
+pub mod NamedNumbers
 mod TakenRuns
 mod Gets
 mod Beginnings

@@ -5,6 +5,8 @@ use Rattle.std.specs.List.{All, AllZip, cons_option, filter_map, list_any, zip}
 use Rattle.std.proofs.lemmas.Bool.{cases_eq, cases_lt, eq-eqb, ne_eqb, lt-ltb, le-ltb, ltb-true, and_parts}
 use Rattle.std.proofs.lemmas.List.{take_more}
 use Rattle.std.proofs.lemmas.List.Folds.{list_any-append}
+use Rattle.std.proofs.lemmas.Option.{slice_get_within}
+use Rattle.flame_rows.proofs.Lists.{list_any_map}
 use Rattle.flame_spec.specs.declared.models.Model.{Model}
 use Rattle.flame_spec.specs.Before.{before, both_stand, function_count}
 use Rattle.flame_spec.specs.Below.{all_below, is_in}
@@ -15,7 +17,7 @@ use Rattle.flame_depend.specs.Edges.{edge, edges_below, edges_of, edges_to}
 use Rattle.flame_meaning.specs.Outcomes.{outputs_at}
 use Rattle.flame_events.specs.CoreStates.{Waiting}
 use Rattle.flame_events.specs.LegalEvents.{inputs_at, inputs_of, outputs_of}
-use Rattle.flame_events.proofs.Spots.{get_below, get_there, output_named}
+use Rattle.flame_events.proofs.Spots.{get_there, output_named}
 use Rattle.flame_pieces.specs.FreeThings.{Tells}
 use Rattle.flame_pieces.specs.Waiting as waits
 use Rattle.flame_pieces.specs.declared.statuses.Status.TheVariants as is
@@ -49,10 +51,6 @@ zip_long R f (x ∷ xs) (y ∷ ys) all = ap suc (zip_long R f xs ys all.1)
 -- one of these edges leads from f to g
 abbrev pub is_edge : List Edge → ℕ → ℕ → Bool
 is_edge edges f g = list_any (λ e. (f == e.before) && (g == e.after)) edges
-
-list_any-map : {X Y : Type 0} (p : Y → Bool) (f : X → Y) (xs : List X) → list_any p (map f xs) ≡ list_any (λ x. p (f x)) xs
-list_any-map p f [] = refl
-list_any-map p f (x ∷ xs) = ap (λ b. p (f x) || b) (list_any-map p f xs)
 
 any_also : (b : Bool) (g : ℕ) (targets : List ℕ) → list_any (λ t. b && (g == t)) targets ≡ (b && list_any (λ t. g == t) targets)
 any_also true g targets = refl
@@ -102,7 +100,7 @@ edge_below n stands zero f g = sym (ap (λ b. b && (nat_lt g n && stands f g)) (
 edge_below n stands (suc k) f g =
     let targets = all_below (stands k) n in
     let row : is_edge (edges_to k targets) f g ≡ ((f == k) && (nat_lt g n && stands k g)) =
-    list_any-map (λ (e : Edge). (f == e.before) && (g == e.after)) (edge k) targets
+    list_any_map (λ (e : Edge). (f == e.before) && (g == e.after)) (edge k) targets
     ∙ any_also (f == k) g targets
     ∙ ap (λ b. (f == k) && b) (any_turned g targets ∙ is_in-all_below (stands k) n g) in
     list_any-append (λ (e : Edge). (f == e.before) && (g == e.after)) (edges_below k n stands) (edges_to k targets)
@@ -271,7 +269,7 @@ pub output_below : (model : Model) (f m : ℕ) → f < function_count model → 
 output_below model f m less among =
     let place = get_there (functions model) f less in
     let output = output_named model place.0 m (sym (ap (λ o. is_in m (outputs_at o model)) place.1) ∙ among) in
-    get_below model.messages m output.named.message output.named.there
+    slice_get_within model.messages m output.named.message output.named.there
 
 pub outputs_below : (model : Model) (f : ℕ) → f < function_count model → All (λ m. m < length model.messages) (outputs_of model f)
 outputs_below model f less = all_in (λ m. m < length model.messages) (outputs_of model f) (λ m among. output_below model f m less among)

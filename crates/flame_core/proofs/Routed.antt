@@ -1,5 +1,7 @@
 -- Routes of a program, function by function.
-use Rattle.std.proofs.Common.{◌≡◌, ℕ, ◌<◌, length, get_or, sym, ap, ◌∙◌, arith}
+use Rattle.std.proofs.Common.{◌≡◌, ℕ, ◌<◌, length, get_or, sym, ap, ◌∙◌, arith, refl}
+use Rattle.std.proofs.lemmas.Option.{slice_get_read}
+use Rattle.flame_rows.proofs.Lists.{AllZip-at}
 use Rattle.flame_spec.specs.declared.models.Model.{Model}
 use Rattle.flame_spec.specs.Before.{function_count}
 use Rattle.flame_spec.specs.Functions.{functions}
@@ -10,7 +12,7 @@ use Rattle.flame_route.specs.declared.routes.Routes.{Routes}
 use Rattle.flame_route.specs.ModelRoutes.{AreRoutesOf, IsRouteOf}
 use Rattle.flame_route.proofs.Places.{zip-length}
 use Rattle.flame_core.specs.RunSteps.{GoesBy}
-use Rattle.flame_core.proofs.Gets.{get-there, has-at, zip-get}
+use Rattle.flame_core.proofs.Gets.{has-at}
 
 pub routes_many : (model : Model) (routes : Routes) → AreRoutesOf model routes → function_count model ≡ length routes.routes
 routes_many model routes are = zip-length (IsRouteOf model) (functions model) routes.routes are.each
@@ -19,11 +21,11 @@ pub goes_at : (model : Model) (routes : Routes) → AreRoutesOf model routes →
     → route ≡ get_or routes.routes f route → GoesBy model f route
 goes_at model routes are f route less at =
     let found = has-at (functions model) f less in
-    let there = get-there routes.routes f route (omega (arith, less, routes_many model routes are)) at in
+    let there = slice_get_read routes.routes (length routes.routes) f route refl (omega (arith, less, routes_many model routes are)) at in
     record {
       place = found.item;
       there = found.there;
-      routed = zip-get (IsRouteOf model) (functions model) routes.routes f found.item route are.each found.there there;
+      routed = AllZip-at (IsRouteOf model) (functions model) routes.routes f found.item route are.each found.there there;
       turn = are.turns f found.item route found.there there;
     }
 

@@ -12,7 +12,6 @@ use Rattle.flame_events.specs.CoreFits.{FitsCore, FitsWork}
 use Rattle.flame_events.specs.CoreStates.{Core, is_waiting, status_of, work_of, works_of, is_frozen}
 use Rattle.flame_events.specs.LegalEvents.{inputs_at, inputs_of, may_run}
 use Rattle.flame_events.proofs.Sound.{opens_with}
-use Rattle.flame_events.proofs.Works.{each_at}
 use Rattle.flame_pieces.specs.RunStatuses.{status_of as kept_status}
 use Rattle.flame_progress.specs.declared.boards.Board.{Board}
 use Rattle.flame_progress.specs.declared.counts.Counts.{Counts}
@@ -28,6 +27,7 @@ use Rattle.flame_core.specs.RunSteps.{GoesBy}
 use Rattle.flame_core.proofs.Leaving.{each_passes, has_next}
 use Rattle.flame_core.proofs.Openings.{all_found}
 use Rattle.flame_core.proofs.Shown.{marked_within}
+use Rattle.flame_meaning.proofs.Eachs.{each_at}
 
 -- boards that are shared are the boards that they were
 pub same_core : (progress : Progress) (boards : Vec Board Global)

@@ -1,5 +1,5 @@
 -- What a function comes to, put together from what its agents leave.
-use Rattle.std.proofs.Common.{◌≡◌, ℕ, ◌<◌, List, [], length, map, get_or, Option, Some, None, Ok, Err, sym, ap, ◌∙◌, arith, subst}
+use Rattle.std.proofs.Common.{◌≡◌, ℕ, ◌<◌, List, [], length, map, get_or, Option, Some, None, Ok, Err, sym, ap, ◌∙◌, arith, subst, refl}
 use Rattle.std.specs.Prelude.{ℤ, ◌==◌, not, option_map, slice_get, slice_index_or}
 use Rattle.std.specs.List.{filter, filter_map}
 use Rattle.flame_rows.specs.Bags.{ascending, merge}
@@ -20,7 +20,7 @@ use Rattle.flame_body.specs.FunctionBodies.{input_width}
 use Rattle.flame_agent.specs.FunctionFits.{AreBoardsFor}
 use Rattle.flame_program.proofs.Acceptances.{variables-found}
 use Rattle.flame_core.proofs.NamedNumbers.{named-numbers, named-wide}
-use Rattle.flame_world.proofs.Eachs.{each_filter, each_index, zip_at}
+use Rattle.flame_world.proofs.Eachs.{zip_at}
 use Rattle.flame_world.proofs.RowsKept.{place_type}
 use Rattle.flame_route.specs.declared.routes.Route.{Route}
 use Rattle.flame_route.specs.ModelRoutes.{AreLeaving}
@@ -34,7 +34,7 @@ use Rattle.flame_core.specs.declared.takers.Left.{Left}
 use Rattle.flame_core.specs.RunSteps.{GoesBy, HasRoute}
 use Rattle.flame_core.specs.declared.takers.Ran.{Ran}
 use Rattle.flame_core.specs.TakerRuns.{Leaves}
-use Rattle.flame_core.proofs.Gets.{get-there, has-at, mapped-get, position-passes}
+use Rattle.flame_core.proofs.Gets.{has-at, mapped-get, position-passes}
 use Rattle.flame_spec.specs.declared.outcomes.Outcome.{Outcome}
 use Rattle.flame_spec.specs.declared.outcomes.Source.{Source}
 use Rattle.flame_meaning.specs.Outcomes.{message_named, outcome, place_of}
@@ -45,7 +45,9 @@ use Rattle.flame_world.specs.Settings.{boards_of}
 use Rattle.flame_world.proofs.NamedBoards.{named_boards_are_enough}
 use Rattle.std.specs.Str.{bytes_eq}
 use Rattle.std.proofs.lemmas.Slice.Eq.{bytes_eq-Decides}
+use Rattle.std.proofs.lemmas.Option.{slice_get_read}
 use Rattle.flame_core.proofs.StatePlaces.{from_place, to_place}
+use Rattle.flame_meaning.proofs.Eachs.{each_filter, each_index}
 
 -- ---- the step
 
@@ -158,7 +160,7 @@ pub lists-of : (model : Model) (function : ℕ) (place : Place) (leaving : List 
     → lists ≡ map (functions_out model place.agent) (states place.type.functions)
 lists-of model function place leaving agent lists at same is within there =
     is.1 place.agent place.type lists (place_type model function place at)
-    (ap (slice_get leaving) (sym same) ∙ get-there leaving agent lists within there)
+    (ap (slice_get leaving) (sym same) ∙ (slice_get_read leaving (length leaving) agent lists refl within there))
 
 -- the list of the state that a function leaves has the functions out of it
 pub out-is : (model : Model) (function : ℕ) (place : Place) (from : ℕ) (out : List ℕ)

@@ -3,6 +3,7 @@ use Rattle.std.proofs.Common.{◌≡◌, ℕ, ◌<◌, ◌≤◌, false, List, l
 use Rattle.std.specs.Prelude.{ℤ, slice_index_or, slice_set}
 use Rattle.std.specs.List.{flat_map}
 use Rattle.std.proofs.lemmas.Bool.{cases_lt, false≢true}
+use Rattle.std.proofs.lemmas.Option.{same_Some}
 use Rattle.flame_rows.specs.Bags.{ascending, merge}
 use Rattle.flame_spec.specs.declared.models.Model.{Model}
 use Rattle.flame_spec.specs.declared.outcomes.Outcome.{Outcome}
@@ -31,7 +32,6 @@ use Rattle.flame_events.specs.LegalEvents.{outputs_of}
 use Rattle.flame_events.proofs.Absorbing.{agents_run_at_once}
 use Rattle.flame_events.proofs.Sound.{opens_with, past_waiting}
 use Rattle.flame_events.proofs.Spots.{get_there}
-use Rattle.flame_events.proofs.Works.{each_at}
 use Rattle.flame_route.specs.declared.routes.Route.{Route}
 use Rattle.flame_progress.specs.declared.counts.Counts.{Counts}
 use Rattle.flame_progress.specs.declared.leavings.Leaving.{Leaving}
@@ -48,6 +48,7 @@ use Rattle.flame_core.specs.RunShares.{as_sent, CanTakeIn, IsFed, IsSettingOf}
 use Rattle.flame_core.specs.RunSteps.{GoesBy, round_of}
 use Rattle.flame_core.specs.SeenCores.{Seen, round_in, when_came}
 use Rattle.flame_core.proofs.SharedPieces.{absorbed_is, in_parts, parts_have}
+use Rattle.flame_meaning.proofs.Eachs.{each_at}
 
 -- ---- what is before the agents
 
@@ -106,9 +107,6 @@ piece_below model core f k work fits there =
     omega (arith, less, fits.statuses)
 
 -- ---- the share in the core
-
-some_work : (x y : Work) → Some x ≡ Some y → x ≡ y
-some_work x y e = cc
 
 pub can_here : (seen : Seen) (round : run.Round) (share : Share) → CanTakeIn round seen.core share
     → round.program.now ≡ seen.source → round.constants.now ≡ seen.world.constants → round.iteration ≡ seen.iteration → round.fuel ≡ seen.fuel
@@ -185,7 +183,7 @@ taken_in round pieces progress new counts share route leaving work rest parts go
     let outputs = outputs_of model f in
     let run : List ℤ → Outcome = outcome_in (round_of round) f core.field in
     let runs : outcome_under setting f ≡ run = λ i memory. comes_to round f core.field setting can.setting memory i in
-    let same : can.work ≡ work = some_work can.work work (sym can.there ∙ there) in
+    let same : can.work ≡ work = same_Some can.work work (sym can.there ∙ there) in
     let agents : p.agents ≡ work.agents = can.agents ∙ ap (λ (w : Work). w.agents) same in
     let fresh : work.ran ≡ 0 = ap (λ (w : Work). w.ran) (sym same) ∙ can.new in
     let fits = each_at (FitsWork model f place.type) (works_of (status_of core f)) k work (ready.fits.works f place goes.there) there in

@@ -1,4 +1,5 @@
 -- Start states, one function after another.
+use mathlib.Core.Bool.{or-false}
 use Rattle.std.proofs.Common.{◌≡◌, ℕ, ◌+◌, ◌<◌, List, [], ◌∷◌, ◌++◌, length, drop, get_or, refl, sym, ap, ◌∙◌, arith, true, false, Bool, not, cond}
 use Rattle.std.specs.Prelude.{◌&&◌, ◌||◌, filter}
 use Rattle.std.specs.Str.{bytes_eq}
@@ -6,22 +7,11 @@ use Rattle.std.proofs.lemmas.Bool.{false≢true}
 use Rattle.std.proofs.lemmas.List.{drop_more, append-nil}
 use Rattle.std.proofs.lemmas.List.Folds.{list_any_at, list_any-append}
 use Rattle.std.proofs.lemmas.Slice.Eq.{bytes_eq-Decides}
+use Rattle.flame_rows.proofs.Bytes.{bytes_eq-sym, bytes_eq-self}
 use Rattle.flame_spec.specs.declared.models.Function.{Function}
 use Rattle.flame_spec.specs.KnownNames.{is_among}
 use Rattle.flame_spec.specs.States.{distinct_after, ends, is_entered, start_states}
 use Rattle.flame_spec.proofs.Starts.{is_among-filter}
-
-pub bytes_eq_self : (text : List ℕ) → bytes_eq text text ≡ true
-bytes_eq_self text = (bytes_eq-Decides text text).1 refl
-
-pub bytes_eq_sym : (a b : List ℕ) → bytes_eq a b ≡ bytes_eq b a
-bytes_eq_sym a b = go (bytes_eq a b) refl (bytes_eq b a) refl
-  where
-    go : (x : Bool) → bytes_eq a b ≡ x → (y : Bool) → bytes_eq b a ≡ y → bytes_eq a b ≡ bytes_eq b a
-    go true p true q = p ∙ sym q
-    go true p false q = absurd (false≢true (sym q ∙ (bytes_eq-Decides b a).1 (sym ((bytes_eq-Decides a b).0 p))))
-    go false p true q = absurd (false≢true (sym p ∙ (bytes_eq-Decides a b).1 (sym ((bytes_eq-Decides b a).0 q))))
-    go false p false q = p ∙ sym q
 
 filter_push : (test : List ℕ → Bool) (xs : List (List ℕ)) (x : List ℕ) → filter test (xs ++ x ∷ []) ≡ filter test xs ++ cond (test x) (x ∷ []) []
 filter_push test [] x = go (test x)
@@ -77,7 +67,7 @@ starts_more functions i f found h e =
     rest = filter (unentered functions) (ends (drop (i + 1) functions))
 
     next_entered : unentered functions f.next ≡ false
-    next_entered = ap not (list_any_at (λ g. bytes_eq g.next f.next) functions i f h (ap (λ g. bytes_eq g.next f.next) (sym e) ∙ bytes_eq_self f.next))
+    next_entered = ap not (list_any_at (λ g. bytes_eq g.next f.next) functions i f h (ap (λ g. bytes_eq g.next f.next) (sym e) ∙ bytes_eq-self f.next))
 
     go : (b : Bool) → distinct_after found (cond (not b) (f.current ∷ rest) rest) ≡ cond (not (b || is_among f.current found)) (f.current ∷ distinct_after (found ++ f.current ∷ []) rest) (distinct_after found rest)
     go true = refl
@@ -89,12 +79,8 @@ starts_more functions i f found h e =
 
 -- ---- texts that are passed over
 
-or_last : (b : Bool) → (b || false) ≡ b
-or_last true = refl
-or_last false = refl
-
 pub is_among-push : (found : List (List ℕ)) (text q : List ℕ) → is_among q (found ++ text ∷ []) ≡ (is_among q found || bytes_eq text q)
-is_among-push found text q = list_any-append (bytes_eq q) found (text ∷ []) ∙ ap (λ b. is_among q found || b) (or_last (bytes_eq q text) ∙ bytes_eq_sym q text)
+is_among-push found text q = list_any-append (bytes_eq q) found (text ∷ []) ∙ ap (λ b. is_among q found || b) (or-false (bytes_eq q text) ∙ bytes_eq-sym q text)
 
 pub absorbed : (a b : Bool) → (b ≡ true → a ≡ true) → (a || b) ≡ a
 absorbed true b h = refl

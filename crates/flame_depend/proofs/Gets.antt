@@ -4,7 +4,7 @@ use Rattle.std.specs.Prelude.{◌==◌, ◌&&◌, ◌||◌, slice_get, option_ma
 use Rattle.std.proofs.Math.Bool.{or-false}
 use Rattle.std.proofs.lemmas.Bool.{eq-eqb, ne_eqb, cases_eq}
 use Rattle.std.proofs.lemmas.List.{take_more, length-take-le}
-use Rattle.std.proofs.lemmas.Option.{slice_get_past}
+use Rattle.std.proofs.lemmas.Option.{slice_get_past, slice_get-map, slice_get-get_or}
 use Rattle.flame_spec.specs.Below.{is_in}
 use Rattle.flame_spec.proofs.FirstBelow.{is_in_push}
 use Rattle.flame_depend.specs.declared.place.Placed.{Placed}
@@ -22,11 +22,6 @@ module _ {X : Type 0} where
   slice_get-set_other (x ∷ xs) zero (suc j) y h = refl
   slice_get-set_other (x ∷ xs) (suc i) zero y h = refl
   slice_get-set_other (x ∷ xs) (suc i) (suc j) y h = slice_get-set_other xs i j y (λ e. h (ap suc e))
-
-  pub slice_get_at : (xs : List X) (i : ℕ) (d : X) → i < length xs → slice_get xs i ≡ Some (get_or xs i d)
-  slice_get_at [] i d h = absurd (omega arith)
-  slice_get_at (x ∷ xs) zero d h = refl
-  slice_get_at (x ∷ xs) (suc i) d h = slice_get_at xs i d (omega arith)
 
   push_get : (xs : List X) (y : X) (f : ℕ) → slice_get (xs ++ y ∷ []) f ≡ cond (length xs == f) (Some y) (slice_get xs f)
   push_get [] y zero = refl
@@ -48,11 +43,6 @@ some_within [] i y h = cc
 some_within (x ∷ xs) zero y h = let same : x ≡ y = cc in (omega arith, same)
 some_within (x ∷ xs) (suc i) y h = let r = some_within xs i y h in (omega (arith, r.0), r.1)
 
-pub slice_get-map : {X Y : Type 0} (v : X → Y) (xs : List X) (i : ℕ) → slice_get (map v xs) i ≡ option_map v (slice_get xs i)
-slice_get-map v [] i = refl
-slice_get-map v (x ∷ xs) zero = refl
-slice_get-map v (x ∷ xs) (suc i) = slice_get-map v xs i
-
 -- a test that nothing passes, at one element more
 pub test_more : {X : Type 0} (test : Option X → Bool) → test None ≡ false → (xs : List X) (i : ℕ) (y : X) (f : ℕ) → slice_get xs i ≡ Some y → (test (slice_get (take i xs) f) || ((i == f) && test (Some y))) ≡ test (slice_get (take (i + 1) xs) f)
 test_more {X} test none xs i y f e =
@@ -73,10 +63,7 @@ test_more {X} test none xs i y f e =
 
 -- a function in the code's list is the one of the model
 pub shown_at : (places : List Placed) (i : ℕ) (x : Placed) → i < length places → x ≡ get_or places i x → slice_get (map shown places) i ≡ Some (shown x)
-shown_at places i x h e = slice_get-map shown places i ∙ ap (option_map shown) (slice_get_at places i x h) ∙ ap (λ y. Some (shown y)) (sym e)
-
-pub read_at : {X : Type 0} (xs : List X) (i : ℕ) (x : X) → i < length xs → x ≡ get_or xs i x → slice_get xs i ≡ Some x
-read_at xs i x h e = slice_get_at xs i x h ∙ ap Some (sym e)
+shown_at places i x h e = slice_get-map shown places i ∙ ap (option_map shown) (slice_get-get_or places i x h) ∙ ap (λ y. Some (shown y)) (sym e)
 
 -- ---- one function more under some names
 

@@ -1,8 +1,9 @@
 -- The iterations of a run, place by place and part by part.
-use Rattle.std.proofs.Common.{◌≡◌, ℕ, zero, suc, ◌+◌, ◌<◌, length, take, Option, Some, None, refl, sym, ap, ◌∙◌, subst}
+use Rattle.std.proofs.Common.{◌≡◌, ℕ, zero, suc, ◌+◌, ◌<◌, length, take, Some, None, refl, sym, ap, ◌∙◌, subst}
 use Rattle.std.proofs.Common.{arith}
 use Rattle.std.specs.Prelude.{ℤ, pos, ◌+ℤ◌, slice_get}
 use Rattle.std.proofs.Math.IntN.{+ℤ_assoc}
+use Rattle.std.proofs.lemmas.Option.{same_Some}
 use Rattle.flame_spec.specs.declared.outcomes.Source.{Source}
 use Rattle.flame_world.specs.declared.faults.SimFault.{SimFault}
 use Rattle.flame_world.specs.declared.turns.Turn.{Turn}
@@ -16,13 +17,6 @@ use Rattle.flame_driver.specs.IteratedRuns.{start_behind, RunsAreIterated, and_t
 -- the start of this number and world
 abbrev pub start_at : ℤ → World → Start
 start_at itno world = record { itno = itno; world = world }
-
-abbrev or_else : {X : Type 0} → X → Option X → X
-or_else x None = x
-or_else x (Some y) = y
-
-pub some_same : {X : Type 0} (x y : X) → Some x ≡ Some y → x ≡ y
-some_same x y same = ap (or_else x) same
 
 pub no_some : {X R : Type 0} (x : X) → None ≡ Some x → R
 no_some x same = absurd (cc same)
@@ -59,7 +53,7 @@ module _ (source : Source) (fuel : ℕ) where
           → done.itno ≡ start.itno +ℤ pos (place + 1)
       by_turn rest (Faulted fault) place is = no_some done is
       by_turn rest (Done world boards) zero is =
-          sym (ap (λ (s : Stage). s.itno) (some_same (stage (next start) world boards) done is))
+          sym (ap (λ (s : Stage). s.itno) (same_Some (stage (next start) world boards) done is))
       by_turn rest (Done world boards) (suc place) is =
           rest (start_at (next start) world) place is
           ∙ one_on start.itno (place + 1) (suc place + 1) (omega arith)
@@ -89,7 +83,7 @@ module _ (source : Source) (fuel : ℕ) where
       by_turn rest (Faulted fault) came_is place is = no_some done is
       by_turn rest (Done world boards) came_is zero is =
           subst (λ (s : Stage). iteration source start.world s.itno fuel ≡ Done s.world s.boards)
-          (some_same (stage (next start) world boards) done is) came_is
+          (same_Some (stage (next start) world boards) done is) came_is
       by_turn rest (Done world boards) came_is (suc place) is = rest (start_at (next start) world) place is
 
   whole :
@@ -135,7 +129,7 @@ module _ (source : Source) (fuel : ℕ) where
           × (iteration source (start_behind start (run_by (next start) came (run source fuel turns)).stages).world
           (start.itno +ℤ pos (length (run_by (next start) came (run source fuel turns)).stages + 1)) fuel
           ≡ Faulted f)
-      by_turn rest (Faulted other) came_is is = (omega arith, came_is ∙ ap Faulted (some_same other f is))
+      by_turn rest (Faulted other) came_is is = (omega arith, came_is ∙ ap Faulted (same_Some other f is))
       by_turn rest (Done world boards) came_is is =
           let found = rest (start_at (next start) world) is in
           let left = (run source fuel turns (start_at (next start) world)).stages in (

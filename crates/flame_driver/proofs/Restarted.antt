@@ -5,6 +5,7 @@ use Rattle.std.specs.Prelude.{ℤ, pos, ◌+ℤ◌, ◌≤ℤ◌, int_le, slice_
 use Rattle.std.proofs.lemmas.Int.{ints}
 use Rattle.std.proofs.lemmas.List.{map-append}
 use Rattle.std.proofs.lemmas.List.Concat.{flat_map-append}
+use Rattle.std.proofs.lemmas.Option.{same_Some}
 use Rattle.flame_spec.specs.declared.outcomes.Source.{Source}
 use Rattle.flame_spec.specs.Definitions.{definitions}
 use Rattle.flame_meaning.specs.RangeLaws.{IsInt, AllWriteInts}
@@ -23,7 +24,7 @@ use Rattle.flame_driver.specs.Runs.{Stage, stage, Run, run, run_by}
 use Rattle.flame_driver.specs.RunScripts.{Writing, file_name, stage_text, stage_line}
 use Rattle.flame_driver.specs.IteratedRuns.{start_behind, and_then}
 use Rattle.flame_driver.specs.RestartLaws.{WritesBoth, GoesOnFrom, RunsRestart}
-use Rattle.flame_driver.proofs.Iterated.{start_at, some_same, no_some, one_on, runs_are_iterated, runs_go_on}
+use Rattle.flame_driver.proofs.Iterated.{start_at, no_some, one_on, runs_are_iterated, runs_go_on}
 use Rattle.flame_driver.proofs.StageActs.{stages_are_written}
 
 -- ---- numbers
@@ -65,7 +66,7 @@ last_start :
     → start_behind start stages ≡ start_at last.itno last.world
 last_start [] start place last found count = no_some last found
 last_start (done ∷ []) start zero last found count =
-    ap (λ (s : Stage). start_at s.itno s.world) (some_same done last found)
+    ap (λ (s : Stage). start_at s.itno s.world) (same_Some done last found)
 last_start (done ∷ []) start (suc place) last found count = absurd (omega (arith, count))
 last_start (done ∷ next ∷ stages) start zero last found count = absurd (omega (arith, count))
 last_start (done ∷ next ∷ stages) start (suc place) last found count =
@@ -114,7 +115,7 @@ module _ (stay : WorldsStayWorlds) (source : Source) (fuel : ℕ) (writes : AllW
       by_turn rest (Done world boards) came_is zero there =
           let int = numbers 0 (omega arith) in
           let after = stay source start.world world (next start) fuel boards writes int is came_is in
-          subst (IsStageOf source) (some_same (stage (next start) world boards) last there)
+          subst (IsStageOf source) (same_Some (stage (next start) world boards) last there)
           (record { world = after.0; boards = after.1 })
       by_turn rest (Done world boards) came_is (suc place) there =
           let int = numbers 0 (omega arith) in

@@ -1,23 +1,16 @@
 -- An iteration that is not written whole: what stands of a run that goes on with it.
-use Rattle.std.proofs.Common.{◌≡◌, ℕ, List, [], ◌∷◌, Some, refl, sym, ap, ◌∙◌, subst, arith}
-use Rattle.std.specs.Prelude.{ℤ, pos, ◌+ℤ◌}
+use Rattle.std.proofs.Common.{◌≡◌, List, [], ◌∷◌, refl, sym, ap, ◌∙◌, arith}
+use Rattle.std.specs.Prelude.{ℤ}
 use Rattle.flame_outside.specs.Files.{with_file, OthersStay}
 use Rattle.flame_outside.specs.Devices.{SeenDepot, SeenSink}
 use Rattle.flame_outside.specs.Frames.{OnlyPuts}
-use Rattle.flame_outside.specs.Scripts.{Act, puts, prints, Outside, outside, told}
+use Rattle.flame_outside.specs.Scripts.{Act, puts, prints, outside, told}
 use Rattle.flame_outside.proofs.FrameLemmas.{grows_same, puts_go_on}
 use Rattle.flame_outside.proofs.ScriptLemmas.{put_stands, first_stand, failed_put, failed_print, second_of_two}
-use Rattle.flame_world.specs.declared.faults.SimFault.{SimFault}
-use Rattle.flame_world.specs.declared.turns.Turn.{Turn}
-use Rattle.flame_world.specs.declared.turns.Turn.TheVariants as turn
-use Rattle.flame_world.specs.declared.worlds.World.{World}
-use Rattle.flame_world.specs.declared.worlds.Boards.{Boards}
-use Rattle.flame_popfile.specs.declared.starts.Start.{Start}
 use Rattle.flame_driver.specs.declared.drivers.DriveEnd.{DriveEnd}
 use Rattle.flame_driver.specs.declared.drivers.DriveEnd.TheVariants.{Done, Fault, FileFault, OutputFault, NoMemory}
-use Rattle.flame_driver.specs.Runs.{Stage, stage, Run, and_run, run_by}
+use Rattle.flame_driver.specs.Runs.{Stage, Run, and_run}
 use Rattle.flame_driver.specs.RunScripts.{Writing, file_name, stage_text, stage_line, acts_of}
-use Rattle.flame_driver.specs.DriveAnswers.{Drives}
 use Rattle.flame_driver.specs.StageStops.{StopsPut, StopsLine, StopsStage}
 use Rattle.flame_driver.proofs.LeftRuns.{unchanged}
 
@@ -106,31 +99,3 @@ module _ (writing : Writing) (done : Stage) where
         };
         ends = stands;
       }
-
--- ---- an iteration by what it came to
-
-module _ (writing : Writing) (before : ℤ) (came : Turn) (later : Start → Run) where
-  -- it faulted
-  pub turn_faults :
-      (fault : SimFault) (old : Outside)
-      → came ≡ turn.Faulted fault
-      → Drives writing before (run_by (before +ℤ pos 1) came later) (Fault fault) 0 old old
-  turn_faults fault old faulted =
-      subst (λ (t : Turn). Drives writing before (run_by (before +ℤ pos 1) t later) (Fault fault) 0 old old)
-      (sym faulted)
-      (unchanged writing before (record { stages = []; fault = Some fault }) (Fault fault) old old refl
-      (record { fault = refl; all = refl }))
-
-  -- memory was not found for it
-  pub turn_lacks : (old : Outside) → Drives writing before (run_by (before +ℤ pos 1) came later) NoMemory 0 old old
-  turn_lacks old = unchanged writing before (run_by (before +ℤ pos 1) came later) NoMemory old old refl refl
-
-  -- it is done, and was not written whole
-  pub turn_stops :
-      (world : World) (boards : Boards) (end : DriveEnd) (files : ℕ) (old new : Outside)
-      → came ≡ turn.Done world boards
-      → StopsStage writing (stage (before +ℤ pos 1) world boards) end files old new
-      → Drives writing before (run_by (before +ℤ pos 1) came later) end files old new
-  turn_stops world boards end files old new done stops =
-      subst (λ (t : Turn). Drives writing before (run_by (before +ℤ pos 1) t later) end files old new) (sym done)
-      (stops before (later (record { itno = before +ℤ pos 1; world = world })) refl)

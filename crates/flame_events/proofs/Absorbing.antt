@@ -1,10 +1,11 @@
 -- Agents of a piece one after another, and all at once.
-use Rattle.std.proofs.Common.{◌≡◌, ℕ, zero, suc, ◌+◌, ◌<◌, ◌≤◌, ⊎_elim, true, List, [], ◌∷◌, ◌++◌, length, drop, replicate, Option, Some, None, refl, sym, ap, ◌∙◌, arith, append-nil, get_or-set_same, set-set, add-one}
+use Rattle.std.proofs.Common.{◌≡◌, ℕ, zero, suc, ◌+◌, true, List, [], ◌∷◌, ◌++◌, length, drop, replicate, Option, Some, None, refl, sym, ap, ◌∙◌, arith, append-nil, get_or-set_same, set-set, add-one}
 use Rattle.std.specs.Prelude.{slice_get, slice_set, slice_index_or, option_map}
 use Rattle.std.specs.Option.{option_or}
 use Rattle.std.specs.List.{filter_map, cons_option}
-use Rattle.std.proofs.lemmas.Bool.{cases_lt, and_from, lt-ltb}
+use Rattle.std.proofs.lemmas.Bool.{and_from, lt-ltb}
 use Rattle.std.proofs.lemmas.List.Elements.{filter_map-append}
+use Rattle.std.proofs.lemmas.Option.{slice_get_within}
 use Rattle.flame_rows.specs.Bags.{ascending, merge}
 use Rattle.flame_rows.proofs.BagLaws.{weigh-append, weigh-ascending, merge_adds_weights, equal_by_weighings, IsAscending-merge}
 use Rattle.flame_spec.specs.declared.outcomes.Outcome.{Outcome}
@@ -14,6 +15,7 @@ use Rattle.flame_spec.specs.Lists.{first}
 use Rattle.flame_world.specs.declared.faults.SimFault.{SimFault}
 use Rattle.flame_world.specs.AgentRuns.{kept, sent_by, born_by, survivors, sent_from, born_from, fault_by, least_fault, messages_of, births_of}
 use Rattle.flame_spec.specs.States.{state_place}
+use Rattle.flame_spec.proofs.Numbered.{first-cons_option}
 use Rattle.flame_world.specs.Fields.{Field, changed, changed_pool, joined_from, joined}
 use Rattle.flame_world.specs.Iterations.{Round, outcome_in}
 use Rattle.flame_events.specs.declared.events.Event.TheVariants as event
@@ -22,9 +24,8 @@ use Rattle.flame_events.specs.LegalEvents.{outputs_of, may_run, is_legal}
 use Rattle.flame_events.specs.EventSteps.{with_sent, with_agent, with_work, ran_agent, ran_next, after, replay, are_legal}
 use Rattle.flame_events.specs.AbsorbedPieces.{agent_events, with_agents, ran_agents, AgentsRunAtOnce}
 use Rattle.flame_events.proofs.Weights.{Row, Rows}
-use Rattle.flame_events.proofs.Spots.{get_below}
 use Rattle.flame_events.proofs.Holding.{messages_of-append, births_of-append}
-use Rattle.flame_events.proofs.Sound.{past_waiting}
+use Rattle.flame_events.proofs.CoreWidths.{status_below}
 
 -- ---- twice
 
@@ -75,10 +76,6 @@ sent_twice (output ∷ outs) one other (part ∷ parts) =
 option_or-assoc : (a b c : Option SimFault) → option_or (option_or a b) c ≡ option_or a (option_or b c)
 option_or-assoc None b c = refl
 option_or-assoc (Some fault) b c = refl
-
-first-cons_option : (o : Option SimFault) (faults : List SimFault) → first (cons_option o faults) ≡ option_or o (first faults)
-first-cons_option None faults = refl
-first-cons_option (Some fault) faults = refl
 
 -- ---- some agents of a piece, all at once
 
@@ -149,15 +146,6 @@ module _ (round : Round) (f k : ℕ) (place : Place) (run : Row → Outcome) whe
 
 -- ---- one after another
 
-open_long : (core : Core) (f k : ℕ) (work : Work) → work_of core f k ≡ Some work → f < length core.statuses
-open_long core f k work at = ⊎_elim
-    (λ (less : f < length core.statuses). less)
-    (λ (over : length core.statuses ≤ f). absurd (none_some (sym (ap (λ s. slice_get (works_of s) k) (past_waiting core.statuses f over)) ∙ at)))
-    (cases_lt f (length core.statuses))
-  where
-    none_some : None ≡ Some work → ⊥
-    none_some e = cc
-
 pub get_set : (works : List Work) (k : ℕ) (work other : Work) → slice_get works k ≡ Some work → slice_get (slice_set works k other) k ≡ Some other
 get_set [] k work other at = absurd cc
 get_set (w ∷ works) zero work other at = refl
@@ -187,7 +175,7 @@ module _ (round : Round) (pieces f k : ℕ) (place : Place) (there : slice_get (
 
   legal_is : (core : Core) (work : Work) (memory : Row) → work_of core f k ≡ Some work → slice_get work.agents work.ran ≡ Some memory
       → is_legal round.source.model core (event.Agent f k) ≡ true
-  legal_is core work memory at next = ap may_run at ∙ lt-ltb work.ran (length work.agents) (get_below work.agents work.ran memory next)
+  legal_is core work memory at next = ap may_run at ∙ lt-ltb work.ran (length work.agents) (slice_get_within work.agents work.ran memory next)
 
   -- the piece is found again
   found_again : (core : Core) (work : Work) (memory : Row) → work_of core f k ≡ Some work
@@ -196,7 +184,7 @@ module _ (round : Round) (pieces f k : ℕ) (place : Place) (there : slice_get (
       let run = outcome_in round f core.field in
       let q = worked round f k place run work (memory ∷ []) in
       let works = works_of (status_of core f) in
-      ap (λ s. slice_get (works_of s) k) (get_or-set_same core.statuses f (Open (slice_set works k q)) Waiting (open_long core f k work at))
+      ap (λ s. slice_get (works_of s) k) (get_or-set_same core.statuses f (Open (slice_set works k q)) Waiting (status_below core f k work at))
       ∙ get_set works k work q at
 
   both_at_once : (core : Core) (work : Work) (memory : Row) (rows : Rows) → work_of core f k ≡ Some work
@@ -213,7 +201,7 @@ module _ (round : Round) (pieces f k : ℕ) (place : Place) (there : slice_get (
       (Open (slice_set (works_of (slice_index_or (slice_set core.statuses f (Open (slice_set works k q))) f Waiting)) k last))
       ≡ slice_set core.statuses f (Open (slice_set works k whole)) =
       ap (λ s. slice_set (slice_set core.statuses f (Open (slice_set works k q))) f (Open (slice_set (works_of s) k last)))
-      (get_or-set_same core.statuses f (Open (slice_set works k q)) Waiting (open_long core f k work at))
+      (get_or-set_same core.statuses f (Open (slice_set works k q)) Waiting (status_below core f k work at))
       ∙ set-set core.statuses f (Open (slice_set works k q)) (Open (slice_set (slice_set works k q) k last))
       ∙ ap (λ l. slice_set core.statuses f (Open l)) (set-set works k q last)
       ∙ ap (λ w. slice_set core.statuses f (Open (slice_set works k w))) (worked_twice round f k place run work memory rows) in

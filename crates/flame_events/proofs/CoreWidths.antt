@@ -3,8 +3,11 @@ use Rattle.std.proofs.Common.{◌≡◌, ℕ, zero, suc, ◌+◌, ◌<◌, ◌�
 use Rattle.std.specs.Prelude.{◌==◌, slice_get, slice_set, slice_index_or}
 use Rattle.std.specs.List.{filter, AllZip, position_or_len}
 use Rattle.std.proofs.lemmas.Bool.{cases_eq, cases_lt, eqb-true}
+use Rattle.std.proofs.lemmas.List.{length-map, set_past}
+use Rattle.std.proofs.lemmas.Option.{slice_get_within}
 use Rattle.flame_rows.specs.Order.{row_order}
 use Rattle.flame_rows.specs.Bags.{merge}
+use Rattle.flame_rows.proofs.Lists.{slice_index_or-map_one}
 use Rattle.flame_spec.specs.declared.models.AgentType.{AgentType}
 use Rattle.flame_spec.specs.declared.models.MessageType.{MessageType}
 use Rattle.flame_spec.specs.declared.models.Model.{Model}
@@ -22,7 +25,7 @@ use Rattle.flame_spec.specs.States.{state_place}
 use Rattle.flame_world.specs.Fields.{Field, changed, changed_pool, joined_from}
 use Rattle.flame_world.specs.Iterations.{Round, resting, taking, staying, outcome_in}
 use Rattle.flame_world.specs.WorldFits.{AreWide}
-use Rattle.flame_world.proofs.Eachs.{each_append, each_map, each_filter, each_passing, each_filter_map, each_flat_map, each_sorted, zip_at, zip_changed, each_index, each_changed}
+use Rattle.flame_world.proofs.Eachs.{each_append, each_map, each_passing, each_filter_map, each_flat_map, zip_at, zip_changed, each_changed}
 use Rattle.flame_world.proofs.RowsKept.{IsSentOf, IsBornOf, LeavesRows, place_type}
 use Rattle.flame_world.proofs.WidthsKept.{IsWide, leaves_wide, fitting_worlds_open}
 use Rattle.flame_events.specs.declared.events.Event.TheVariants as event
@@ -33,10 +36,11 @@ use Rattle.flame_events.specs.EventSteps.{fresh_work, opened, with_sent, with_ag
 use Rattle.flame_events.specs.CoreFits.{FitsWork, FitsCore, FittingCoresOpen, FittingCoresStay}
 use Rattle.flame_events.proofs.EvenCuts.{share_counts}
 use Rattle.flame_events.proofs.Weights.{Row, Rows}
-use Rattle.flame_events.proofs.Spots.{get_there, get_below}
+use Rattle.flame_events.proofs.Spots.{get_there}
 use Rattle.flame_events.proofs.Moves.{has_changed}
-use Rattle.flame_events.proofs.Works.{each_at, each_set, more_of, part_in-with_sent, length-with_sent, kept_is_output, without, part_in-without, part_in-without-else}
+use Rattle.flame_events.proofs.Works.{each_set, more_of, part_in-with_sent, length-with_sent, kept_is_output, without, part_in-without, part_in-without-else}
 use Rattle.flame_events.proofs.Sound.{set_table, put_all, past_waiting}
+use Rattle.flame_meaning.proofs.Eachs.{each_at, each_filter, each_sorted, each_index}
 
 -- ---- rows
 
@@ -178,7 +182,7 @@ fits_opened round pieces core f place fits at =
     let typed = place_type model f place at in
     let rests = pool_wide model place core.field typed fits.field.pools in
     let agents = taking round f place core.field in
-    let less : f < length core.statuses = omega (arith, get_below (functions model) f place at, fits.statuses) in
+    let less : f < length core.statuses = omega (arith, slice_get_within (functions model) f place at, fits.statuses) in
     record {
       statuses = length-set core.statuses f _ ∙ fits.statuses;
       frozen = fits.frozen;
@@ -211,7 +215,7 @@ work_after round f type work memory o fits at leaves =
     record {
       agents = fits.agents;
       some = fits.some;
-      ran = omega (arith, get_below work.agents work.ran memory at);
+      ran = omega (arith, slice_get_within work.agents work.ran memory at);
       parts = length-with_sent outs (sent_by o) work.parts fits.parts;
       messages = λ m t rows there is.
           let within = kept_is_output outs (with_sent outs (sent_by o) work.parts) m rows (length-with_sent outs (sent_by o) work.parts fits.parts) is in
@@ -349,11 +353,6 @@ no_works : (model : Model) (f : ℕ) (o : Option SimFault) → WorksFit model f 
 no_works model f None place at = tt
 no_works model f (Some fault) place at = tt
 
-set_past : {X : Type 0} (xs : List X) (i : ℕ) (x : X) → length xs ≤ i → slice_set xs i x ≡ xs
-set_past [] i x over = refl
-set_past (y ∷ xs) zero x over = absurd (omega (arith, over))
-set_past (y ∷ xs) (suc i) x over = ap (λ ys. y ∷ ys) (set_past xs i x (omega (arith, over)))
-
 fits_shut : (round : Round) (pieces : ℕ) (core : Core) (f : ℕ) → FitsCore round.source.model core → FitsCore round.source.model (after round pieces core (event.Shut f))
 fits_shut round pieces core f fits =
     let model = round.source.model in
@@ -385,19 +384,10 @@ fitting_cores_stay round pieces core (event.Freeze m) fits legal = record {
   works = fits.works;
 }
 
-length-map : {X Y : Type 0} (f : X → Y) (xs : List X) → length (map f xs) ≡ length xs
-length-map f [] = refl
-length-map f (x ∷ xs) = ap suc (length-map f xs)
-
-pub all_one : {X Y : Type 0} (y : Y) (xs : List X) (k : ℕ) → slice_index_or (map (λ (x : X). y) xs) k y ≡ y
-all_one y [] k = refl
-all_one y (x ∷ xs) zero = refl
-all_one y (x ∷ xs) (suc k) = all_one y xs k
-
 pub fitting_cores_open : FittingCoresOpen
 fitting_cores_open model world fits = record {
-  statuses = length-map (λ place. Waiting) (functions model);
-  frozen = length-map (λ message. false) model.messages;
+  statuses = (length-map (functions model) (λ place. Waiting));
+  frozen = (length-map model.messages (λ message. false));
   field = fitting_worlds_open model world fits;
-  works = λ f place at. subst (λ s. Each (FitsWork model f place.type) (works_of s)) (sym (all_one Waiting (functions model) f)) tt;
+  works = λ f place at. subst (λ s. Each (FitsWork model f place.type) (works_of s)) (sym (slice_index_or-map_one Waiting (functions model) f)) tt;
 }

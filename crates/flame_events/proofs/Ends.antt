@@ -2,12 +2,12 @@
 use Rattle.std.proofs.Common.{◌≡◌, ℕ, ◌+◌, ◌<◌, ◌≤◌, ⊎_elim, Bool, true, false, cond, List, [], ◌∷◌, take, Option, Some, None, refl, sym, ap, ◌∙◌, arith, subst, one-add}
 use Rattle.std.specs.Prelude.{not, is_some}
 use Rattle.std.specs.Option.{option_or}
-use Rattle.std.specs.List.{filter_map, cons_option, prefix_len}
+use Rattle.std.specs.List.{filter_map, prefix_len}
 use Rattle.std.proofs.lemmas.Bool.{cases_lt, and_parts, lt-ltb, le-ltb, false≢true}
 use Rattle.flame_spec.specs.Before.{function_count}
 use Rattle.flame_spec.specs.Below.{is_in}
-use Rattle.flame_spec.specs.Lists.{first}
 use Rattle.flame_spec.specs.ModelOrder.{model_order, left_over}
+use Rattle.flame_spec.proofs.Numbered.{first-cons_option}
 use Rattle.flame_world.specs.declared.faults.SimFault.{SimFault}
 use Rattle.flame_world.specs.Iterations.{Round, unless_faulted}
 use Rattle.flame_events.specs.CoreStates.{Status, Waiting, Open, Shut, Faulted, is_waiting, is_shut, fault_of, Core, status_of}
@@ -28,10 +28,6 @@ unfaulted-cons core f fs =
       | true ↦ ap (λ n. take n (f ∷ fs)) (one-add (prefix_len (λ g. not (is_faulted core g)) fs))
       | false ↦ refl
     ]
-
-first-cons_option : (o : Option SimFault) (faults : List SimFault) → first (cons_option o faults) ≡ option_or o (first faults)
-first-cons_option None faults = refl
-first-cons_option (Some fault) faults = refl
 
 pub first_fault-cons : (core : Core) (f : ℕ) (fs : List ℕ) → first_fault core (f ∷ fs) ≡ option_or (fault_of (status_of core f)) (first_fault core fs)
 first_fault-cons core f fs = first-cons_option (fault_of (status_of core f)) (filter_map (λ g. fault_of (status_of core g)) fs)

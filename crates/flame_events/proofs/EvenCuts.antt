@@ -33,7 +33,7 @@ piece_sizes_are_shares agents pieces some = (share_covers agents pieces some, λ
 
 -- ---- pieces
 
-none_to_run : (more size : ℕ) → runs more size (let nobody : List (List ℤ) = [] in nobody) ≡ []
+pub none_to_run : (more size : ℕ) → runs more size (let nobody : List (List ℤ) = [] in nobody) ≡ []
 none_to_run zero size = refl
 none_to_run (suc more) size = refl
 

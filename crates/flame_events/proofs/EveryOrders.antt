@@ -1,12 +1,14 @@
 -- Every order of events comes to the iteration.
-use Rattle.std.proofs.Common.{◌≡◌, ℕ, zero, suc, Bool, true, false, cond, List, [], ◌∷◌, ◌++◌, length, map, Option, Some, None, refl, sym, ap, ◌∙◌, arith, subst}
-use Rattle.std.specs.Prelude.{slice_get, slice_index_or}
+use Rattle.std.proofs.Common.{◌≡◌, ℕ, Bool, true, false, cond, List, [], ◌∷◌, ◌++◌, length, map, Option, Some, None, refl, sym, ap, ◌∙◌, arith, subst}
+use Rattle.std.specs.Prelude.{slice_get}
 use Rattle.std.specs.List.{zip}
 use Rattle.std.proofs.lemmas.Bool.{true≢false}
+use Rattle.std.proofs.lemmas.List.{length-map}
 use Rattle.flame_rows.specs.Order.{row_order}
 use Rattle.flame_rows.specs.Sorted.{IsAscending}
 use Rattle.flame_rows.specs.Bags.{ascending, weigh}
 use Rattle.flame_rows.proofs.BagLaws.{IsAscending-ascending, weigh-append}
+use Rattle.flame_rows.proofs.Lists.{slice_index_or-map_one}
 use Rattle.flame_spec.specs.declared.models.Model.{Model}
 use Rattle.flame_spec.specs.declared.models.AgentType.{AgentType}
 use Rattle.flame_spec.specs.declared.models.MessageType.{MessageType}
@@ -40,15 +42,6 @@ use Rattle.flame_events.proofs.Ends.{core_end}
 use Rattle.flame_events.proofs.GoingOn.{can_go_on}
 
 -- ---- where an iteration begins
-
-length-map : {X Y : Type 0} (f : X → Y) (xs : List X) → length (map f xs) ≡ length xs
-length-map f [] = refl
-length-map f (x ∷ xs) = ap suc (length-map f xs)
-
-all_one : {X Y : Type 0} (y : Y) (xs : List X) (k : ℕ) → slice_index_or (map (λ (x : X). y) xs) k y ≡ y
-all_one y [] k = refl
-all_one y (x ∷ xs) zero = refl
-all_one y (x ∷ xs) (suc k) = all_one y xs k
 
 begun_up : (type : AgentType) (agents : Rows) → Each (IsAscending row_order) (begun type agents)
 begun_up type agents =
@@ -89,17 +82,17 @@ begins round agents t many =
           (λ memory. ap (λ b. cond b (w memory) 0) (always (choice_at round p memory))) in
           omega (arith, none, all, weigh-append w (from p) (all_from n (into model t (λ g. []) p)));
       boards = λ m w less.
-          ap (weigh w) (all_one [] model.messages m)
+          ap (weigh w) (slice_index_or-map_one [] model.messages m)
           ∙ sym (weigh-all_from-none w n (onto model t (λ g. []) m) (λ g. nothing_from (is_in m (outputs_of model g)) w));
       born = λ k w less.
-          ap (weigh w) (all_one [] model.agents k) ∙ sym (weigh-all_from-none w n (bore t (λ g. []) k) (λ g. refl));
+          ap (weigh w) (slice_index_or-map_one [] model.agents k) ∙ sym (weigh-all_from-none w n (bore t (λ g. []) k) (λ g. refl));
       pools_up = λ p. pool-IsAscending field.pools p.agent (state_at (slice_get model.agents p.agent) p.state) (pools_up model agents);
-      boards_up = λ m. subst (IsAscending row_order) (sym (all_one [] model.messages m)) tt;
-      born_up = λ k. subst (IsAscending row_order) (sym (all_one [] model.agents k)) tt;
+      boards_up = λ m. subst (IsAscending row_order) (sym (slice_index_or-map_one [] model.messages m)) tt;
+      born_up = λ k. subst (IsAscending row_order) (sym (slice_index_or-map_one [] model.agents k)) tt;
       shape = record {
         pools = pools_begin model agents many;
-        born = length-map (λ (type : AgentType). []) model.agents;
-        boards = length-map (λ (message : MessageType). []) model.messages;
+        born = (length-map model.agents (λ (type : AgentType). []));
+        boards = (length-map model.messages (λ (message : MessageType). []));
       };
     }
 
@@ -109,7 +102,7 @@ sound_opening round agents t many =
     let model = round.source.model in
     let core = opening_core model agents in
     let from = λ (p : Spot). pool_at model (opening model agents).pools p in
-    let waits : (λ (f : ℕ). Waiting) ≡ status_of core = λ i f. sym (all_one Waiting (functions model) f) i in
+    let waits : (λ (f : ℕ). Waiting) ≡ status_of core = λ i f. sym (slice_index_or-map_one Waiting (functions model) f) i in
     let facts =
     subst (λ (status : ℕ → Status).
     Holds round from t (opening model agents) (λ f. is_waiting (status f))
@@ -118,13 +111,13 @@ sound_opening round agents t many =
     × ((f : ℕ) → is_waiting (status f) ≡ false → ⊥))
     waits (begins round agents t many, (λ f. tt), (λ f e. true≢false e)) in
     record {
-      long = length-map (λ place. Waiting) (functions model);
-      marks = length-map (λ message. false) model.messages;
+      long = (length-map (functions model) (λ place. Waiting));
+      marks = (length-map model.messages (λ message. false));
       holds = facts.0;
       fits = facts.1;
       early = λ g f less stands e. absurd (facts.2 f e);
       fed = λ f e. absurd (facts.2 f e);
-      written = λ m g less frozen writes. absurd (true≢false (sym frozen ∙ all_one false model.messages m));
+      written = λ m g less frozen writes. absurd (true≢false (sym frozen ∙ slice_index_or-map_one false model.messages m));
     }
 
 -- ---- the theorem

@@ -2,10 +2,11 @@
 use Rattle.std.proofs.Common.{◌≡◌, ℕ, zero, suc, ◌+◌, ◌<◌, ◌≤◌, Bool, true, false, cond, List, [], ◌∷◌, ◌++◌, length, map, Option, Some, None, refl, sym, ap, ◌∙◌, arith, subst, append-nil, append_assoc, one-add, set-set, get_or-set_same}
 use Rattle.std.specs.Prelude.{◌==◌, not, is_some, slice_get, slice_set, slice_index_or}
 use Rattle.std.specs.List.{list_all, position_or_len}
-use Rattle.std.proofs.lemmas.Bool.{and_from, eq-eqb, eqb-true, false≢true}
-use Rattle.std.proofs.lemmas.List.Sums.{sum_by-cons, sum_by-append}
+use Rattle.std.proofs.lemmas.Bool.{and_from, eq-eqb, false≢true, ne_eqb}
+use Rattle.std.proofs.lemmas.List.Sums.{sum_by-cons}
 use Rattle.flame_rows.specs.Bags.{merge}
 use Rattle.flame_spec.specs.Below.{times, HasNoTwice}
+use Rattle.flame_spec.proofs.FirstBelow.{times-append}
 use Rattle.flame_world.specs.Fields.{changed}
 use Rattle.flame_world.specs.Iterations.{Round}
 use Rattle.flame_events.specs.declared.events.Event.TheVariants as event
@@ -32,9 +33,6 @@ one_if m output = cond (output == m) 1 0
 
 times-cons : (m output : ℕ) (outs : List ℕ) → times m (output ∷ outs) ≡ one_if m output + times m outs
 times-cons m output outs = sum_by-cons (one_if m) output outs
-
-times-append : (m : ℕ) (outs more : List ℕ) → times m (outs ++ more) ≡ times m outs + times m more
-times-append m outs more = sum_by-append (one_if m) outs more
 
 -- an output that does not stand in a list is no head of it
 apart : (m output : ℕ) (outs : List ℕ) → times m (output ∷ outs) ≡ 0 → ((output == m) ≡ false) × (times m outs ≡ 0)
@@ -79,18 +77,11 @@ part_else m i outs part parts else =
     ap (λ b. slice_index_or (part ∷ parts) (cond (not b) (1 + position_or_len (λ o. o == i) outs) 0) None) else
     ∙ ap (λ k. slice_index_or (part ∷ parts) k None) (one-add (position_or_len (λ o. o == i) outs))
 
-not_same : (m i : ℕ) → (m ≡ i → ⊥) → (m == i) ≡ false
-not_same m i differ = go (m == i) refl
-  where
-    go : (b : Bool) → (m == i) ≡ b → b ≡ false
-    go true is = absurd (differ (eqb-true m i is))
-    go false is = refl
-
 module _ (m : ℕ) (outs : List ℕ) (rows : Rows) (parts : Parts) (none : times m outs ≡ 0) (long : length parts ≡ length outs) where
   later : (i : ℕ) (boards : List Rows) → m < i → with_parts outs parts i boards ≡ with_parts (m ∷ outs) (Some rows ∷ parts) i boards
   later i [] less = refl
   later i (board ∷ boards) less =
-      let here = ap (λ part. with_part part board) (sym (part_else m i outs (Some rows) parts (not_same m i (λ same. absurd (omega (arith, same, less)))))) in
+      let here = ap (λ part. with_part part board) (sym (part_else m i outs (Some rows) parts (ne_eqb m i (λ same. absurd (omega (arith, same, less)))))) in
       let rest = later (i + 1) boards (omega (arith, less)) in
       λ j. here j ∷ rest j
 
@@ -107,7 +98,7 @@ module _ (m : ℕ) (outs : List ℕ) (rows : Rows) (parts : Parts) (none : times
       let rest = later (i + 1) boards (omega (arith, same)) in
       λ j. here j ∷ rest j
   joined (suc d) i (board ∷ boards) is =
-      let here = ap (λ part. with_part part board) (sym (part_else m i outs (Some rows) parts (not_same m i (λ same. absurd (omega (arith, same, is)))))) in
+      let here = ap (λ part. with_part part board) (sym (part_else m i outs (Some rows) parts (ne_eqb m i (λ same. absurd (omega (arith, same, is)))))) in
       let rest = joined d (i + 1) boards (omega (arith, is)) in
       λ j. here j ∷ rest j
 

@@ -2,6 +2,7 @@
 use Rattle.std.proofs.Common.{◌≡◌, ℕ, ◌+◌, ◌<◌, ⊎_elim, true, false, cond, List, [], length, Option, Some, None, refl, sym, ap, ◌∙◌, arith, subst}
 use Rattle.std.specs.Prelude.{◌==◌, slice_set, slice_index_or, is_none}
 use Rattle.std.proofs.lemmas.Bool.{cases_eq, eq-eqb, ne_eqb, and_parts, not-true, true≢false}
+use Rattle.std.proofs.lemmas.Option.{slice_get_within}
 use Rattle.flame_rows.specs.Order.{row_order}
 use Rattle.flame_rows.specs.Sorted.{IsAscending}
 use Rattle.flame_rows.specs.Bags.{merge, weigh}
@@ -15,13 +16,14 @@ use Rattle.flame_events.specs.CoreStates.{Work, Status, Open, is_waiting, is_shu
 use Rattle.flame_events.specs.LegalEvents.{outputs_of, may_hand_in}
 use Rattle.flame_events.specs.EventSteps.{joined_board, handed_in as after_hand_in}
 use Rattle.flame_events.proofs.Weights.{Rows, Weight}
-use Rattle.flame_events.proofs.Spots.{Spot, get_there, get_below, output_named, same_spot, enters, pool_at}
+use Rattle.flame_events.proofs.Spots.{Spot, get_there, output_named, same_spot, enters, pool_at}
 use Rattle.flame_events.proofs.Holding.{Ideal, lived, sent, born, sent-append}
-use Rattle.flame_events.proofs.Pools.{length-changed, changed-here, changed-else}
+use Rattle.flame_events.proofs.Pools.{changed-here, changed-else}
 use Rattle.flame_events.proofs.Moves.{put, put-else, Adds, holds-more}
 use Rattle.flame_events.proofs.Works.{its_ran, its_agents, its_handed, ran_rows, handed_rows, PieceFits, gather_set, gather_same, each_set, kept_is_output, without, part_in-without, part_in-without-else, fits_part}
 use Rattle.flame_events.proofs.Sound.{still_in, ran_in, handed_in, Sound, sound_change}
 use Rattle.flame_events.proofs.Running.{IsOpen, is_open, at_new, nothing_of}
+use Rattle.flame_world.proofs.Counting.{length-changed}
 
 -- ---- messages are handed in
 
@@ -53,7 +55,7 @@ module _ (round : Round) (start : Spot → Rows) (t : Ideal) (core : Core) (f k 
   message_there =
       let place = get_there (functions round.source.model) f now.below in
       let output = output_named round.source.model place.0 m (sym (ap (λ o. is_in m (outputs_at o round.source.model)) place.1) ∙ writes) in
-      get_below round.source.model.messages m output.named.message output.named.there
+      slice_get_within round.source.model.messages m output.named.message output.named.there
 
   board_there : m < length core.field.boards
   board_there = omega (arith, message_there, h.holds.shape.boards)

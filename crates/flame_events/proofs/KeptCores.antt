@@ -1,9 +1,11 @@
 -- What holds of each core that legal events lead to: lengths, that frozen boards have their writers shut, and what its pieces keep.
-use Rattle.std.proofs.Common.{◌≡◌, ℕ, zero, suc, ◌<◌, ◌≤◌, ⊎_elim, Bool, true, false, List, [], ◌∷◌, length, map, Option, Some, None, refl, sym, ap, ◌∙◌, arith, subst, length-set}
+use Rattle.std.proofs.Common.{◌≡◌, ℕ, zero, suc, ◌<◌, ◌≤◌, ⊎_elim, true, false, List, [], ◌∷◌, length, map, Option, Some, None, refl, sym, ap, ◌∙◌, arith, subst, length-set}
 use Rattle.std.specs.Prelude.{◌==◌, ◌&&◌, nat_lt, not, is_some, slice_get, slice_set, slice_index_or}
 use Rattle.std.specs.List.{list_all, position_or_len}
-use Rattle.std.proofs.lemmas.Bool.{and_parts, cases_Bool, cases_lt, ltb-true, lt-ltb, true≢false, false≢true}
+use Rattle.std.proofs.lemmas.Bool.{and_parts, cases_Bool, cases_lt, ltb-true, lt-ltb, true≢false, false≢true, not-true}
 use Rattle.std.proofs.lemmas.List.{length-map}
+use Rattle.std.proofs.lemmas.Option.{slice_get_within}
+use Rattle.flame_rows.proofs.Lists.{slice_index_or-map_one}
 use Rattle.flame_spec.specs.declared.models.Model.{Model}
 use Rattle.flame_spec.specs.declared.outcomes.Outcome.{Outcome}
 use Rattle.flame_spec.specs.declared.outcomes.Sent.{Sent}
@@ -25,11 +27,12 @@ use Rattle.flame_events.specs.EventSteps.{fresh_work, opened, with_sent, with_ag
 use Rattle.flame_events.specs.CoreLaws.{EventsLeadTo, WhatBeganMayBegin, FrozenBoardsAreWritten, PiecesAreFewAndFilled, UnrunPiecesAreFresh, PartsAreKeptUntilAllRan, BoardsGatherWhatIsHandedIn}
 use Rattle.flame_events.proofs.EvenCuts.{cuts_are_even}
 use Rattle.flame_events.proofs.Weights.{Row, Rows}
-use Rattle.flame_events.proofs.Spots.{get_there, get_below, output_named}
-use Rattle.flame_events.proofs.Works.{each_at, each_set, kept_is_output, length-with_sent, all_of_list, without}
+use Rattle.flame_events.proofs.Spots.{get_there, output_named}
+use Rattle.flame_events.proofs.Works.{each_set, kept_is_output, length-with_sent, all_of_list, without}
 use Rattle.flame_events.proofs.Sound.{set_table, put_all, both_wait, can_open, opens_with, past_waiting}
 use Rattle.flame_events.proofs.Legality.{may_shut_is, each_also, in_writers, put_true, frozen_cases}
-use Rattle.flame_events.proofs.CoreWidths.{status_below, all_one}
+use Rattle.flame_events.proofs.CoreWidths.{status_below}
+use Rattle.flame_meaning.proofs.Eachs.{each_at, each_from}
 
 pub record KeptWork (outs : List ℕ) (work : Work) : Type 0 where
   pub some : 0 < length work.agents
@@ -89,10 +92,6 @@ kept_work model pieces core f k work new b kept at fine =
 
 -- ---- a function is opened
 
-each_of : {X : Type 0} (P : X → Type 0) (xs : List X) → ((k : ℕ) (x : X) → slice_get xs k ≡ Some x → P x) → Each P xs
-each_of P [] go = tt
-each_of P (x ∷ xs) go = (go 0 x refl, each_of P xs (λ k y at. go (suc k) y at))
-
 cut_few : (pieces : ℕ) (agents : Rows) → length (cut pieces agents) ≤ pieces
 cut_few zero agents = omega arith
 cut_few (suc pieces) agents = (cuts_are_even agents (suc pieces) (omega arith)).few
@@ -100,7 +99,7 @@ cut_few (suc pieces) agents = (cuts_are_even agents (suc pieces) (omega arith)).
 cut_filled : (pieces : ℕ) (agents : Rows) → Each (λ bag. 0 < length bag) (cut pieces agents)
 cut_filled zero agents = tt
 cut_filled (suc pieces) agents =
-    each_of (λ bag. 0 < length bag) (cut (suc pieces) agents) (λ k bag at. ((cuts_are_even agents (suc pieces) (omega arith)).filled k bag at).0)
+    each_from (λ bag. 0 < length bag) (cut (suc pieces) agents) (λ k bag at. ((cuts_are_even agents (suc pieces) (omega arith)).filled k bag at).0)
 
 fresh_is_some : (outs : List ℕ) (agents : Rows) → list_all is_some (fresh_work outs agents).parts ≡ true
 fresh_is_some [] agents = refl
@@ -150,7 +149,7 @@ kept_agent : (round : Round) (f : ℕ) (work : Work) (memory : Row) (outcome : O
     → slice_get work.agents work.ran ≡ Some memory → KeptWork (outputs_of round.source.model f) (with_agent round f work memory outcome)
 kept_agent round f work memory outcome kept at =
     let outs = outputs_of round.source.model f in
-    let there : has_left work ≡ true = lt-ltb work.ran (length work.agents) (get_below work.agents work.ran memory at) in
+    let there : has_left work ≡ true = lt-ltb work.ran (length work.agents) (slice_get_within work.agents work.ran memory at) in
     record {
       some = kept.some;
       long = length-with_sent outs (sent_by outcome) work.parts kept.long;
@@ -175,10 +174,6 @@ kept_next round pieces core f k (Some place) (Some work) kept there = kept_ran r
 
 -- ---- messages are handed in
 
-not_true : (b : Bool) → not b ≡ true → b ≡ false
-not_true true h = absurd (false≢true h)
-not_true false h = refl
-
 kept_without : (outs : List ℕ) (m : ℕ) (work : Work) → KeptWork outs work → has_left work ≡ false → KeptWork outs (without outs m work)
 kept_without outs m work kept over = record {
   some = kept.some;
@@ -200,7 +195,7 @@ kept_handed : (model : Model) (pieces : ℕ) (core : Core) (f k m : ℕ) (work :
 kept_handed model pieces core f k m None kept there legal = kept
 kept_handed model pieces core f k m (Some work) kept there legal =
     let both = and_parts (not (has_left work)) (is_some (part_in (outputs_of model f) work.parts m)) legal in
-    kept_joined model pieces core f k m work (part_in (outputs_of model f) work.parts m) kept there (not_true (has_left work) both.0)
+    kept_joined model pieces core f k m work (part_in (outputs_of model f) work.parts m) kept there (not-true (has_left work) both.0)
 
 -- ---- a function is done, or a board complete
 
@@ -273,9 +268,9 @@ kept_opening : (model : Model) (pieces : ℕ) (agents : List Rows) → KeptCore 
 kept_opening model pieces agents = record {
   long = length-map (functions model) (λ place. Waiting);
   marks = length-map model.messages (λ message. false);
-  begun = λ f waits. absurd (true≢false (sym (ap is_waiting (all_one Waiting (functions model) f)) ∙ waits));
-  written = λ m frozen. absurd (true≢false (sym frozen ∙ all_one false model.messages m));
-  works = λ f. subst (λ s. KeptWorks (outputs_of model f) pieces (works_of s)) (sym (all_one Waiting (functions model) f)) (record { few = omega arith; each = tt });
+  begun = λ f waits. absurd (true≢false (sym (ap is_waiting (slice_index_or-map_one Waiting (functions model) f)) ∙ waits));
+  written = λ m frozen. absurd (true≢false (sym frozen ∙ slice_index_or-map_one false model.messages m));
+  works = λ f. subst (λ s. KeptWorks (outputs_of model f) pieces (works_of s)) (sym (slice_index_or-map_one Waiting (functions model) f)) (record { few = omega arith; each = tt });
 }
 
 pub kept_core : (round : Round) (pieces : ℕ) (core : Core) → EventsLeadTo round pieces core → KeptCore round.source.model pieces core
@@ -327,7 +322,7 @@ boards_gather_what_is_handed_in round pieces f k m core led legal = by_work (wor
         let below : f < function_count model = omega (arith, status_below core f k work there, kept.long) in
         let place = get_there (functions model) f below in
         let output = output_named model place.0 m (sym (ap (λ o. is_in m (outputs_at o model)) place.1) ∙ writes) in (
-          get_below model.messages m output.named.message output.named.there,
+          slice_get_within model.messages m output.named.message output.named.there,
           ⊎_elim
               (λ (frozen : is_frozen core m ≡ true).
               absurd (false≢true (sym (ap is_shut (opens_with (status_of core f) k work there))

@@ -4,6 +4,8 @@ use Rattle.std.specs.Prelude.{◌==◌, ◌||◌, slice_get, slice_index_or, opt
 use Rattle.std.specs.List.{filter, filter_map, cons_option}
 use Rattle.std.specs.Str.{bytes_eq}
 use Rattle.std.proofs.lemmas.Bool.{cases_order, eqb-true, true≢false, false≢true}
+use Rattle.std.proofs.lemmas.Option.{slice_get_within}
+use Rattle.flame_rows.proofs.Bytes.{bytes_eq-true, bytes_eq-same}
 use Rattle.flame_spec.specs.declared.models.Model.{Model}
 use Rattle.flame_spec.specs.declared.models.MessageType.{MessageType}
 use Rattle.flame_spec.specs.declared.outcomes.Sent.{Sent}
@@ -22,7 +24,7 @@ use Rattle.flame_spec_laws.specs.NameLaws.{MessagesDiffer}
 use Rattle.flame_world.specs.AgentRuns.{sent_by, messages_of}
 use Rattle.flame_world.specs.Fields.{Field}
 use Rattle.flame_world.specs.Iterations.{Round, outcome_in}
-use Rattle.flame_events.proofs.Spots.{get_there, get_below, same_text, text_same, named}
+use Rattle.flame_events.proofs.Spots.{get_there, named}
 use Rattle.flame_events.proofs.Serial.{is_in-self, is_in-later, ideal, met, Sends}
 
 -- ---- what has a name is found
@@ -60,8 +62,8 @@ one_number messages j k one other differ at there same =
     ⊎_elim
     (λ (equal : j ≡ k). equal)
     (λ rest. ⊎_elim
-    (λ (less : j < k). absurd (differ j k less (omega (arith, length-names messages, get_below messages k other there)) names))
-    (λ (more : k < j). absurd (differ k j more (omega (arith, length-names messages, get_below messages j one at)) (sym names)))
+    (λ (less : j < k). absurd (differ j k less (omega (arith, length-names messages, slice_get_within messages k other there)) names))
+    (λ (more : k < j). absurd (differ k j more (omega (arith, length-names messages, slice_get_within messages j one at)) (sym names)))
     rest)
     (cases_order j k)
 
@@ -81,7 +83,7 @@ among_at : (name : List ℕ) (names : List (List ℕ)) → is_among name names �
 among_at name [] among = absurd (false≢true among)
 among_at name (other ∷ names) among =
     (elim (bytes_eq name other) as (λ t. bytes_eq name other ≡ t → (t || is_among name names) ≡ true → (k : ℕ) × (slice_get (other ∷ names) k ≡ Some name)) [
-      | true ↦ λ same _. (0, ap Some (sym (same_text name other same)))
+      | true ↦ λ same _. (0, ap Some (sym (bytes_eq-true name other same)))
       | false ↦ λ _ later. let found = among_at name names later in (suc found.0, found.1)
     ])
     refl among
@@ -96,7 +98,7 @@ output_number model place m message differ at among =
   where
     go : (o : Option (ℕ × MessageType)) → message_named model.messages message.name ≡ o → option_map (λ (found : ℕ × MessageType). found.0) o ≡ Some m
     go None is = absurd (found_by (λ (other : MessageType). bytes_eq other.name message.name) 0 model.messages m message at
-        (text_same message.name message.name refl) is)
+        (bytes_eq-same message.name message.name refl) is)
     go (Some found) is =
         let there = named model message.name found.0 (ap (option_map (λ (found : ℕ × MessageType). found.0)) is) in
         ap Some (one_number model.messages found.0 m there.message message differ there.there at there.name_is)

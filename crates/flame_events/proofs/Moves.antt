@@ -20,8 +20,9 @@ use Rattle.flame_world.proofs.Eachs.{zip_changed}
 use Rattle.flame_events.specs.LegalEvents.{outputs_of}
 use Rattle.flame_events.proofs.Weights.{Row, Rows, Weight, only, weigh-filter, weigh-same, IsAscending-filter, all_from, weigh-all_from-more}
 use Rattle.flame_events.proofs.Spots.{Spot, same_spot, same_spot-true, true-same_spot, leaves_at, leaves, enters_at, enters, pool_at, choice_at, choice_leaves, at_type}
-use Rattle.flame_events.proofs.Pools.{length-changed, changed_pool-here, changed_pool-else}
+use Rattle.flame_events.proofs.Pools.{changed_pool-here, changed_pool-else}
 use Rattle.flame_events.proofs.Holding.{Ideal, lived, sent, born, into, onto, bore, rests, resting, HasShape, Holds}
+use Rattle.flame_world.proofs.Counting.{length-changed}
 
 -- ---- tables
 

@@ -7,6 +7,7 @@ use Rattle.std.proofs.lemmas.Bool.{cases_eq, cases_Bool, or_parts, false≢true}
 use Rattle.std.proofs.lemmas.List.Folds.{list_any-append}
 use Rattle.std.proofs.lemmas.Slice.Zip.{AllZip-long}
 use Rattle.flame_rows.specs.Bags.{merge}
+use Rattle.flame_rows.proofs.Bytes.{bytes_eq-true, bytes_eq-same}
 use Rattle.flame_spec.specs.declared.models.Model.{Model}
 use Rattle.flame_spec.specs.declared.models.AgentType.{AgentType}
 use Rattle.flame_spec.specs.declared.models.Function.{Function}
@@ -15,14 +16,9 @@ use Rattle.flame_spec.specs.States.{distinct_after, states, ends, state_place}
 use Rattle.flame_world.specs.Fields.{Field, HasPools, pool_in, changed, changed_pool, joined_from, joined}
 use Rattle.flame_world.proofs.Eachs.{zip_at}
 use Rattle.flame_events.proofs.Weights.{Rows}
-use Rattle.flame_events.proofs.Spots.{Spot, state_at, pool_at, same_text, text_same, get_there}
+use Rattle.flame_events.proofs.Spots.{Spot, state_at, pool_at, get_there}
 
 -- ---- one element changed
-
-pub length-changed : {X : Type 0} (place : ℕ) (change : X → X) (xs : List X) → length (changed place change xs) ≡ length xs
-length-changed place change [] = refl
-length-changed zero change (x ∷ xs) = refl
-length-changed (suc place) change (x ∷ xs) = ap suc (length-changed place change xs)
 
 pub changed-here : {X : Type 0} (place : ℕ) (change : X → X) (d : X) (xs : List X)
     → place < length xs → slice_index_or (changed place change xs) place d ≡ change (slice_index_or xs place d)
@@ -64,7 +60,7 @@ places_apart type state other within same =
     let two = position-passes (λ text. bytes_eq text other) [] (states type.functions) there in
     let here : slice_index_or (states type.functions) (state_place type other) [] ≡ slice_index_or (states type.functions) (state_place type state) [] =
     ap (λ k. slice_index_or (states type.functions) k []) same in
-    sym (same_text _ other two) ∙ here ∙ same_text _ state one
+    sym (bytes_eq-true _ other two) ∙ here ∙ bytes_eq-true _ state one
 
 -- each element differs from those before it
 abbrev Apart : List (List ℕ) → List (List ℕ) → Type 0
@@ -98,14 +94,14 @@ head_apart earlier texts text k less apart =
     let differs = or_parts (bytes_eq (slice_index_or texts k []) text) false parts.1 in
     ⊎_elim
     (λ (same : bytes_eq text (slice_index_or texts k []) ≡ true).
-    absurd (false≢true (sym differs.0 ∙ text_same (slice_index_or texts k []) text (sym (same_text text (slice_index_or texts k []) same)))))
+    absurd (false≢true (sym differs.0 ∙ bytes_eq-same (slice_index_or texts k []) text (sym (bytes_eq-true text (slice_index_or texts k []) same)))))
     (λ (apart : bytes_eq text (slice_index_or texts k []) ≡ false). apart)
     (cases_Bool (bytes_eq text (slice_index_or texts k [])))
 
 position_apart : (earlier texts : List (List ℕ)) (k : ℕ) → k < length texts → Apart earlier texts
     → position_or_len (λ other. bytes_eq other (slice_index_or texts k [])) texts ≡ k
 position_apart earlier [] k less apart = absurd (omega (arith, less))
-position_apart earlier (text ∷ texts) zero less apart = ap (λ t. cond (not t) (1 + position_or_len (λ other. bytes_eq other text) texts) 0) (text_same text text refl)
+position_apart earlier (text ∷ texts) zero less apart = ap (λ t. cond (not t) (1 + position_or_len (λ other. bytes_eq other text) texts) 0) (bytes_eq-same text text refl)
 position_apart earlier (text ∷ texts) (suc k) less apart =
     let later = position_apart (earlier ++ text ∷ []) texts k (omega (arith, less)) apart.1 in
     let differs = head_apart earlier texts text k (omega (arith, less)) apart.1 in

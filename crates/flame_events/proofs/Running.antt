@@ -19,8 +19,9 @@ use Rattle.flame_events.proofs.Holding.{Ideal, lived, sent, born, lived-append, 
 use Rattle.flame_events.proofs.Pools.{length-joined}
 use Rattle.flame_events.proofs.Moves.{put, put-same, put-else, Adds, holds-more, Arrives, rows_arrive}
 use Rattle.flame_events.proofs.Serial.{joined-up, weigh-joined}
-use Rattle.flame_events.proofs.Works.{its_ran, its_agents, its_handed, ran_rows, handed_rows, PieceFits, OpenFits, Fits, gather_set, gather_same, each_at, each_set, take_next, fits_agent, handed_agent}
+use Rattle.flame_events.proofs.Works.{its_ran, its_agents, its_handed, ran_rows, handed_rows, PieceFits, OpenFits, Fits, gather_set, gather_same, each_set, take_next, fits_agent, handed_agent}
 use Rattle.flame_events.proofs.Sound.{still_in, ran_in, handed_in, Sound, core_runs, sound_change, opens_with, open_below, nobody_waits_less}
+use Rattle.flame_meaning.proofs.Eachs.{each_at}
 
 -- ---- a function that is open
 

@@ -4,6 +4,7 @@ use Rattle.std.specs.Prelude.{◌==◌, ◌&&◌, nat_lt, not, is_some, sum_by, 
 use Rattle.std.specs.List.{list_all, position_or_len}
 use Rattle.std.proofs.lemmas.Bool.{and_parts, cases_Bool, cases_lt, ltb-true, true≢false, false≢true}
 use Rattle.std.proofs.lemmas.List.Sums.{sum_by-cons, sum_by-set}
+use Rattle.std.proofs.lemmas.Option.{slice_get_within}
 use Rattle.flame_rows.specs.Bags.{merge}
 use Rattle.flame_spec.specs.declared.outcomes.Outcome.{Outcome}
 use Rattle.flame_spec.specs.declared.outcomes.Sent.{Sent}
@@ -20,12 +21,13 @@ use Rattle.flame_events.specs.EventSteps.{fresh_work, opened, with_sent, with_ag
 use Rattle.flame_events.specs.CoreFits.{FitsWork, FitsCore}
 use Rattle.flame_events.specs.EventBounds.{turns_left, events_left, piece_events_left, pieces_left, is_of_piece, EventsRunOut, PieceEventsRunOut, LegalEventsAreBounded, PieceEventsAreBounded}
 use Rattle.flame_events.proofs.Weights.{Row, Rows}
-use Rattle.flame_events.proofs.Spots.{get_there, get_below}
-use Rattle.flame_events.proofs.Works.{each_at, past_end, without}
+use Rattle.flame_events.proofs.Spots.{get_there}
+use Rattle.flame_events.proofs.Works.{past_end, without}
 use Rattle.flame_events.proofs.Sound.{waiting_is, can_open, opens_with}
 use Rattle.flame_events.proofs.Legality.{may_shut_is}
 use Rattle.flame_events.proofs.CoreWidths.{status_below, fitting_cores_stay}
 use Rattle.flame_events.proofs.KeptCores.{open_there}
+use Rattle.flame_meaning.proofs.Eachs.{each_at}
 
 -- ---- events of functions and boards
 
@@ -83,9 +85,6 @@ events_run_out round pieces core (event.Freeze m) fits legal kind = frozen_once 
 
 -- ---- events of pieces
 
-works_left : Status → ℕ
-works_left status = sum_by piece_events_left (works_of status)
-
 got_is : {X : Type 0} (xs : List X) (k : ℕ) (x : X) → slice_get xs k ≡ Some x → slice_index_or xs k x ≡ x
 got_is [] k x at = refl
 got_is (y ∷ xs) zero x at = cc
@@ -111,7 +110,7 @@ module _ (core : Core) (f k : ℕ) (work new : Work) (there : work_of core f k �
   pieces_fall : piece_events_left new + 1 ≡ piece_events_left work
       → sum_by (λ status. sum_by piece_events_left (works_of status)) (with_work core f k new) + 1 ≡ pieces_left core
   pieces_fall one =
-      let within = get_below works k work there in
+      let within = slice_get_within works k work there in
       let inner = sum_by-set piece_events_left works k new work within in
       let old : piece_events_left (slice_index_or works k work) ≡ piece_events_left work = ap piece_events_left (got_is works k work there) in
       let outer = sum_by-set (λ status. sum_by piece_events_left (works_of status)) core.statuses f v Waiting less in
@@ -141,7 +140,7 @@ sent_count (output ∷ outs) messages (part ∷ parts) long =
 agent_once : (round : Round) (f : ℕ) (work : Work) (memory : Row) (outcome : Outcome) → length work.parts ≡ length (outputs_of round.source.model f)
     → slice_get work.agents work.ran ≡ Some memory → piece_events_left (with_agent round f work memory outcome) + 1 ≡ piece_events_left work
 agent_once round f work memory outcome long at =
-    omega (arith, sent_count (outputs_of round.source.model f) (sent_by outcome) work.parts long, get_below work.agents work.ran memory at)
+    omega (arith, sent_count (outputs_of round.source.model f) (sent_by outcome) work.parts long, slice_get_within work.agents work.ran memory at)
 
 agent_out : (round : Round) (core : Core) (f k : ℕ) (place : Place) (work : Work) (memory : Option Row) → FitsWork round.source.model f place.type work
     → work_of core f k ≡ Some work → has_left work ≡ true → slice_get work.agents work.ran ≡ memory

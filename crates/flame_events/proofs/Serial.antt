@@ -3,11 +3,13 @@ use Rattle.std.proofs.Common.{◌≡◌, ℕ, zero, suc, ◌+◌, ◌<◌, ◌�
 use Rattle.std.specs.Prelude.{not, ◌==◌, ◌||◌, nat_lt, slice_get, slice_index_or, option_map}
 use Rattle.std.specs.Option.{option_or}
 use Rattle.std.specs.List.{filter, filter_map, cons_option}
-use Rattle.std.proofs.lemmas.Bool.{cases_eq, cases_lt, eqb-true, eq-eqb, ne_eqb, or_cases, or_left, or_right, or_parts, or_from, true≢false, false≢true}
+use Rattle.std.proofs.lemmas.Bool.{cases_lt, eqb-true, eq-eqb, ne_eqb, or_cases, or_left, or_right, or_parts, or_from, true≢false, false≢true}
+use Rattle.std.proofs.lemmas.Option.{slice_get_within}
 use Rattle.flame_rows.specs.Order.{row_order}
 use Rattle.flame_rows.specs.Sorted.{IsAscending}
 use Rattle.flame_rows.specs.Bags.{merge, weigh}
 use Rattle.flame_rows.proofs.BagLaws.{merge_adds_weights, IsAscending-merge}
+use Rattle.flame_rows.proofs.Truths.{eqb-sym}
 use Rattle.flame_spec.specs.declared.models.Model.{Model}
 use Rattle.flame_spec.specs.declared.models.Input.{Input}
 use Rattle.flame_spec.specs.declared.models.MessageType.{MessageType}
@@ -29,7 +31,7 @@ use Rattle.flame_world.specs.Fields.{Field, pool_in, changed_pool, joined}
 use Rattle.flame_world.specs.Iterations.{Round, taking, outcome_in, moved}
 use Rattle.flame_events.specs.LegalEvents.{inputs_at, inputs_of, outputs_of}
 use Rattle.flame_events.proofs.Weights.{Row, Rows, Weight, only, weigh-same}
-use Rattle.flame_events.proofs.Spots.{Spot, get_below, leaves_at, leaves, enters, state_at, pool_at, choice_at, choice_leaves, enters_before, at_type}
+use Rattle.flame_events.proofs.Spots.{Spot, leaves_at, leaves, enters, state_at, pool_at, choice_at, choice_leaves, enters_before, at_type}
 use Rattle.flame_events.proofs.Pools.{length-joined, joined-at}
 use Rattle.flame_events.proofs.Holding.{Ideal, lived, sent, born, messages_of-append, takes, over, rests, resting, Holds}
 use Rattle.flame_events.proofs.Moves.{put, left, holds-opened, holds-more, Arrives, rows_arrive}
@@ -46,10 +48,6 @@ pub is_in-cases : (g f : ℕ) (fs : List ℕ) → is_in g (f ∷ fs) ≡ true �
 is_in-cases g f fs within =
     ⊎_elim (λ (same : (f == g) ≡ true). inl (sym (eqb-true f g same))) (λ (later : is_in g fs ≡ true). inr later)
     (or_cases (f == g) (is_in g fs) within)
-
-eqb-turned : (f g : ℕ) → (f == g) ≡ (g == f)
-eqb-turned f g =
-    ⊎_elim (λ (same : f ≡ g). eq-eqb f g same ∙ sym (eq-eqb g f (sym same))) (λ (apart : f ≡ g → ⊥). ne_eqb f g apart ∙ sym (ne_eqb g f (λ z. apart (sym z)))) (cases_eq f g)
 
 -- ---- model order
 
@@ -211,7 +209,7 @@ nobody_late round done f memory below later = go (choice_at round (enters round.
     go None chosen = refl
     go (Some g) chosen =
         let is = choice_leaves round (enters round.source.model f) memory g chosen in
-        let less = get_below (functions round.source.model) g is.place is.there in
+        let less = slice_get_within (functions round.source.model) g is.place is.there in
         ap not (later g less (enters_before round.source.model f g below less (sym is.from)))
 
 pub weigh-joined : (w : Weight) (rows : ℕ → Rows) (bags : List Rows) (k : ℕ) → k < length bags
@@ -254,7 +252,7 @@ module _ (round : Round) (start : Spot → Rows) (t : Ideal) (sends : Sends roun
       by false c = refl
 
       same : (g : ℕ) → put (λ g. not (within done g)) f false g ≡ not (within after g)
-      same g = ap (λ b. cond b false (not (is_in g done))) (eqb-turned g f) ∙ by (f == g) (is_in g done)
+      same g = ap (λ b. cond b false (not (is_in g done))) (eqb-sym g f) ∙ by (f == g) (is_in g done)
 
   late : (g : ℕ) → g < function_count round.source.model → before round.source.model f g ≡ true → within after g ≡ false
   late g less stands = go (within after g) refl
@@ -277,9 +275,6 @@ module _ (round : Round) (start : Spot → Rows) (t : Ideal) (sends : Sends roun
 
   rest : (g : ℕ) → (g ≡ f → ⊥) → all_of t (within after) g ≡ all_of t (within done) g
   rest g apart = ap (λ b. cond (b || is_in g done) (t.agents g) []) (ne_eqb f g (λ z. apart (sym z)))
-
-  other : Field
-  other = moved_by round f place (t.run f) agents a
 
   arrived : Arrives round f (left round f place a).pools (moved_by round f place (t.run f) agents a).pools (lived t f agents)
   arrived = rows_arrive round f place (left round f place a) (lived t f agents) at opened.shape.pools opened.pools_up
@@ -358,4 +353,4 @@ over_same round f boards others agree memory =
     let reads = is_in-mapped (λ (input : Input). option_map (λ (found : ℕ × MessageType). found.0) (message_named model.messages input.message))
     place.function.inputs k found.0 d less (ap (option_map (λ (found : ℕ × MessageType). found.0)) named) in
     let there = found_get _ model.messages found named in
-    agree found.0 (get_below model.messages found.0 found.1 there) (ap (λ o. is_in found.0 (inputs_at o model)) at ∙ reads))
+    agree found.0 (slice_get_within model.messages found.0 found.1 there) (ap (λ o. is_in found.0 (inputs_at o model)) at ∙ reads))

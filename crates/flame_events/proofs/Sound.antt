@@ -3,6 +3,7 @@ use Rattle.std.proofs.Common.{◌≡◌, ℕ, zero, suc, ◌<◌, ◌≤◌, ⊎
 use Rattle.std.specs.Prelude.{not, ◌==◌, ◌&&◌, slice_get, slice_set, slice_index_or}
 use Rattle.std.specs.List.{list_all}
 use Rattle.std.proofs.lemmas.Bool.{cases_eq, cases_lt, cases_Bool, eq-eqb, and_parts, ltb-true, lt-ltb, true≢false, false≢true}
+use Rattle.std.proofs.lemmas.Option.{slice_get_within}
 use Rattle.flame_spec.specs.declared.models.Model.{Model}
 use Rattle.flame_spec.specs.Before.{before, function_count}
 use Rattle.flame_spec.specs.Below.{is_in}
@@ -15,7 +16,7 @@ use Rattle.flame_events.specs.CoreStates.{Work, Status, Waiting, Open, Shut, Fau
 use Rattle.flame_events.specs.LegalEvents.{predecessors, inputs_at, inputs_of, outputs_of, may_open}
 use Rattle.flame_events.specs.EventSteps.{fresh_work, opened}
 use Rattle.flame_events.proofs.Weights.{Row, Rows}
-use Rattle.flame_events.proofs.Spots.{Spot, get_there, get_below, input_named, enters, enters_before}
+use Rattle.flame_events.proofs.Spots.{Spot, get_there, input_named, enters, enters_before}
 use Rattle.flame_events.proofs.Holding.{Ideal, over, IsIdeal, Holds, meets_agents, meets_board, resting}
 use Rattle.flame_events.proofs.Moves.{put, put-same, put-else, left, holds-opened}
 use Rattle.flame_events.proofs.Serial.{nobody_late, taking_is}
@@ -92,7 +93,7 @@ core_runs round start t core f ideal h below fed =
     let there : (m : ℕ) → is_in m (inputs_of model f) ≡ true → m < length model.messages =
     λ m reads.
     let input = input_named model place.0 m (sym (ap (λ o. is_in m (inputs_at o model)) place.1) ∙ reads) in
-    get_below model.messages m input.named.message input.named.there in
+    slice_get_within model.messages m input.named.message input.named.there in
     λ i memory. (ideal f below).run core.field.boards
     (λ m reads.
     meets_board round start t core.field (still_in core) (ran_in t core) (handed_in model t core) h.holds m (there m reads)

@@ -1,10 +1,11 @@
 -- Where functions find their agents and leave them, what they read and write, and who stands before whom by that.
-use Rattle.std.proofs.Common.{◌≡◌, ℕ, zero, suc, ◌+◌, ◌<◌, Bool, true, false, cond, List, [], ◌∷◌, length, Option, Some, None, refl, sym, ap, ◌∙◌, arith, subst, one-add}
+use Rattle.std.proofs.Common.{◌≡◌, ℕ, zero, suc, ◌+◌, ◌<◌, Bool, true, false, cond, List, [], ◌∷◌, length, Option, Some, None, refl, sym, ap, ◌∙◌, arith, one-add}
 use Rattle.std.specs.Prelude.{◌==◌, ◌&&◌, ◌||◌, not, slice_get, option_map, position, nat_lt}
-use Rattle.std.specs.List.{filter_map, cons_option, list_any, position_or_len}
+use Rattle.std.specs.List.{filter_map, cons_option, position_or_len}
 use Rattle.std.specs.Str.{bytes_eq}
 use Rattle.std.proofs.lemmas.Bool.{ltb-true, eqb-true, eq-eqb, and_parts, and_from, or_left, or_right, false≢true}
-use Rattle.std.proofs.lemmas.Slice.Eq.{bytes_eq-Decides}
+use Rattle.flame_rows.proofs.Bytes.{bytes_eq-true, bytes_eq-same}
+use Rattle.flame_rows.proofs.Lists.{list_any-at}
 use Rattle.flame_spec.specs.declared.models.Model.{Model}
 use Rattle.flame_spec.specs.declared.models.AgentType.{AgentType}
 use Rattle.flame_spec.specs.declared.models.MessageType.{MessageType}
@@ -14,7 +15,7 @@ use Rattle.flame_spec.specs.Below.{is_in}
 use Rattle.flame_spec.specs.Choice.{may_take, choice}
 use Rattle.flame_spec.specs.Functions.{Place, functions}
 use Rattle.flame_spec.specs.States.{states, state_place}
-use Rattle.flame_spec.specs.Lists.{numbered_from}
+use Rattle.flame_spec.proofs.Numbered.{numbered_from-passes}
 use Rattle.flame_meaning.specs.Outcomes.{message_named, outputs_at}
 use Rattle.flame_meaning.proofs.Sending.{found_get}
 use Rattle.flame_world.specs.Fields.{pool_in}
@@ -31,17 +32,6 @@ get_there [] i less = absurd (omega (arith, less))
 get_there (x ∷ xs) zero less = (x, refl)
 get_there (x ∷ xs) (suc i) less = get_there xs i (omega (arith, less))
 
-pub get_below : {X : Type 0} (xs : List X) (i : ℕ) (x : X) → slice_get xs i ≡ Some x → i < length xs
-get_below [] i x at = absurd cc
-get_below (y ∷ xs) zero x at = omega arith
-get_below (y ∷ xs) (suc i) x at = omega (arith, get_below xs i x at)
-
-pub same_text : (text other : List ℕ) → bytes_eq text other ≡ true → text ≡ other
-same_text text other same = (bytes_eq-Decides text other).0 same
-
-pub text_same : (text other : List ℕ) → text ≡ other → bytes_eq text other ≡ true
-text_same text other same = (bytes_eq-Decides text other).1 same
-
 -- ---- spots
 
 -- a state of an agent type
@@ -56,25 +46,12 @@ pub same_spot-true : (p q : Spot) → same_spot p q ≡ true → p ≡ q
 same_spot-true p q same =
     let parts = and_parts (p.agent == q.agent) (bytes_eq p.state q.state) same in
     let agents : p.agent ≡ q.agent = eqb-true p.agent q.agent parts.0 in
-    let states : p.state ≡ q.state = same_text p.state q.state parts.1 in
+    let states : p.state ≡ q.state = bytes_eq-true p.state q.state parts.1 in
     λ i. record { agent = agents i; state = states i }
 
 pub true-same_spot : (p q : Spot) → p ≡ q → same_spot p q ≡ true
 true-same_spot p q same =
-    and_from (p.agent == q.agent) (bytes_eq p.state q.state) (eq-eqb p.agent q.agent (ap (λ (s : Spot). s.agent) same)) (text_same p.state q.state (ap (λ (s : Spot). s.state) same))
-
-pub same_spot-turned : (p q : Spot) → same_spot p q ≡ same_spot q p
-same_spot-turned p q =
-    (elim (same_spot p q) as (λ t. same_spot p q ≡ t → t ≡ same_spot q p) [
-      | true ↦ λ is. sym (true-same_spot q p (sym (same_spot-true p q is)))
-      | false ↦ λ is.
-          (elim (same_spot q p) as (λ t. same_spot q p ≡ t → false ≡ t) [
-            | true ↦ λ turned. absurd (false≢true (sym is ∙ true-same_spot p q (sym (same_spot-true q p turned))))
-            | false ↦ λ turned. refl
-          ])
-          refl
-    ])
-    refl
+    and_from (p.agent == q.agent) (bytes_eq p.state q.state) (eq-eqb p.agent q.agent (ap (λ (s : Spot). s.agent) same)) (bytes_eq-same p.state q.state (ap (λ (s : Spot). s.state) same))
 
 -- where the function of this place finds its agents, and where it leaves them
 abbrev pub leaves_at : Option Place → Spot
@@ -148,7 +125,7 @@ choice_leaves round p memory function chosen =
     let may = and_parts _ _ found.2 in
     let parts = and_parts (place.agent == p.agent) (bytes_eq place.function.current p.state) may.0 in
     let agents : place.agent ≡ p.agent = eqb-true place.agent p.agent parts.0 in
-    let states : place.function.current ≡ p.state = same_text place.function.current p.state parts.1 in
+    let states : place.function.current ≡ p.state = bytes_eq-true place.function.current p.state parts.1 in
     record {
       place = place;
       there = there;
@@ -173,7 +150,7 @@ enters_before model f g fl gl meet =
     ∙ or_left (leads_to one.0 other.0) (feeds one.0.function other.0.function)
     (and_from (one.0.agent == other.0.agent) (bytes_eq other.0.function.current one.0.function.next)
     (eq-eqb one.0.agent other.0.agent (ap (λ (s : Spot). s.agent) same))
-    (text_same other.0.function.current one.0.function.next (sym (ap (λ (s : Spot). s.state) same))))
+    (bytes_eq-same other.0.function.current one.0.function.next (sym (ap (λ (s : Spot). s.state) same))))
 
 -- a number that a list has by a map
 is_in-filter_map : {X : Type 0} (h : X → Option ℕ) (m : ℕ) (xs : List X) → is_in m (filter_map h xs) ≡ true
@@ -195,15 +172,6 @@ is_in-filter_map {X} h m (x ∷ xs) within =
         ])
         refl more
 
-numbered_passes : {X : Type 0} (p : X → Bool) (i : ℕ) (xs : List X) (found : ℕ × X) → numbered_from p i xs ≡ Some found → p found.1 ≡ true
-numbered_passes p i [] found at = absurd cc
-numbered_passes {X} p i (x ∷ xs) found at =
-    (elim (p x) as (λ t. p x ≡ t → cond t (Some (i, x)) (numbered_from p (i + 1) xs) ≡ Some found → p found.1 ≡ true) [
-      | true ↦ λ passes here. let same : (i, x) ≡ found = cc in subst (λ (q : ℕ × X). p q.1 ≡ true) same passes
-      | false ↦ λ fails later. numbered_passes p (i + 1) xs found later
-    ])
-    refl at
-
 pub record IsNamed (model : Model) (m : ℕ) (name : List ℕ) : Type 0 where
   pub message : MessageType
   pub there : slice_get model.messages m ≡ Some message
@@ -217,18 +185,12 @@ named model name m at = go (message_named model.messages name) refl at
     go None is none = absurd cc
     go (Some found) is some =
         let number : found.0 ≡ m = cc in
-        let passes = numbered_passes (λ (message : MessageType). bytes_eq message.name name) 0 model.messages found is in
+        let passes = numbered_from-passes (λ (message : MessageType). bytes_eq message.name name) 0 model.messages found is in
         record {
           message = found.1;
           there = ap (slice_get model.messages) (sym number) ∙ found_get (λ (message : MessageType). bytes_eq message.name name) model.messages found is;
-          name_is = same_text found.1.name name passes;
+          name_is = bytes_eq-true found.1.name name passes;
         }
-
-list_any-at : {X : Type 0} (test : X → Bool) (xs : List X) (k : ℕ) (x : X) → slice_get xs k ≡ Some x → test x ≡ true → list_any test xs ≡ true
-list_any-at test [] k x at passes = absurd cc
-list_any-at test (y ∷ xs) zero x at passes =
-    let same : y ≡ x = cc in or_left (test y) (list_any test xs) (ap test same ∙ passes)
-list_any-at test (y ∷ xs) (suc k) x at passes = or_right (test y) (list_any test xs) (list_any-at test xs k x at passes)
 
 -- an output of a place, by its number
 pub record IsOutput (model : Model) (place : Place) (m : ℕ) : Type 0 where
@@ -274,7 +236,7 @@ writes_before model f g m fl gl writes reads =
     ∙ or_right (leads_to one.0 other.0) (feeds one.0.function other.0.function)
     (list_any-at (λ (i : Input). adds one.0.function i.message) other.0.function.inputs input.at input.input input.there
     (list_any-at (bytes_eq input.input.message) one.0.function.outputs output.at output.name output.there
-    (text_same input.input.message output.name same)))
+    (bytes_eq-same input.input.message output.name same)))
 
 -- ---- the states of a function are states of its type
 

@@ -1,16 +1,18 @@
 -- The pieces of an open function.
-use Rattle.std.proofs.Common.{◌≡◌, ℕ, zero, suc, ◌+◌, ◌<◌, ◌≤◌, ⊎_elim, Bool, true, false, cond, List, [], ◌∷◌, ◌++◌, length, map, take, get_or, Option, Some, None, refl, sym, ap, ◌∙◌, arith, subst, append-nil, take_all, length-set, get_or-set_other, one-add}
+use Rattle.std.proofs.Common.{◌≡◌, ℕ, zero, suc, ◌+◌, ◌<◌, ◌≤◌, ⊎_elim, Bool, true, false, cond, List, [], ◌∷◌, ◌++◌, length, map, take, get_or, Option, Some, None, refl, sym, ap, ◌∙◌, arith, append-nil, take_all, length-set, get_or-set_other, one-add}
 use Rattle.std.specs.Prelude.{not, ◌==◌, ◌||◌, slice_get, slice_set, slice_index_or, is_none, option_map}
 use Rattle.std.specs.Option.{option_or}
-use Rattle.std.specs.List.{filter_map, flat_map, cons_option, list_all, position_or_len}
+use Rattle.std.specs.List.{filter_map, flat_map, list_all, position_or_len}
 use Rattle.std.proofs.lemmas.Bool.{cases_eq, cases_lt, eqb-true, and_parts, ltb-false, lt-ltb, false≢true}
 use Rattle.std.proofs.lemmas.List.{take_more}
 use Rattle.std.proofs.lemmas.List.Elements.{filter_map-append}
+use Rattle.std.proofs.lemmas.Option.{slice_get_within, same_Some}
 use Rattle.flame_rows.specs.Bags.{ascending, merge, weigh}
 use Rattle.flame_rows.proofs.BagLaws.{IsAscending-ascending, weigh-append, weigh-ascending, merge_adds_weights, equal_by_weighings, IsAscending-merge}
 use Rattle.flame_spec.specs.declared.outcomes.Sent.{Sent}
 use Rattle.flame_spec.specs.Below.{is_in}
 use Rattle.flame_spec.specs.Lists.{first}
+use Rattle.flame_spec.proofs.Numbered.{first-cons_option, first-cons_option_nil}
 use Rattle.flame_meaning.specs.RangeLaws.{Each}
 use Rattle.flame_world.specs.declared.faults.SimFault.{SimFault}
 use Rattle.flame_world.specs.AgentRuns.{sent_by, fault_by, messages_of, least_fault}
@@ -21,7 +23,6 @@ use Rattle.flame_events.specs.LegalEvents.{outputs_of, is_over}
 use Rattle.flame_events.specs.EventSteps.{fresh_work, with_sent, with_agent, done_with}
 use Rattle.flame_events.proofs.EvenCuts.{cuts_are_even}
 use Rattle.flame_events.proofs.Weights.{Row, Rows}
-use Rattle.flame_events.proofs.Spots.{get_below}
 use Rattle.flame_events.proofs.Holding.{Ideal, sent, sent-append}
 use Rattle.flame_events.proofs.Serial.{should_fault, is_in-cases}
 
@@ -71,9 +72,6 @@ Fits round t f (Faulted fault) = should_fault round t f ≡ Some fault
 
 -- ---- one piece changed
 
-some_work : (x y : Work) → Some x ≡ Some y → x ≡ y
-some_work x y e = cc
-
 none_work : (x : Work) → None ≡ Some x → ⊥
 none_work x e = cc
 
@@ -82,7 +80,7 @@ pub gather_set : (F : Rows → ℕ) → ((xs ys : Rows) → F (xs ++ ys) ≡ F x
     → F (h q) ≡ F (h p) + more → F (flat_map h (slice_set works k q)) ≡ F (flat_map h works) + more
 gather_set F add h more [] k p q at new = absurd (none_work p at)
 gather_set F add h more (w ∷ works) zero p q at new =
-    let same : F (h w) ≡ F (h p) = ap (λ v. F (h v)) (some_work w p at) in
+    let same : F (h w) ≡ F (h p) = ap (λ v. F (h v)) (same_Some w p at) in
     omega (arith, new, same, add (h q) (flat_map h works), add (h w) (flat_map h works))
 gather_set F add h more (w ∷ works) (suc k) p q at new =
     omega (arith, gather_set F add h more works k p q at new, add (h w) (flat_map h works), add (h w) (flat_map h (slice_set works k q)))
@@ -90,13 +88,8 @@ gather_set F add h more (w ∷ works) (suc k) p q at new =
 pub gather_same : (h : Work → Rows) (works : List Work) (k : ℕ) (p q : Work) → slice_get works k ≡ Some p → h q ≡ h p
     → flat_map h (slice_set works k q) ≡ flat_map h works
 gather_same h [] k p q at same = refl
-gather_same h (w ∷ works) zero p q at same = ap (λ l. l ++ flat_map h works) (same ∙ ap h (sym (some_work w p at)))
+gather_same h (w ∷ works) zero p q at same = ap (λ l. l ++ flat_map h works) (same ∙ ap h (sym (same_Some w p at)))
 gather_same h (w ∷ works) (suc k) p q at same = ap (λ l. h w ++ l) (gather_same h works k p q at same)
-
-pub each_at : {X : Type 0} (P : X → Type 0) (xs : List X) (k : ℕ) (x : X) → Each P xs → slice_get xs k ≡ Some x → P x
-each_at P [] k x all at = absurd cc
-each_at P (y ∷ xs) zero x all at = let same : y ≡ x = cc in subst P same all.0
-each_at P (y ∷ xs) (suc k) x all at = each_at P xs k x all.1 at
 
 pub each_set : {X : Type 0} (P : X → Type 0) (xs : List X) (k : ℕ) (x : X) → Each P xs → P x → Each P (slice_set xs k x)
 each_set P [] k x all new = tt
@@ -202,14 +195,6 @@ least_fault-append round t f xs ys =
     let faults = λ (rows : Rows). filter_map (λ memory. fault_by round.iteration f memory (t.run f memory)) rows in
     ap first (filter_map-append (λ memory. fault_by round.iteration f memory (t.run f memory)) xs ys) ∙ first-append (faults xs) (faults ys)
 
-first-option : (o : Option SimFault) → first (cons_option o []) ≡ o
-first-option None = refl
-first-option (Some fault) = refl
-
-first-cons_option : (o : Option SimFault) (faults : List SimFault) → first (cons_option o faults) ≡ option_or o (first faults)
-first-cons_option None faults = refl
-first-cons_option (Some fault) faults = refl
-
 pub fault_in-fits : (round : Round) (t : Ideal) (f : ℕ) (works : List Work) → Each (PieceFits round t f) works
     → fault_in works ≡ least_fault round.iteration f (t.run f) (flat_map its_ran works)
 fault_in-fits round t f [] all = refl
@@ -223,7 +208,7 @@ fault_in-fits round t f (work ∷ works) all =
 -- ---- one agent more
 
 pub take_next : (rows : Rows) (i : ℕ) (row : Row) → slice_get rows i ≡ Some row → take (i + 1) rows ≡ take i rows ++ row ∷ []
-take_next rows i row at = take_more rows i row (get_below rows i row at) ∙ ap (λ r. take i rows ++ r ∷ []) (read rows i row at)
+take_next rows i row at = take_more rows i row (slice_get_within rows i row at) ∙ ap (λ r. take i rows ++ r ∷ []) (read rows i row at)
   where
     read : (rows : Rows) (i : ℕ) (row : Row) → slice_get rows i ≡ Some row → get_or rows i row ≡ row
     read [] i row at = absurd cc
@@ -231,7 +216,7 @@ take_next rows i row at = take_more rows i row (get_below rows i row at) ∙ ap 
     read (r ∷ rows) (suc i) row at = read rows i row at
 
 none_left_else : (work : Work) (memory : Row) → slice_get work.agents work.ran ≡ Some memory → has_left work ≡ true
-none_left_else work memory at = lt-ltb work.ran (length work.agents) (get_below work.agents work.ran memory at)
+none_left_else work memory at = lt-ltb work.ran (length work.agents) (slice_get_within work.agents work.ran memory at)
 
 pub fits_agent : (round : Round) (t : Ideal) (f : ℕ) (work : Work) (memory : Row) → PieceFits round t f work → slice_get work.agents work.ran ≡ Some memory
     → PieceFits round t f (with_agent round f work memory (t.run f memory))
@@ -247,7 +232,7 @@ fits_agent round t f work memory fits at =
           absurd (gone_by m (part_in outs work.parts m) refl within (sym (part_in-with_sent outs messages work.parts m within) ∙ none));
       fault =
           ap (λ o. option_or o (fault_by round.iteration f memory (t.run f memory))) fits.fault
-          ∙ ap (option_or (least_fault round.iteration f (t.run f) (its_ran work))) (sym (first-option (fault_by round.iteration f memory (t.run f memory))))
+          ∙ ap (option_or (least_fault round.iteration f (t.run f) (its_ran work))) (sym (first-cons_option_nil (fault_by round.iteration f memory (t.run f memory))))
           ∙ sym (least_fault-append round t f (its_ran work) (memory ∷ []))
           ∙ ap (least_fault round.iteration f (t.run f)) (sym next);
     }

@@ -35,16 +35,6 @@ names_left with_one files more names name rest same given =
     subst (λ ns. IsRestOf (with_all with_one files ns) (with_all with_one more rest)) (sym same)
     (rest_behind (with_one files name) (λ fs. with_all with_one fs rest) more given)
 
--- a name by which a file was read is passed over
-pub passes_over :
-    (deep : ℕ) (told : Files) (files : ModelFiles) (name : List ℕ)
-    → is_among name files.names ≡ true
-    → with_name (suc deep) told files name ≡ known files
-passes_over deep told files name there =
-    ap (λ b. cond b (known files)
-    (cond (nat_le most_files (length files.names)) (refused (of_files (TooMany name)))
-    (wide_in told name >>= (λ wide. with_all (with_name deep told) (and_file name wide files) wide.nested)))) there
-
 -- where the most files were read, a new name is one too many
 pub is_too_many :
     (deep : ℕ) (told : Files) (files : ModelFiles) (name : List ℕ)

@@ -4,6 +4,7 @@ use Rattle.std.specs.Prelude.{slice_get, slice_index, nat_le, IsTrue}
 use Rattle.std.specs.List.{list_all, zip}
 use Rattle.std.proofs.lemmas.Bool.{and_parts, eqb-true, eq-eqb, leb-true}
 use Rattle.std.proofs.lemmas.Option.{slice_get_within, slice_get-get_or, get_or_from_slice_get}
+use Rattle.flame_rows.proofs.Lists.{list_all-at, list_all-each}
 use Rattle.flame_spec.specs.HelperFaults.{deepest_calls}
 use Rattle.flame_code.specs.HelperCodes.{HelperCodes, AreHelpers, calls_below, calls_fit, sees_nothing}
 use Rattle.flame_code.specs.InputRows.{HaveWidths, rows_of}
@@ -13,15 +14,6 @@ use Rattle.flame_machine.specs.ListCursors.{feeds_of}
 use Rattle.flame_machine.specs.Fitting.{helper_fits, heights_fit, rows_fit}
 
 -- ---- tests of lists
-
-at_all : {A : Type 0} (test : A → Bool) (xs : List A) (k : ℕ) (x : A) → list_all test xs ≡ true → slice_get xs k ≡ Some x → test x ≡ true
-at_all test [] k x all found = cc
-at_all test (y ∷ ys) zero x all found = let same : y ≡ x = cc in subst (λ z. test z ≡ true) same (and_parts _ _ all).0
-at_all test (y ∷ ys) (suc k) x all found = at_all test ys k x (and_parts _ _ all).1 found
-
-all_at : {A : Type 0} (test : A → Bool) (xs : List A) → ((k : ℕ) (x : A) → slice_get xs k ≡ Some x → test x ≡ true) → list_all test xs ≡ true
-all_at test [] each = refl
-all_at test (x ∷ xs) each = ap (λ b. b && list_all test xs) (each zero x refl) ∙ all_at test xs (λ k y found. each (suc k) y found)
 
 at_zip : {B : Type 0} (test : ℕ → B → Bool) (xs : List ℕ) (ys : List B) (k : ℕ) (y : B) → length xs ≡ length ys
     → list_all (λ (pair : ℕ × B). test pair.0 pair.1) (zip xs ys) ≡ true → slice_get ys k ≡ Some y → test (get_or xs k 0) y ≡ true
@@ -104,7 +96,7 @@ module _ (widths : List ℕ) (cursors : List Cursor) where
         let c = cursor_at cursors input rows found in
         let within = slice_get_within cursors input c.0 c.1 in
         let wide = at_zip (λ width (cursor : Cursor). rows_fit width cursor.rows.now) widths cursors input c.0 (sym count) fit c.1 in
-        let long = at_all (λ (row : List ℤ). length row == get_or widths input 0) rows place row
+        let long = list_all-at (λ (row : List ℤ). length row == get_or widths input 0) rows place row
         (subst (λ xs. rows_fit (get_or widths input 0) xs ≡ true) c.2 wide) at in
         slice_get-get_or widths input 0 (omega arith) ∙ ap (λ n. Some n) (sym (eqb-true _ _ long));
   }
@@ -114,7 +106,7 @@ module _ (widths : List ℕ) (cursors : List Cursor) where
       → list_all (λ (pair : ℕ × Cursor). rows_fit pair.0 pair.1.rows.now) (zip widths cursors) ≡ true
   widths_fit have =
       zip_at (λ width (cursor : Cursor). rows_fit width cursor.rows.now) widths cursors (λ k cursor found.
-      all_at (λ (row : List ℤ). length row == get_or widths k 0) cursor.rows.now (λ place row at.
+      list_all-each (λ (row : List ℤ). length row == get_or widths k 0) cursor.rows.now (λ place row at.
       eq-eqb _ _ (sym (get_or_from_slice_get widths k (length row) 0
       (have.wide k place cursor.rows.now row (rows_at cursors k cursor found) at)))))
 

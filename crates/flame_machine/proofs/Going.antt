@@ -8,7 +8,7 @@ use Rattle.std.proofs.lemmas.Option.{slice_get_within}
 use Rattle.flame_spec.specs.declared.faults.Fault.{Fault}
 use Rattle.flame_code.specs.Feeds.{Fed}
 use Rattle.flame_code.specs.InputRows.{rows_of, HaveWidths}
-use Rattle.flame_code.specs.HelperCodes.{HelperCodes, AreHelpers, calls_fit, sees_nothing, fits}
+use Rattle.flame_code.specs.HelperCodes.{HelperCodes, AreHelpers, calls_fit, sees_nothing}
 use Rattle.flame_code.specs.Routines.{Routine, locals_of}
 use Rattle.flame_code.specs.Validity.{IsValid}
 use Rattle.flame_code.specs.Machine.{Locals, first_locals, Given, Config, End, returned, faulted, on, calls, step}
@@ -40,11 +40,6 @@ helper_suits helpers g h r are alike at = record {
   alike = alike;
 }
 
-pub code_suits : (helpers : HelperCodes) (g : Given) (r : Routine) → fits helpers r ≡ true → length g.constants ≡ r.widths.constants → Suits helpers g r
-code_suits helpers g r fit wide = record {
-  calls = (and_parts _ _ fit).0;
-  constants = wide;
-  alike = subst (λ n. list_all (λ helper. helper.widths.constants == n) helpers.routines ≡ true) (sym wide) (and_parts _ _ fit).1;
 }
 
 -- ---- begins

@@ -1,5 +1,5 @@
 -- What moves of an input do to the first inputs and to the others.
-use Rattle.std.proofs.Common.{◌≡◌, ℕ, zero, suc, ◌<◌, List, [], ◌∷◌, take, drop, false, Option, Some, None, refl, sym, ap, ◌∙◌, arith}
+use Rattle.std.proofs.Common.{◌≡◌, ℕ, zero, suc, ◌<◌, List, [], ◌∷◌, take, false, Option, Some, None, refl, sym, ap, ◌∙◌, arith}
 use Rattle.std.specs.Prelude.{slice_get, slice_set, option_and_then}
 use Rattle.std.specs.Option.{option_map_or}
 use Rattle.flame_code.specs.Feeds.{Fed, with_come, has_more, with_more, with_input, last_come, at_start, has_next, at_next, field}
@@ -16,12 +16,6 @@ set_first [] (suc n) i x lt = refl
 set_first (y ∷ xs) (suc n) zero x lt = refl
 set_first (y ∷ xs) (suc n) (suc i) x lt = ap (λ l. y ∷ l) (set_first xs n i x (omega arith))
 
-set_others : (xs : List Fed) (n i : ℕ) (x : Fed) → i < n → drop n (slice_set xs i x) ≡ drop n xs
-set_others xs zero i x lt = absurd (omega arith)
-set_others [] (suc n) i x lt = refl
-set_others (y ∷ xs) (suc n) zero x lt = refl
-set_others (y ∷ xs) (suc n) (suc i) x lt = set_others xs n i x (omega arith)
-
 module _ (n i : ℕ) (feeds : List Fed) (lt : i < n) where
   moved_by : (change : Fed → Fed) (o : Option Fed) → take n (option_map_or (λ fed. slice_set feeds i (change fed)) o feeds) ≡ option_map_or (λ fed. slice_set (take n feeds) i (change fed)) o (take n feeds)
   moved_by change None = refl
@@ -32,21 +26,11 @@ module _ (n i : ℕ) (feeds : List Fed) (lt : i < n) where
       moved_by change (slice_get feeds i)
       ∙ ap (λ o. option_map_or (λ fed. slice_set (take n feeds) i (change fed)) o (take n feeds)) (sym (get_first feeds n i lt))
 
-  others_by : (change : Fed → Fed) (o : Option Fed) → drop n (option_map_or (λ fed. slice_set feeds i (change fed)) o feeds) ≡ drop n feeds
-  others_by change None = refl
-  others_by change (Some fed) = set_others feeds n i (change fed) lt
-
   pub first-at_start : take n (at_start i feeds) ≡ at_start i (take n feeds)
   first-at_start = moved (with_come 0)
 
   pub first-at_next : take n (at_next i feeds) ≡ at_next i (take n feeds)
   first-at_next = moved with_more
-
-  pub others-at_start : drop n (at_start i feeds) ≡ drop n feeds
-  others-at_start = others_by (with_come 0) (slice_get feeds i)
-
-  pub others-at_next : drop n (at_next i feeds) ≡ drop n feeds
-  others-at_next = others_by with_more (slice_get feeds i)
 
   pub has_next-first : has_next i (take n feeds) ≡ has_next i feeds
   has_next-first = ap (λ o. option_map_or has_more o false) (get_first feeds n i lt)

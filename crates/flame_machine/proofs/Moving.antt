@@ -1,5 +1,5 @@
 -- What moving one cursor does to what the lists feed.
-use Rattle.std.proofs.Common.{◌≡◌, ℕ, ◌+◌, ◌<◌, ◌≤◌, true, false, cond, List, length, get_or, set, sym, ap, ◌∙◌, arith, Some}
+use Rattle.std.proofs.Common.{◌≡◌, ℕ, ◌+◌, ◌<◌, ◌≤◌, false, cond, List, length, get_or, set, sym, ap, ◌∙◌, arith, Some}
 use Rattle.std.specs.Prelude.{slice_get, slice_set, option_map}
 use Rattle.std.specs.Option.{option_map_or}
 use Rattle.std.proofs.lemmas.Bool.{lt-ltb, le-ltb}
@@ -32,9 +32,6 @@ module _ (cursors : List Cursor) (i : ℕ) (here : Cursor) (within : i < length 
 
   has_next-here : has_next i (feeds_of cursors) ≡ has_more (fed_of here)
   has_next-here = ap (λ o. option_map_or has_more o false) fed_here
-
-  pub has_next-there : here.come < length here.rows.now → has_next i (feeds_of cursors) ≡ true
-  has_next-there less = has_next-here ∙ lt-ltb _ _ less
 
   pub has_next-none : length here.rows.now ≤ here.come → has_next i (feeds_of cursors) ≡ false
   has_next-none least = has_next-here ∙ le-ltb _ _ least

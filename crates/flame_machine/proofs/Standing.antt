@@ -8,9 +8,7 @@ use Rattle.flame_code.specs.Feeds.{Fed, field}
 use Rattle.flame_code.specs.InputRows.{rows_of}
 use Rattle.flame_code.specs.Routines.{Routine, takes, locals_for, locals_of}
 use Rattle.flame_code.specs.Validity.{IsValid}
-use Rattle.flame_code.specs.Machine.{Config}
 use Rattle.flame_code.proofs.InputMoves.{field_there}
-use Rattle.flame_code.proofs.Safety.{place_within}
 use Rattle.flame_code.proofs.Rooms.{stack_within}
 use Rattle.flame_machine.specs.MachineFrames.{Framed, Additions, config}
 use Rattle.flame_machine.specs.Running.{Ready}
@@ -26,12 +24,6 @@ pub rows-length : (a b : List Fed) → rows_of a ≡ rows_of b → length a ≡ 
 rows-length a b e = sym (length-map a (λ (x : Fed). x.rows)) ∙ ap length e ∙ length-map b (λ (x : Fed). x.rows)
 
 module _ (r : Routine) (valid : IsValid r) (frame : Framed) (added : Additions) (feeds : List Fed) (ready : Ready r frame added feeds) where
-  here : Config
-  here = config frame added (seen r.widths feeds)
-
-  pub has_place : frame.place < length r.instrs
-  has_place = place_within r valid (config frame added (seen r.widths feeds)) ready.stands
-
   pub has_room : length frame.stack < frame.room
   has_room = let lt = stack_within r (config frame added (seen r.widths feeds)) valid ready.stands in let le = ready.room in omega arith
 

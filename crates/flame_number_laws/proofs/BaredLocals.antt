@@ -3,12 +3,14 @@ use Rattle.std.proofs.Common.{◌≡◌, ℕ, zero, suc, ◌<◌, Bool, true, fa
 use Rattle.std.proofs.Common.{refl, sym, ap, ◌∙◌, arith}
 use Rattle.std.specs.Prelude.{ℤ, ◌==◌}
 use Rattle.std.specs.Str.{bytes_eq}
-use Rattle.std.proofs.lemmas.Bool.Decides.{nat_tests}
+use Rattle.std.proofs.lemmas.Bool.{eq-eqb}
+use Rattle.flame_rows.proofs.Truths.{eqb-above}
 use Rattle.flame_body.specs.WordSlots.{local_number}
 use Rattle.flame_meaning.specs.Scenes.{Local, local_value}
 use Rattle.flame_meaning.specs.Statements.{set_local}
 use Rattle.flame_meaning.specs.Agreement.{names_of}
 use Rattle.flame_number_laws.specs.NumberedScenes.{nameless, local_at, set_local_at}
+use Rattle.flame_body.proofs.NamesSeen.{number-below}
 
 -- the same locals without names
 abbrev pub bare : List Local → List Local
@@ -26,28 +28,6 @@ pub drop-bare : (n : ℕ) (locals : List Local) → bare (drop n locals) ≡ dro
 drop-bare zero locals = refl
 drop-bare (suc n) [] = refl
 drop-bare (suc n) (local ∷ locals) = drop-bare n locals
-
-same-number : (a b : ℕ) → a ≡ b → (a == b) ≡ true
-same-number a b h = grind (arith, nat_tests)
-
-other-number : (a b : ℕ) → b < a → (a == b) ≡ false
-other-number a b h = grind (arith, nat_tests)
-
--- a number is below that of the names
-number-below :
-    (word : List ℕ) (names : List (List ℕ)) (number : ℕ)
-    → local_number names word ≡ Some number
-    → number < length names
-number-below word [] number h = absurd (cc)
-number-below word (name ∷ names) number h = by_test (bytes_eq name word) (number-below word names number) h
-  where
-    by_test :
-        (b : Bool)
-        → (local_number names word ≡ Some number → number < length names)
-        → cond b (Some (length names)) (local_number names word) ≡ Some number
-        → number < length (name ∷ names)
-    by_test true more g = let same : length names ≡ number = cc in omega arith
-    by_test false more g = let below : number < length names = more g in omega arith
 
 -- a local without a number has no value
 pub no-value : (word : List ℕ) (locals : List Local) → local_number (names_of locals) word ≡ None → local_value word locals ≡ None
@@ -69,7 +49,7 @@ here :
     → (length (bare locals) == number) ≡ true
 here locals number g =
     let n : length (names_of locals) ≡ number = cc in
-    same-number (length (bare locals)) number (length-bare locals ∙ sym (length-names locals) ∙ n)
+    eq-eqb (length (bare locals)) number (length-bare locals ∙ sym (length-names locals) ∙ n)
 
 -- an older one has another number
 older :
@@ -79,7 +59,7 @@ older :
 older word locals number g =
     let below : number < length (names_of locals) = number-below word (names_of locals) number g in
     let long : length (bare locals) ≡ length (names_of locals) = length-bare locals ∙ sym (length-names locals) in
-    other-number (length (bare locals)) number (omega arith)
+    eqb-above (length (bare locals)) number (omega arith)
 
 -- a local of this number has its value
 pub value-found :

@@ -1,6 +1,7 @@
 -- An expression without check faults gives the same with numbers in place of names.
 use Rattle.std.proofs.Common.{◌≡◌, ℕ, cond, List, [], ◌∷◌, ◌++◌, map, Option, Some, None, refl, sym, ap, ◌∙◌}
 use Rattle.std.specs.Prelude.{ℤ, pos, Result, Ok, Err}
+use Rattle.flame_rows.proofs.Lists.{append-is_nil_left, append-is_nil_right}
 use Rattle.flame_ops.specs.Integers.{applied}
 use Rattle.flame_spec.specs.declared.faults.Fault.{Fault}
 use Rattle.flame_spec.specs.declared.models.Variable.{Variable}
@@ -16,7 +17,6 @@ use Rattle.flame_meaning.specs.Scenes.{Scene, Progress}
 use Rattle.flame_meaning.specs.Expressions.{on_value, at_line, holds, signs_value, element_value, one_of, values_and, argument_values, values_of}
 use Rattle.flame_meaning.specs.Expressions.{chain_value as chain_named, all_value as all_named, any_value as any_named, value_of as value_named}
 use Rattle.flame_meaning.specs.Agreement.{Agrees}
-use Rattle.flame_meaning.proofs.Agreeing.{first_none, second_none}
 use Rattle.flame_number_laws.specs.NumberedScenes.{NumberedScene, cell_column}
 use Rattle.flame_number_laws.specs.NumberedMeaning.{ExpressionMeaning, Valued, one_value, chain_value, all_value, any_value, meaning_of, value_of, link_of, argument_numbers}
 use Rattle.flame_number_laws.proofs.NumberedForms.{meaning-Number, meaning-Name, meaning-Field, meaning-Get, meaning-At, meaning-FieldAt, meaning-Unary, meaning-Chain}
@@ -42,39 +42,39 @@ module _ (place : Context) (sight : Sight) (scene : Scene) (before : NumberedSce
     value-same (number n) none = ap (λ (g : ExpressionMeaning). g.value before (bared s)) (meaning-Number n)
     value-same (name line word) none =
         ap (λ (g : ExpressionMeaning). g.value before (bared s)) (meaning-Name (slot_at (unfiled place) sight word))
-        ∙ ap Ok (name-same place sight scene before s a k line word (first_none _ _ none))
+        ∙ ap Ok (name-same place sight scene before s a k line word (append-is_nil_left _ _ none))
     value-same (field line word variable) none =
         ap (λ (g : ExpressionMeaning). g.value before (bared s)) (meaning-Field (input_read (unfiled place) word) (field_span (unfiled place) word variable))
-        ∙ ap Ok (field-same place sight scene before s a k line word variable (first_none _ _ none))
+        ∙ ap Ok (field-same place sight scene before s a k line word variable (append-is_nil_left _ _ none))
     value-same (get line word) none =
         ap (λ (g : ExpressionMeaning). g.value before (bared s)) (meaning-Get (got_column (unfiled place) word))
-        ∙ ap Ok (got-same place sight scene before s a k line word (first_none _ _ none))
+        ∙ ap Ok (got-same place sight scene before s a k line word (append-is_nil_left _ _ none))
     value-same (at line word index_line index) none =
         ap (λ (g : ExpressionMeaning). g.value before (bared s))
         (meaning-At (cells_at (unfiled place) word) (record { line = index_line; index = numbered (unfiled place) sight index }))
         ∙ ap (λ r. on_value r (λ i. element_value index_line (cell_column (cells_at (unfiled place) word) i) s.memory))
-        (value-same index (second_none (unknown_faults place sight line word ++ indexed_faults place line word) _ none))
+        (value-same index (append-is_nil_right (unknown_faults place sight line word ++ indexed_faults place line word) _ none))
         ∙ on-same (value_named index scene s) _ _
         (λ i. ap (λ c. element_value index_line c s.memory)
-        (cells-same place sight scene before s a k line word i (second_none (unknown_faults place sight line word) _ (first_none _ _ none))))
+        (cells-same place sight scene before s a k line word i (append-is_nil_right (unknown_faults place sight line word) _ (append-is_nil_left _ _ none))))
     value-same (field_at line word variable index_line index) none =
         ap (λ (g : ExpressionMeaning). g.value before (bared s))
         (meaning-FieldAt (input_read (unfiled place) word) (field_cells (unfiled place) word variable)
         (record { line = index_line; index = numbered (unfiled place) sight index }))
         ∙ ap (λ r. on_value r (λ i.
         element_value index_line (cell_column (field_cells (unfiled place) word variable) i) (before.current_rows (input_read (unfiled place) word))))
-        (value-same index (second_none (field_at_faults place sight line word variable) _ none))
+        (value-same index (append-is_nil_right (field_at_faults place sight line word variable) _ none))
         ∙ on-same (value_named index scene s) _ _
         (λ i. ap (λ c. element_value index_line c (before.current_rows (input_read (unfiled place) word))) (field-cells place sight scene before s a k word variable i)
-        ∙ ap (element_value index_line _) (row-same place sight scene before s a k line word variable (first_none _ _ (first_none _ _ none))))
+        ∙ ap (element_value index_line _) (row-same place sight scene before s a k line word variable (append-is_nil_left _ _ (append-is_nil_left _ _ none))))
     value-same (signed signs e) none =
         ap (λ (g : ExpressionMeaning). g.value before (bared s)) (meaning-Unary signs (numbered (unfiled place) sight e))
         ∙ ap (λ r. on_value r (signs_value signs)) (value-same e none)
     value-same (chain e more) none =
         ap (λ (g : ExpressionMeaning). g.value before (bared s)) (meaning-Chain (numbered (unfiled place) sight e) (numbered_links (unfiled place) sight more))
         ∙ ap (λ r. on_value r (chain_value (map link_of (numbered_links (unfiled place) sight more)) before (bared s)))
-        (value-same e (first_none _ _ none))
-        ∙ on-same (value_named e scene s) _ _ (λ v. links-same more v (second_none (expression_faults place sight e) _ none))
+        (value-same e (append-is_nil_left _ _ none))
+        ∙ on-same (value_named e scene s) _ _ (λ v. links-same more v (append-is_nil_right (expression_faults place sight e) _ none))
     value-same (all_of parts) none =
         ap (λ (g : ExpressionMeaning). g.value before (bared s)) (meaning-All (numbered_parts (unfiled place) sight parts)) ∙ all-same parts none
     value-same (any_of parts) none =
@@ -90,9 +90,9 @@ module _ (place : Context) (sight : Sight) (scene : Scene) (before : NumberedSce
         (chain_value (map link_of (numbered_links (unfiled place) sight links)) before (bared s))
         ∙ ap (λ r. on_value r (λ w.
         on_value (at_line line (applied op v w)) (chain_value (map link_of (numbered_links (unfiled place) sight links)) before (bared s))))
-        (value-same e (first_none _ _ none))
+        (value-same e (append-is_nil_left _ _ none))
         ∙ on-same (value_named e scene s) _ _ (λ w.
-        on-same (at_line line (applied op v w)) _ _ (λ u. links-same links u (second_none (expression_faults place sight e) _ none)))
+        on-same (at_line line (applied op v w)) _ _ (λ u. links-same links u (append-is_nil_right (expression_faults place sight e) _ none)))
 
     all-same :
         (parts : Expressions)
@@ -102,9 +102,9 @@ module _ (place : Context) (sight : Sight) (scene : Scene) (before : NumberedSce
     all-same (part e parts) none =
         ap (λ r. on_value r (λ v.
         cond (holds v) (all_value (map meaning_of (numbered_parts (unfiled place) sight parts)) before (bared s)) (Ok (pos 0))))
-        (value-same e (first_none _ _ none))
+        (value-same e (append-is_nil_left _ _ none))
         ∙ on-same (value_named e scene s) _ _
-        (λ v. ap (λ r. cond (holds v) r (Ok (pos 0))) (all-same parts (second_none (expression_faults place sight e) _ none)))
+        (λ v. ap (λ r. cond (holds v) r (Ok (pos 0))) (all-same parts (append-is_nil_right (expression_faults place sight e) _ none)))
 
     any-same :
         (parts : Expressions)
@@ -114,9 +114,9 @@ module _ (place : Context) (sight : Sight) (scene : Scene) (before : NumberedSce
     any-same (part e parts) none =
         ap (λ r. on_value r (λ v.
         cond (holds v) (Ok (pos 1)) (any_value (map meaning_of (numbered_parts (unfiled place) sight parts)) before (bared s))))
-        (value-same e (first_none _ _ none))
+        (value-same e (append-is_nil_left _ _ none))
         ∙ on-same (value_named e scene s) _ _
-        (λ v. ap (λ r. cond (holds v) (Ok (pos 1)) r) (any-same parts (second_none (expression_faults place sight e) _ none)))
+        (λ v. ap (λ r. cond (holds v) (Ok (pos 1)) r) (any-same parts (append-is_nil_right (expression_faults place sight e) _ none)))
 
   -- ---- arguments
 
@@ -165,9 +165,9 @@ module _ (place : Context) (sight : Sight) (scene : Scene) (before : NumberedSce
 
   -- without faults as a value, it has none as an argument
   whole-none : (e : Expression) → expression_faults place sight e ≡ [] → whole_faults place sight e ≡ []
-  whole-none (name line word) none = first_none _ _ none
-  whole-none (field line word variable) none = first_none _ _ none
-  whole-none (get line word) none = first_none _ _ none
+  whole-none (name line word) none = append-is_nil_left _ _ none
+  whole-none (field line word variable) none = append-is_nil_left _ _ none
+  whole-none (get line word) none = append-is_nil_left _ _ none
   whole-none (number n) none = none
   whole-none (at line word index_line index) none = none
   whole-none (field_at line word variable index_line index) none = none
@@ -181,7 +181,7 @@ module _ (place : Context) (sight : Sight) (scene : Scene) (before : NumberedSce
       → argument_faults place sight line word o e ≡ []
       → whole_faults place sight e ≡ []
   argument-none line word None e none = whole-none e none
-  argument-none line word (Some n) e none = first_none _ _ none
+  argument-none line word (Some n) e none = append-is_nil_left _ _ none
 
   both-same :
       (e : Expression) (parts : Expressions)
@@ -198,7 +198,7 @@ module _ (place : Context) (sight : Sight) (scene : Scene) (before : NumberedSce
       → argument_numbers (numbered_parts (unfiled place) sight parts) before (bared s) ≡ values_of parts scene s
   parts-same no_parts none = refl
   parts-same (part e parts) none =
-      both-same e parts (whole-none e (first_none _ _ none)) (parts-same parts (second_none (expression_faults place sight e) _ none))
+      both-same e parts (whole-none e (append-is_nil_left _ _ none)) (parts-same parts (append-is_nil_right (expression_faults place sight e) _ none))
 
   pub arguments-same :
       (line : ℕ) (word : List ℕ) (variables : List Variable) (parts : Expressions)
@@ -207,5 +207,5 @@ module _ (place : Context) (sight : Sight) (scene : Scene) (before : NumberedSce
   arguments-same line word variables no_parts none = refl
   arguments-same line word [] (part e parts) none = parts-same (part e parts) none
   arguments-same line word (variable ∷ variables) (part e parts) none =
-      both-same e parts (argument-none line word variable.length e (first_none _ _ none))
-      (arguments-same line word variables parts (second_none (argument_faults place sight line word variable.length e) _ none))
+      both-same e parts (argument-none line word variable.length e (append-is_nil_left _ _ none))
+      (arguments-same line word variables parts (append-is_nil_right (argument_faults place sight line word variable.length e) _ none))

@@ -3,6 +3,8 @@ use Rattle.std.proofs.Common.{◌≡◌, ℕ, Bool, true, false, cond, List, [],
 use Rattle.std.specs.Prelude.{ℤ, is_some, not, slice_index_or, option_map}
 use Rattle.std.specs.Str.{bytes_eq}
 use Rattle.std.proofs.lemmas.Bool.{not-false}
+use Rattle.flame_rows.proofs.Lists.{append-is_nil_left, append-is_nil_right}
+use Rattle.flame_rows.proofs.Truths.{is_some-true}
 use Rattle.flame_ops.specs.Ascii.{capitals}
 use Rattle.flame_spec.specs.declared.faults.CheckKind.TheVariants.{NotInput}
 use Rattle.flame_spec.specs.declared.models.Input.{Input}
@@ -10,11 +12,13 @@ use Rattle.flame_spec.specs.declared.models.MessageType.{MessageType}
 use Rattle.flame_spec.specs.ExpressionFaults.{expression_faults, optional_faults}
 use Rattle.flame_spec.specs.Functions.{Place}
 use Rattle.flame_spec.specs.LookUps.{message_looped}
-use Rattle.flame_spec.specs.Scopes.{Context, Loop, over_message, over_none, Sight, in_scope, in_loop, after_items, after, after_all, after_name, messages_at, input_found, input_in}
+use Rattle.flame_spec.specs.Scopes.{Context, Loop, over_message, over_none, Sight, in_scope, in_loop, after, after_all, messages_at, input_found, input_in}
 use Rattle.flame_spec.specs.StatementFaults.{is_input, start_faults, opened, optional_assignment_faults, statement_faults, statements_faults, arms_faults}
-use Rattle.flame_spec.specs.Trees.{Expression, Declared, Assigned}
+use Rattle.flame_spec.specs.Trees.{Expression, Assigned}
 use Rattle.flame_spec.specs.Trees.{Statement, empty, declare, assign, call, block, branch, while, for, do_while, loop_over, return, break, continue}
 use Rattle.flame_spec.specs.Trees.{Statements, no_more, also, Arms, no_arms, arm}
+use Rattle.flame_spec.proofs.FaultTests.{fault_where-none}
+use Rattle.flame_spec.proofs.OpenLoops.{loops-after, loops-after_all}
 use Rattle.flame_body.specs.WordSlots.{deed_at, input_looped, number_found}
 use Rattle.flame_body.specs.NumberedTrees.{numbered, numbered_parts, numbered_assignment, numbered_items, numbered_statement, numbered_statements, numbered_arms}
 use Rattle.flame_body.specs.FitLaws.{unfiled}
@@ -27,7 +31,7 @@ use Rattle.flame_meaning.specs.Statements.{rows_of, currents_of, loop_currents, 
 use Rattle.flame_meaning.specs.Outcomes.{message_named}
 use Rattle.flame_meaning.specs.Agreement.{message_loop, Agrees}
 use Rattle.flame_meaning.specs.AcceptedMeaning.{WentOnAgrees}
-use Rattle.flame_meaning.proofs.Agreeing.{first_none, second_none, no_fault, named_first, statement_agrees, statements_agree, end_agrees, scope_agrees, inside_agree}
+use Rattle.flame_meaning.proofs.Agreeing.{named_first, statement_agrees, statements_agree, end_agrees, scope_agrees, inside_agree}
 use Rattle.flame_meaning.proofs.Naming.{body_names}
 use Rattle.flame_number_laws.specs.NumberedScenes.{NumberedScene, standing_at}
 use Rattle.flame_number_laws.specs.NumberedMeaning.{value_of, scope, first_arm, test_value, step_of, nothing, Run, in_turn, each_row, run_of, arm_of, runs_of}
@@ -37,32 +41,9 @@ use Rattle.flame_number_laws.proofs.BaredEnds.{bared, bared_end, value-bared, sc
 use Rattle.flame_number_laws.proofs.SameWords.{Matches}
 use Rattle.flame_number_laws.proofs.SameExpressions.{value-same}
 use Rattle.flame_number_laws.proofs.SameStores.{assignment-same, step-same, call-same, items-same}
-use Rattle.flame_number_laws.proofs.Standings.{matches-inside, some-there}
+use Rattle.flame_number_laws.proofs.Standings.{matches-inside}
 
 -- ---- loops that are open afterwards
-
-items-loops : (sight : Sight) (items : List Declared) → (after_items sight items).loops ≡ sight.loops
-items-loops sight [] = refl
-items-loops sight (item ∷ items) = items-loops (after_name sight item.name) items
-
-after-loops : (sight : Sight) (x : Statement) → (after sight x).loops ≡ sight.loops
-after-loops sight (declare items) = items-loops sight items
-after-loops sight empty = refl
-after-loops sight (assign a) = refl
-after-loops sight (call line word arguments) = refl
-after-loops sight (block body) = refl
-after-loops sight (branch tests otherwise) = refl
-after-loops sight (while line test body) = refl
-after-loops sight (for line first test step body) = refl
-after-loops sight (do_while line body test) = refl
-after-loops sight (loop_over line word body end_line end_word) = refl
-after-loops sight (return e) = refl
-after-loops sight (break line) = refl
-after-loops sight (continue line) = refl
-
-all-loops : (sight : Sight) (xs : Statements) → (after_all sight xs).loops ≡ sight.loops
-all-loops sight no_more = refl
-all-loops sight (also x xs) = all-loops (after sight x) xs ∙ after-loops sight x
 
 -- a loop over no message changes nothing of what stands before a body
 matches-plain :
@@ -211,7 +192,7 @@ for-same place sight scene before s line first test step body a k opening tested
     entered = (inside_agree place sight scene s [] a).0
 
     there : Matches place here.loops scene before
-    there = subst (λ loops. Matches place loops scene before) (sym (all-loops (in_scope sight) first)) k
+    there = subst (λ loops. Matches place loops scene before) (sym (loops-after_all (in_scope sight) first)) k
 
     named : Progress → End
     named = loop line (test_named test scene) (as_scope (meanings body scene)) (step_named step scene)
@@ -280,9 +261,9 @@ message-same place sight scene before s line word body a k (Some found) looped s
   where
     there : (input : ℕ × Input) × (input_in place.runs found.1 ≡ Some input)
     there =
-        some-there (input_in place.runs found.1)
+        is_some-true (input_in place.runs found.1)
         (input-there place.runs found.1
-        (not-false _ (no_fault (not (is_input place.runs found.1)) place NotInput line word (first_none _ _ start))))
+        (not-false _ (fault_where-none (not (is_input place.runs found.1)) place NotInput line word (append-is_nil_left _ _ start))))
 
     input : ℕ × Input
     input = there.0
@@ -329,51 +310,51 @@ mutual
   statement-same place sight scene before s (branch arms otherwise) a k none =
       arms-same place sight scene before s arms (as_scope (meanings otherwise scene))
       (scope (map run_of (numbered_statements (unfiled place) (in_scope sight) otherwise)))
-      a k (first_none _ _ none)
+      a k (append-is_nil_left _ _ none)
       (body-same place sight scene before s otherwise (inside_agree place sight scene s [] a).0
       (λ t agrees. statements-same place (in_scope sight) scene before t otherwise agrees k
-      (second_none (arms_faults place sight arms) _ none)))
+      (append-is_nil_right (arms_faults place sight arms) _ none)))
       ∙ sym (run-If (numbered_arms (unfiled place) sight arms) (numbered_statements (unfiled place) (in_scope sight) otherwise) before (bared s))
   statement-same place sight scene before s (while line test body) a k none =
-      plain-loop place sight scene before line test body k (first_none _ _ none)
+      plain-loop place sight scene before line test body k (append-is_nil_left _ _ none)
       (λ t agrees. statements-same place (in_loop over_none sight) scene before t body agrees
-      (matches-plain place sight.loops scene before k) (second_none (expression_faults place sight test) _ none))
+      (matches-plain place sight.loops scene before k) (append-is_nil_right (expression_faults place sight test) _ none))
       s a
       ∙ sym (run-While line (numbered (unfiled place) sight test) (numbered_statements (unfiled place) (in_loop over_none sight) body) before (bared s))
   statement-same place sight scene before s (for line first test step body) a k none =
       let opening = statements_faults place (in_scope sight) first in
       let tested = optional_faults place (after_all (in_scope sight) first) test in
       let stepped = optional_assignment_faults place (after_all (in_scope sight) first) step in
-      let three : opening ++ tested ++ stepped ≡ [] = first_none (opening ++ tested ++ stepped) _ none in
-      let two : opening ++ tested ≡ [] = first_none (opening ++ tested) _ three in
+      let three : opening ++ tested ++ stepped ≡ [] = append-is_nil_left (opening ++ tested ++ stepped) _ none in
+      let two : opening ++ tested ≡ [] = append-is_nil_left (opening ++ tested) _ three in
       for-same place sight scene before s line first test step body a k
-      (first_none opening _ two)
-      (second_none opening _ two)
-      (second_none (opening ++ tested) _ three)
-      (λ t agrees. statements-same place (in_scope sight) scene before t first agrees k (first_none opening _ two))
+      (append-is_nil_left opening _ two)
+      (append-is_nil_right opening _ two)
+      (append-is_nil_right (opening ++ tested) _ three)
+      (λ t agrees. statements-same place (in_scope sight) scene before t first agrees k (append-is_nil_left opening _ two))
       (λ t agrees. statements-same place (in_loop over_none (after_all (in_scope sight) first)) scene before t body agrees
       (matches-plain place (after_all (in_scope sight) first).loops scene before
-      (subst (λ loops. Matches place loops scene before) (sym (all-loops (in_scope sight) first)) k))
-      (second_none (opening ++ tested ++ stepped) _ none))
+      (subst (λ loops. Matches place loops scene before) (sym (loops-after_all (in_scope sight) first)) k))
+      (append-is_nil_right (opening ++ tested ++ stepped) _ none))
   statement-same place sight scene before s (do_while line body test) a k none =
       turn-bared place sight scene line (as_scope (meanings body scene))
       (scope (map run_of (numbered_statements (unfiled place) (in_loop over_none sight) body)) before) _ _
       (plain-body place sight scene before body
       (λ t agrees. statements-same place (in_loop over_none sight) scene before t body agrees
-      (matches-plain place sight.loops scene before k) (first_none _ _ none)))
+      (matches-plain place sight.loops scene before k) (append-is_nil_left _ _ none)))
       (λ t agrees. scope_agrees place sight scene t body agrees)
       (plain-loop place sight scene before line test body k
-      (second_none (statements_faults place (in_loop over_none sight) body) _ none)
+      (append-is_nil_right (statements_faults place (in_loop over_none sight) body) _ none)
       (λ t agrees. statements-same place (in_loop over_none sight) scene before t body agrees
-      (matches-plain place sight.loops scene before k) (first_none _ _ none)))
+      (matches-plain place sight.loops scene before k) (append-is_nil_left _ _ none)))
       s a
       ∙ sym (run-Do line (numbered_statements (unfiled place) (in_loop over_none sight) body) (numbered (unfiled place) sight test) before (bared s))
   statement-same place sight scene before s (loop_over line word body end_line end_word) a k none =
       let start = start_faults place sight (message_looped (messages_at place) word) line word in
       let inner = statements_faults place (in_loop (opened (message_looped (messages_at place) word)) sight) body in
-      let two : start ++ inner ≡ [] = first_none (start ++ inner) _ none in
+      let two : start ++ inner ≡ [] = append-is_nil_left (start ++ inner) _ none in
       message-same place sight scene before s line word body a k (message_looped (messages_at place) word) refl
-      (first_none start _ two) (second_none start _ two)
+      (append-is_nil_left start _ two) (append-is_nil_right start _ two)
       (λ found input row t agrees matches clean.
       statements-same place (in_loop (over_message found.1.name) sight) (at_row found row scene) (standing_at input row before) t body
       agrees matches clean)
@@ -396,12 +377,12 @@ mutual
   statements-same place sight scene before s (also x xs) a k none =
       on-bared place (after sight x) scene (meaning x scene s) (meanings xs scene)
       (runs_of (numbered_statements (unfiled place) (after sight x) xs) before)
-      (statement_agrees place sight scene s x a (first_none _ _ none))
+      (statement_agrees place sight scene s x a (append-is_nil_left _ _ none))
       (λ t agrees. statements-same place (after sight x) scene before t xs agrees
-      (subst (λ loops. Matches place loops scene before) (sym (after-loops sight x)) k)
-      (second_none (statement_faults place sight x) _ none))
+      (subst (λ loops. Matches place loops scene before) (sym (loops-after sight x)) k)
+      (append-is_nil_right (statement_faults place sight x) _ none))
       ∙ ap (λ e. on_to e (runs_of (numbered_statements (unfiled place) (after sight x) xs) before))
-      (statement-same place sight scene before s x a k (first_none _ _ none))
+      (statement-same place sight scene before s x a k (append-is_nil_left _ _ none))
 
   pub arms-same :
       (place : Context) (sight : Sight) (scene : Scene) (before : NumberedScene) (s : Progress) (arms : Arms)
@@ -416,17 +397,17 @@ mutual
   arms-same place sight scene before s (arm test body more) otherwise other a k none same =
       let tested = expression_faults place sight test in
       let inner = statements_faults place (in_scope sight) body in
-      let two : tested ++ inner ≡ [] = first_none (tested ++ inner) _ none in
+      let two : tested ++ inner ≡ [] = append-is_nil_left (tested ++ inner) _ none in
       value-bared (value_named test scene s) _
       (λ v. cond (holds v)
       (scope (map run_of (numbered_statements (unfiled place) (in_scope sight) body)) before (bared s))
       (first_arm (map arm_of (numbered_arms (unfiled place) sight more)) other before (bared s)))
       (λ v. either-end (holds v) (as_scope (meanings body scene) s) (first_named more otherwise scene s) _ _
       (body-same place sight scene before s body (inside_agree place sight scene s [] a).0
-      (λ t agrees. statements-same place (in_scope sight) scene before t body agrees k (second_none tested _ two)))
-      (arms-same place sight scene before s more otherwise other a k (second_none (tested ++ inner) _ none) same))
+      (λ t agrees. statements-same place (in_scope sight) scene before t body agrees k (append-is_nil_right tested _ two)))
+      (arms-same place sight scene before s more otherwise other a k (append-is_nil_right (tested ++ inner) _ none) same))
       ∙ ap
       (λ r. with_value r (λ v. cond (holds v)
       (scope (map run_of (numbered_statements (unfiled place) (in_scope sight) body)) before (bared s))
       (first_arm (map arm_of (numbered_arms (unfiled place) sight more)) other before (bared s))))
-      (sym (value-same place sight scene before s a k test (first_none tested _ two)))
+      (sym (value-same place sight scene before s a k test (append-is_nil_left tested _ two)))

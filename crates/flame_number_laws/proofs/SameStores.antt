@@ -1,6 +1,7 @@
 -- What is stored, declared, assigned and done is the same with numbers in place of names.
-use Rattle.std.proofs.Common.{◌≡◌, ℕ, true, cond, ◌||◌, List, [], ◌∷◌, ◌++◌, map, length, Option, Some, None, refl, sym, ap, ◌∙◌, arith}
+use Rattle.std.proofs.Common.{◌≡◌, ℕ, true, cond, ◌||◌, List, [], ◌∷◌, ◌++◌, map, length, Option, Some, None, refl, sym, ap, ◌∙◌, arith, true≢false}
 use Rattle.std.specs.Prelude.{ℤ, pos, is_some, slice_index_or, option_map}
+use Rattle.flame_rows.proofs.Lists.{append-is_nil_left, append-is_nil_right}
 use Rattle.flame_ops.specs.declared.integers.Op.{Op}
 use Rattle.flame_ops.specs.Integers.{applied}
 use Rattle.flame_spec.specs.declared.models.AgentType.{AgentType}
@@ -31,7 +32,7 @@ use Rattle.flame_meaning.specs.Statements.{by_value as by_named, by_initial as b
 use Rattle.flame_meaning.specs.Statements.{assigned_by as assigned_named}
 use Rattle.flame_meaning.specs.Agreement.{names_of, Agrees}
 use Rattle.flame_meaning.specs.AcceptedMeaning.{PlaceFinds, room}
-use Rattle.flame_meaning.proofs.Agreeing.{first_none, second_none, true≢false, item_agrees, inside_agree}
+use Rattle.flame_meaning.proofs.Agreeing.{item_agrees, inside_agree}
 use Rattle.flame_meaning.proofs.Finding.{memory_there, place_finds}
 use Rattle.flame_meaning.proofs.Fitting.{stored_finds, call_does}
 use Rattle.flame_number_laws.specs.NumberedScenes.{NumberedScene, cell_column, local_at, slot_value}
@@ -62,7 +63,7 @@ helper-arguments :
     → is_some o ≡ true
     → arguments_faults place sight line word [] arguments ≡ []
 helper-arguments place sight None line word arguments none there = absurd (true≢false (sym there))
-helper-arguments place sight (Some found) line word arguments none there = second_none _ _ none
+helper-arguments place sight (Some found) line word arguments none there = append-is_nil_right _ _ none
 
 module _ (place : Context) (sight : Sight) (scene : Scene) (before : NumberedScene) (s : Progress) (a : Agrees place sight scene s) (k : Matches place sight.loops scene before) where
   helpers-there : (word : List ℕ) → helper_named scene.context.helpers word ≡ helper_named place.helpers word
@@ -285,7 +286,7 @@ module _ (place : Context) (sight : Sight) (scene : Scene) (before : NumberedSce
       ∙ ap (λ f. f op b.op_line (numbered_stored (unfiled place) sight b.value) before (bared s))
       (sym (target-plain (local_number (names_seen sight) b.name) (given_at place b.name)))
   form-same (Some subscript) op b seen free bracket stored =
-      element-same subscript op b (first_none _ _ bracket) (second_none (indexed_faults place b.line b.name) _ bracket) stored
+      element-same subscript op b (append-is_nil_left _ _ bracket) (append-is_nil_right (indexed_faults place b.line b.name) _ bracket) stored
 
   pub assignment-same :
       (b : Assigned)
@@ -296,13 +297,13 @@ module _ (place : Context) (sight : Sight) (scene : Scene) (before : NumberedSce
       let read = fault_where (is_read_only place b.name) place ReadOnly b.line b.name in
       let bracket = subscript_faults place sight b.line b.name b.subscript in
       let three = unknown ++ read ++ bracket in
-      let front : three ≡ [] = first_none three _ none in
-      let two : unknown ++ read ≡ [] = first_none (unknown ++ read) _ front in
+      let front : three ≡ [] = append-is_nil_left three _ none in
+      let two : unknown ++ read ≡ [] = append-is_nil_left (unknown ++ read) _ front in
       form-same b.subscript b.op b
-      (first_none unknown _ two)
-      (second_none unknown _ two)
-      (second_none (unknown ++ read) _ front)
-      (second_none three _ none)
+      (append-is_nil_left unknown _ two)
+      (append-is_nil_right unknown _ two)
+      (append-is_nil_right (unknown ++ read) _ front)
+      (append-is_nil_right three _ none)
 
   pub step-same :
       (step : Option Assigned)
@@ -364,7 +365,7 @@ module _ (place : Context) (sight : Sight) (scene : Scene) (before : NumberedSce
   given-arguments None deed line word arguments none is = absurd (cc)
   given-arguments (Some other) deed line word arguments none is =
       let same : other ≡ deed = cc in
-      ap (λ d. arguments_faults place sight line word (places_of d) arguments) (sym same) ∙ second_none _ _ none
+      ap (λ d. arguments_faults place sight line word (places_of d) arguments) (sym same) ∙ append-is_nil_right _ _ none
 
   pub call-same :
       (line : ℕ) (word : List ℕ) (arguments : Expressions)
@@ -398,11 +399,11 @@ pub items-same :
     → bared_end (declared items scene s) ≡ declarations (numbered_items (unfiled place) sight items) before (bared s)
 items-same place sight scene before s [] a k none = refl
 items-same place sight scene before s (item ∷ items) a k none =
-    let one : item_faults place sight item ≡ [] = first_none _ _ none in
-    let more = second_none (item_faults place sight item) _ none in
+    let one : item_faults place sight item ≡ [] = append-is_nil_left _ _ none in
+    let more = append-is_nil_right (item_faults place sight item) _ none in
     let inner = (inside_agree place sight scene s item.name a).2 in
     initial-same place (in_value_of item.name sight) scene before s inner k item.value _ _
-    (second_none (declared_faults place sight item.line item.name) _ one)
+    (append-is_nil_right (declared_faults place sight item.line item.name) _ one)
     (λ v fuel.
     items-same place (after_name sight item.name) scene before (with_named item.name v (record s { fuel = fuel })) items
     (item_agrees place sight scene (record s { fuel = fuel }) item v (fuelled place sight scene s fuel a) one)

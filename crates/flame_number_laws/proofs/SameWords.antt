@@ -1,5 +1,5 @@
 -- What words stand for has the value that the words have.
-use Rattle.std.proofs.Common.{◌≡◌, ℕ, ◌+◌, Bool, true, false, cond, ◌||◌, List, [], ◌∷◌, ◌++◌, length, Option, Some, None}
+use Rattle.std.proofs.Common.{◌≡◌, ℕ, ◌+◌, Bool, true, false, cond, ◌||◌, List, [], ◌∷◌, ◌++◌, length, Option, Some, None, true≢false}
 use Rattle.std.proofs.Common.{refl, sym, ap, ◌∙◌, codes, arith}
 use Rattle.std.specs.Prelude.{ℤ, pos, negsuc, nat_lt, is_some, unwrap_or}
 use Rattle.std.specs.List.{list_any}
@@ -15,6 +15,7 @@ use Rattle.flame_spec.specs.ExpressionFaults.{unknown_faults, indexed_faults, ge
 use Rattle.flame_spec.specs.LookUps.{Given, in_memory, constant, iteration, memory_named, constant_named, is_iteration, given_beside, given_by}
 use Rattle.flame_spec.specs.LookUps.{memory_got, message_read}
 use Rattle.flame_spec.specs.Scopes.{Context, Loop, Sight, names_seen, memory_at, messages_at, given_at, is_over, input_in, input_found}
+use Rattle.flame_spec.proofs.FaultTests.{fault_where-none}
 use Rattle.flame_body.specs.WordSlots.{local_number, slot_or_given, slot_given, slot_at, cells_found, cells_given, cells_at, span_found}
 use Rattle.flame_body.specs.WordSlots.{field_span, field_cells, got_column, input_read, number_found}
 use Rattle.flame_body.specs.FunctionBodies.{widths_in}
@@ -24,7 +25,7 @@ use Rattle.flame_meaning.specs.Scenes.{Scene, Progress, local_value, value_given
 use Rattle.flame_meaning.specs.Scenes.{element_column, numbers_of}
 use Rattle.flame_meaning.specs.Outcomes.{message_named}
 use Rattle.flame_meaning.specs.Agreement.{names_of, Agrees}
-use Rattle.flame_meaning.proofs.Agreeing.{no_fault, true≢false, named_first}
+use Rattle.flame_meaning.proofs.Agreeing.{named_first}
 use Rattle.flame_meaning.proofs.Finding.{given_there, memory_there, messages_there, named_there, array_there, given_array}
 use Rattle.flame_number_laws.specs.NumberedScenes.{NumberedScene, slot_value, slot_numbers, span_numbers, cell_column}
 use Rattle.flame_number_laws.proofs.BaredLocals.{no-value, value-found}
@@ -219,7 +220,7 @@ module _ (place : Context) (sight : Sight) (scene : Scene) (before : NumberedSce
       → cell_column (cells_at (unfiled place) word) i ≡ element_column (array_named word scene s) i
   cells-same line word i none =
       let array : names_array place word ≡ true
-      = not-false _ (no_fault _ place NotArray line word none) in
+      = not-false _ (fault_where-none _ place NotArray line word none) in
       let given = (given_array (memory_named (memory_at place) word) place.model.constants word array).1 in
       ap (λ c. cell_column c i) (given-cells (given_at place word))
       ∙ found-cells (memory_of (given_at place word)) i
@@ -286,5 +287,5 @@ module _ (place : Context) (sight : Sight) (scene : Scene) (before : NumberedSce
       → getter_faults place (memory_got (memory_at place) word) line word ≡ []
       → number_at s.memory (got_column (unfiled place) word) ≡ got word scene s
   got-same line word none =
-      found-value (memory_got (memory_at place) word) s.memory (not-false _ (no_fault _ place UnknownCall line word none))
+      found-value (memory_got (memory_at place) word) s.memory (not-false _ (fault_where-none _ place UnknownCall line word none))
       ∙ ap (λ m. value_found (memory_got m word) s.memory) (sym (memory_there place sight scene s a))

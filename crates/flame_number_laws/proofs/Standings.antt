@@ -1,9 +1,11 @@
 -- What a numbered body has before it inside a loop over a message.
-use Rattle.std.proofs.Common.{◌≡◌, ℕ, Bool, true, false, cond, ◌||◌, List, ◌∷◌, Option, Some, None, refl, sym, ap, ◌∙◌, arith}
+use Rattle.std.proofs.Common.{◌≡◌, ℕ, Bool, true, false, cond, ◌||◌, List, ◌∷◌, Option, Some, None, refl, sym, ap, ◌∙◌, arith, true≢false}
 use Rattle.std.specs.Prelude.{ℤ, ◌==◌, is_some, slice_get}
 use Rattle.std.specs.List.{list_any}
 use Rattle.std.specs.Str.{bytes_eq}
-use Rattle.std.proofs.lemmas.Bool.{eqb-true, eq-eqb}
+use Rattle.std.proofs.lemmas.Bool.{eq-eqb, ne_eqb}
+use Rattle.flame_rows.proofs.Bytes.{bytes_eq-true, bytes_eq-same}
+use Rattle.flame_rows.proofs.Truths.{is_some-true}
 use Rattle.flame_spec.specs.declared.models.Input.{Input}
 use Rattle.flame_spec.specs.declared.models.MessageType.{MessageType}
 use Rattle.flame_spec.specs.Functions.{Place}
@@ -14,7 +16,6 @@ use Rattle.flame_body.proofs.Columned.{numbered-at}
 use Rattle.flame_meaning.specs.Scenes.{Scene, row_over}
 use Rattle.flame_meaning.specs.Statements.{inside}
 use Rattle.flame_meaning.specs.Outcomes.{message_named}
-use Rattle.flame_meaning.proofs.Agreeing.{same_bytes, bytes_same, true≢false}
 use Rattle.flame_number_laws.specs.NumberedScenes.{NumberedScene, standing_at}
 use Rattle.flame_number_laws.proofs.SameWords.{Matches}
 
@@ -48,18 +49,7 @@ one-input (Some p) m n i j first second same =
     = sym here.there ∙ ap (slice_get p.function.inputs) place ∙ there.there in
     let equal : i.1 ≡ j.1 = cc in
     let message : i.1.message ≡ j.1.message = ap (λ (x : Input). x.message) equal in
-    sym (same_bytes i.1.message m.name here.passes_it) ∙ message ∙ same_bytes j.1.message n.name there.passes_it
-
-pub some-there : {X : Type 0} (o : Option X) → is_some o ≡ true → (x : X) × (o ≡ Some x)
-some-there (Some x) h = (x, refl)
-some-there None h = absurd (true≢false (sym h))
-
-not-equal : (a b : ℕ) → (a ≡ b → ⊥) → (a == b) ≡ false
-not-equal a b h = by_test (a == b) refl
-  where
-    by_test : (t : Bool) → (a == b) ≡ t → t ≡ false
-    by_test true e = absurd (h (eqb-true a b e))
-    by_test false e = refl
+    sym (bytes_eq-true i.1.message m.name here.passes_it) ∙ message ∙ bytes_eq-true j.1.message n.name there.passes_it
 
 -- inside a loop over the message, which is over this input and stands at this row
 pub matches-inside :
@@ -93,7 +83,7 @@ matches-inside place loops scene before number message input row k first is = re
         → bytes_eq message.name other.name ≡ b
         → (b || list_any (is_over other) loops) ≡ true
         → is_some (input_in place.runs other) ≡ true
-    has_input other true e opens = ap is_some (same-input other (same_bytes message.name other.name e) ∙ is)
+    has_input other true e opens = ap is_some (same-input other (bytes_eq-true message.name other.name e) ∙ is)
     has_input other false e opens = k.inputs other opens
 
     row_there :
@@ -105,7 +95,7 @@ matches-inside place loops scene before number message input row k first is = re
         → (standing_at input.0 row before).current_rows (number_found (input_in place.runs other))
         ≡ row_over n (record { message = number; row = row } ∷ scene.open_loops)
     row_there n other named true e opens =
-        let same : message.name ≡ other.name = same_bytes message.name other.name e in
+        let same : message.name ≡ other.name = bytes_eq-true message.name other.name e in
         let found : ◌≡◌ {A = Option (ℕ × MessageType)} (Some (number, message)) (Some (n, other))
         = sym first ∙ ap (message_named (messages_at place)) same ∙ named in
         let pair : ◌≡◌ {A = ℕ × MessageType} (number, message) (n, other) = cc in
@@ -114,13 +104,13 @@ matches-inside place loops scene before number message input row k first is = re
         ∙ ap (λ b. cond b row (before.current_rows input.0)) (eq-eqb input.0 input.0 refl)
         ∙ sym (ap (λ b. cond b row (row_over n scene.open_loops)) (eq-eqb number n numbered))
     row_there n other named false e opens =
-        let mine = some-there (input_in place.runs other) (k.inputs other opens) in
-        let apart : (message.name ≡ other.name) → ⊥ = λ same. true≢false (sym (bytes_same message.name other.name same) ∙ e) in
+        let mine = is_some-true (input_in place.runs other) (k.inputs other opens) in
+        let apart : (message.name ≡ other.name) → ⊥ = λ same. true≢false (sym (bytes_eq-same message.name other.name same) ∙ e) in
         let input-apart : ((number_found (input_in place.runs other)) == input.0) ≡ false
-        = not-equal (number_found (input_in place.runs other)) input.0
+        = ne_eqb (number_found (input_in place.runs other)) input.0
         (λ same. apart (sym (one-input place.runs other message mine.0 input mine.1 is (sym (ap number_found mine.1) ∙ same)))) in
         let number-apart : (number == n) ≡ false
-        = not-equal number n
+        = ne_eqb number n
         (λ same. apart (one-name (messages_at place) n message other
         (first ∙ ap (λ i. Some (i, message)) same) named)) in
         ap (λ b. cond b row (before.current_rows (number_found (input_in place.runs other)))) input-apart

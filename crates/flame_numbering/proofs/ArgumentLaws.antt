@@ -5,19 +5,14 @@ use Rattle.flame_spec.specs.declared.models.Variable.{Variable}
 use Rattle.flame_spec.specs.declared.trees.Expr.{Expr}
 use Rattle.flame_spec.specs.CallFaults.{argument_faults, arguments_faults, called_by, count}
 use Rattle.flame_spec.specs.Definitions.{Definition}
-use Rattle.flame_spec.specs.ExpressionFaults.{expression_faults, parts_faults}
+use Rattle.flame_spec.specs.ExpressionFaults.{expression_faults}
 use Rattle.flame_spec.specs.Scopes.{Context, Sight}
 use Rattle.flame_spec.specs.Seen.{expression, expressions}
-use Rattle.flame_spec.specs.Trees.{Expression, Expressions, no_parts, part}
+use Rattle.flame_spec.specs.Trees.{Expression, Expressions, part}
 use Rattle.flame_body.specs.WordSlots.{number_found}
 use Rattle.flame_numbering.specs.Arguments.{next_length, number_called}
 use Rattle.flame_numbering.proofs.Rests.{rest-next}
-
-arguments-none :
-    (context : Context) (sight : Sight) (line : ℕ) (word : List ℕ) (es : Expressions)
-    → arguments_faults context sight line word [] es ≡ parts_faults context sight es
-arguments-none context sight line word no_parts = refl
-arguments-none context sight line word (part e es) = refl
+use Rattle.flame_body.proofs.FittedCalls.{plain-arguments}
 
 arguments-part :
     (context : Context) (sight : Sight) (line : ℕ) (word : List ℕ) (variables : List Variable)
@@ -26,7 +21,7 @@ arguments-part :
     ≡ argument_faults context sight line word (next_length variables) e
     ++ arguments_faults context sight line word (drop 1 variables) es
 arguments-part context sight line word [] e es =
-    ap (λ l. expression_faults context sight e ++ l) (sym (arguments-none context sight line word es))
+    ap (λ l. expression_faults context sight e ++ l) (sym (plain-arguments context sight line word es))
 arguments-part context sight line word (variable ∷ variables) e es = refl
 
 -- the arguments that are left are the next one, for the next variable, and those behind it

@@ -1,18 +1,14 @@
 -- First faults of lists that are laid end to end.
-use Rattle.std.proofs.Common.{◌≡◌, List, [], ◌∷◌, ◌++◌, Some, sym, subst, ap, ◌∙◌}
+use Rattle.std.proofs.Common.{◌≡◌, List, [], ◌++◌, sym, subst, ap, ◌∙◌}
 use Rattle.flame_rows.specs.declared.fails.Fail.{Fail}
 use Rattle.flame_rows.specs.declared.fails.Fail.TheVariants.{Fault, NoMemory}
 use Rattle.flame_spec.specs.declared.faults.CheckFault.{CheckFault}
 use Rattle.flame_spec.specs.FirstFaults.{FailsFirst}
-use Rattle.flame_spec.specs.Lists.{first}
-
-first_stays : (xs ys : List CheckFault) (fault : CheckFault) → first xs ≡ Some fault → first (xs ++ ys) ≡ Some fault
-first_stays [] ys fault h = absurd (cc)
-first_stays (x ∷ xs) ys fault h = h
+use Rattle.flame_spec.proofs.Numbered.{first-append}
 
 -- the first of a list is the first of it with more behind it
 pub first_more : (xs ys : List CheckFault) (fail : Fail CheckFault) → FailsFirst xs fail → FailsFirst (xs ++ ys) fail
-first_more xs ys (Fault fault) h = first_stays xs ys fault h
+first_more xs ys (Fault fault) h = first-append xs ys fault h
 first_more xs ys NoMemory h = tt
 
 -- the first behind a list without faults is the first of both

@@ -7,12 +7,10 @@ use Rattle.std.specs.Str.{bytes_eq}
 use Rattle.std.proofs.lemmas.List.{reverse-append}
 use Rattle.std.proofs.lemmas.Map.Text.{hash_map_updates_str}
 use Rattle.std.proofs.lemmas.Slice.Eq.{bytes_eq-Decides}
+use Rattle.flame_rows.proofs.Bytes.{bytes_eq-self}
 use Rattle.flame_numbering.specs.declared.locals.Mark.{Mark}
 use Rattle.flame_body.specs.WordSlots.{local_number}
 use Rattle.flame_numbering.specs.LocalTables.{names_of, names_kept, HidesRight, Finds}
-
-pub bytes_eq-self : (name : List ℕ) → bytes_eq name name ≡ true
-bytes_eq-self name = (bytes_eq-Decides name name).1 refl
 
 pub kept_push : (marks : List Mark) (mark : Mark) → names_kept (marks ++ mark ∷ []) ≡ mark.name.now ∷ names_kept marks
 kept_push marks mark = ap names_of (reverse-append marks (mark ∷ []))

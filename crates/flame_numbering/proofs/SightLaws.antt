@@ -9,7 +9,8 @@ use Rattle.flame_spec.specs.KnownNames.{is_among}
 use Rattle.flame_spec.specs.Scopes.{Loop, laid, names_seen, is_local}
 use Rattle.flame_body.specs.WordSlots.{local_number}
 use Rattle.std.proofs.lemmas.Bool.Decides.{nat_tests}
-use Rattle.flame_body.proofs.NamesSeen.{bytes_eq-turned, among-number, among-laid}
+use Rattle.flame_rows.proofs.Bytes.{bytes_eq-sym}
+use Rattle.flame_body.proofs.NamesSeen.{among-number, among-laid, number-below}
 use Rattle.flame_numbering.specs.SightTables.{cut, total, sight_of, loop_of}
 
 -- names cut into scopes are those names
@@ -19,22 +20,6 @@ laid-cut [] (name ∷ names) h = absurd (omega arith)
 laid-cut (n ∷ ns) names h =
     ap (λ l. take n names ++ l) (laid-cut ns (drop n names) (omega (arith, length-drop n names)))
     ∙ take-append-drop n names
-
--- a number is below that of the names
-pub number-below :
-    (word : List ℕ) (names : List (List ℕ)) (number : ℕ)
-    → local_number names word ≡ Some number
-    → number < length names
-number-below word [] number h = absurd (cc)
-number-below word (name ∷ names) number h = by_test (bytes_eq name word) (number-below word names number) h
-  where
-    by_test :
-        (b : Bool)
-        → (local_number names word ≡ Some number → number < length names)
-        → cond b (Some (length names)) (local_number names word) ≡ Some number
-        → number < length (name ∷ names)
-    by_test true more g = let same : length names ≡ number = cc in omega arith
-    by_test false more g = let below : number < length names = more g in omega arith
 
 -- the name stands among the first so many, by its number
 abbrev pub stands_in : ℕ → ℕ → Option ℕ → Bool
@@ -60,7 +45,7 @@ pub among-taken :
 among-taken word names zero h = none_there word names (local_number names word) refl
 among-taken word [] (suc here) h = absurd (omega arith)
 among-taken word (name ∷ names) (suc here) h =
-    ap (λ b. b || is_among word (take here names)) (bytes_eq-turned word name)
+    ap (λ b. b || is_among word (take here names)) (bytes_eq-sym word name)
     ∙ by_test (bytes_eq name word) (among-taken word names here (omega arith))
   where
     by_test :

@@ -1,12 +1,11 @@
 -- Counts of those that wait.
-use Rattle.std.proofs.Common.{◌≡◌, ℕ, zero, suc, ◌+◌, ◌-◌, ◌<◌, ◌≤◌, List, [], ◌∷◌, ◌++◌, length, take, get_or, set, replicate, refl, sym, ap, ◌∙◌, subst, arith, ⊎_elim, Bool, true, false, cond, get_or-set_same, get_or-set_other, length-set, zero-add, append-nil, take_all, drop}
+use Rattle.std.proofs.Common.{◌≡◌, ℕ, zero, suc, ◌+◌, ◌-◌, ◌<◌, ◌≤◌, List, [], ◌∷◌, length, take, get_or, set, refl, sym, ap, ◌∙◌, subst, arith, ⊎_elim, Bool, true, false, cond, get_or-set_same, get_or-set_other, length-set, zero-add}
 use Rattle.std.specs.Prelude.{◌==◌, ◌||◌, not, slice_index, slice_set}
 use Rattle.std.specs.List.{All, list_all}
-use Rattle.std.proofs.lemmas.List.{drop_all}
 use Rattle.std.proofs.lemmas.Bool.{eq-eqb, ne_eqb, cases_eq}
-use Rattle.std.proofs.lemmas.List.Elements.{All-set, All-push, All-get_or, All-nil, All-replicate}
-use Rattle.std.proofs.lemmas.List.Folds.{sum_by-zero, sum_by-replicate}
-use Rattle.std.proofs.lemmas.List.Sums.{sum_by-cons, sum_by_push, sum_by_more, sum_by_more_le, sum_by-set, get_or-le-sum_by}
+use Rattle.std.proofs.lemmas.List.Elements.{All-set, All-push, All-get_or}
+use Rattle.std.proofs.lemmas.List.Folds.{sum_by-zero}
+use Rattle.std.proofs.lemmas.List.Sums.{sum_by-cons, sum_by_push, sum_by_more, sum_by_more_le, sum_by-set}
 use Rattle.flame_spec.specs.Below.{is_in, times}
 use Rattle.flame_pieces.specs.Waiting.{Awaited, thing_at, is_free, waited_by, finished, open_times, AreCounts}
 
@@ -41,11 +40,6 @@ lessened waiters counts before i within there some number so_far =
     omega (arith, here, none, more, so_far))
     (cases_eq waiter number)
 
--- a list that was lent whole
-pub whole : {X : Type 0} (xs ys : List X) (n : ℕ) → length xs ≡ length ys → n ≡ length ys → take n (xs ++ drop (length xs) ys) ≡ xs
-whole xs ys n long all =
-    ap (λ rest. take n (xs ++ rest)) (drop_all (length xs) ys (omega (arith, long))) ∙ ap (take n) (append-nil xs) ∙ take_all n xs (omega (arith, long, all))
-
 -- ---- a thing changes
 
 -- what is not done is there
@@ -57,13 +51,6 @@ is_there (first ∷ things) (suc thing) waits = omega (arith, is_there things th
 -- how often one waits for a thing that is not done
 pub open_is : (number : ℕ) (thing : Awaited) → thing.done ≡ false → open_times number thing ≡ times number thing.waiters
 open_is number thing waits = ap (λ d. cond d 0 (times number thing.waiters)) waits
-
--- the counts have enough to take away
-pub counts_enough : (things : List Awaited) (counts : List ℕ) (thing : ℕ) → AreCounts things counts → (thing_at things thing).done ≡ false
-    → (number : ℕ) → times number (thing_at things thing).waiters ≤ slice_index counts number
-counts_enough things counts thing are waits number =
-    let least = get_or-le-sum_by (open_times number) things thing (record { waiters = []; done = true }) (is_there things thing waits) in
-    omega (arith, least, open_is number (thing_at things thing) waits, are.counted number)
 
 pub within_at : (things : List Awaited) (counts : List ℕ) (thing : ℕ) → AreCounts things counts → (thing_at things thing).done ≡ false
     → All (λ waiter. waiter < length counts) (thing_at things thing).waiters
@@ -138,20 +125,3 @@ count_none things counts number count are =
     ap (λ n. n == 0) (are.counted number)
     ∙ sum_by-zero (open_times number) things
     ∙ (λ i. list_all (λ thing. open_none number thing i) things)
-
--- at first nobody is counted
-abbrev zeros : ℕ → List ℕ
-zeros waiting = replicate waiting 0
-
-zero_at : (waiting number : ℕ) → slice_index (zeros waiting) number ≡ 0
-zero_at zero number = refl
-zero_at (suc waiting) zero = refl
-zero_at (suc waiting) (suc number) = zero_at waiting number
-
-pub counts_none : (things waiting : ℕ) (list : List Awaited) → list ≡ replicate things (record { waiters = []; done = false }) → AreCounts list (zeros waiting)
-counts_none things waiting list same =
-    let nobody : Awaited = record { waiters = []; done = false } in
-    subst (λ l. AreCounts l (zeros waiting)) (sym same) (record {
-      within = All-replicate (λ (t : Awaited). All (λ w. w < length (zeros waiting)) t.waiters) things nobody (All-nil (λ (w : ℕ). w < length (zeros waiting)));
-      counted = λ number. zero_at waiting number ∙ sym (sum_by-replicate (open_times number) things nobody ∙ omega arith);
-    })

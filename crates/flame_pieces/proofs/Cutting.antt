@@ -1,13 +1,12 @@
 -- Agents, as they are cut into pieces.
-use Rattle.std.proofs.Common.{◌≡◌, ℕ, zero, suc, ◌+◌, ◌-◌, ◌/◌, ◌<◌, ◌≤◌, false, List, [], ◌∷◌, ◌++◌, length, take, drop, refl, sym, ap, ◌∙◌, arith, append_assoc, append-nil, take_all}
-use Rattle.std.proofs.lemmas.List.{drop_all}
+use Rattle.std.proofs.Common.{◌≡◌, ℕ, zero, suc, ◌+◌, ◌-◌, ◌<◌, false, List, [], ◌∷◌, ◌++◌, length, take, drop, refl, sym, ap, ◌∙◌, arith, append_assoc, append-nil}
 use Rattle.std.specs.Prelude.{ℤ, ◌==◌}
-use Rattle.std.proofs.Math.Nat.{add-div_right}
 use Rattle.flame_rows.specs.Bags.{ascending}
 use Rattle.flame_rows.specs.Order.{row_order}
 use Rattle.flame_rows.specs.Sorted.{IsBelowAll, IsAscending}
 use Rattle.flame_rows.proofs.BagLaws.{ascending-IsAscending}
-use Rattle.flame_events.specs.Cuts.{piece_size, runs, cut}
+use Rattle.flame_events.specs.Cuts.{runs}
+use Rattle.flame_events.proofs.EvenCuts.{none_to_run}
 
 -- ---- parts of rows in order
 
@@ -28,24 +27,11 @@ ascending_drop (suc n) (row ∷ rows) ascends = ascending_drop n rows ascends.1
 
 -- ---- the size of a piece
 
-pub size_is : (agents pieces others : ℕ) → 1 ≤ pieces → agents ≡ others + 1 → others / pieces + 1 ≡ piece_size agents pieces
-size_is agents pieces others some more =
-    let all : agents + pieces - 1 ≡ others + pieces = omega (arith, more, some) in
-    sym (add-div_right others {k = pieces} (omega (arith, some))) ∙ ap (λ n. n / pieces) (sym all)
-
 pub some_run : (n : ℕ) → (n == 0) ≡ false → 0 < n
 some_run zero fails = absurd cc
 some_run (suc n) fails = omega arith
 
 -- ---- one piece more
-
-none_to_run : (pieces size : ℕ) → runs pieces size (let none : List (List ℤ) = [] in none) ≡ []
-none_to_run zero size = refl
-none_to_run (suc pieces) size = refl
-
-pub none_to_cut : (pieces : ℕ) (agents : List (List ℤ)) → length agents ≡ 0 → [] ≡ cut pieces agents
-none_to_cut pieces [] none = sym (none_to_run pieces (piece_size 0 pieces))
-none_to_cut pieces (agent ∷ agents) none = absurd (omega (arith, none))
 
 pub cut_over : (bags : List (List (List ℤ))) (pieces size : ℕ) (rest run : List (List ℤ)) → 0 < size → run ≡ take size rest → length run ≡ 0
     → bags ≡ bags ++ runs pieces size rest
@@ -71,23 +57,3 @@ cut_more bags pieces i size (row ∷ rest) run left more some is others ascends 
     ∙ sym (ap (λ n. bags ++ runs n size (row ∷ rest)) fewer)
 
 -- ---- the next rows
-
-pub rest_is : (all rows rest : List (List ℤ)) (n : ℕ) → all ≡ rows ++ rest → length rows ≡ n → (rows ≡ take n all) × (rest ≡ drop n all)
-rest_is all [] rest zero joined long = (refl, sym joined)
-rest_is all [] rest (suc n) joined long = absurd (omega (arith, long))
-rest_is all (row ∷ rows) rest zero joined long = absurd (omega (arith, long))
-rest_is [] (row ∷ rows) rest (suc n) joined long = absurd cc
-rest_is (first ∷ all) (row ∷ rows) rest (suc n) joined long =
-    let same : first ≡ row = cc in
-    let joined_rest : all ≡ rows ++ rest = cc in
-    let later = rest_is all rows rest n joined_rest (omega (arith, long)) in
-    let turned : row ≡ first = sym same in
-    (λ i. turned i ∷ later.0 i, later.1)
-
--- where nothing is left all were taken
-pub all_taken : (all rows rest : List (List ℤ)) (i most : ℕ) → all ≡ rows ++ rest → rest ≡ [] → length rows ≡ i → i ≤ most
-    → (rows ≡ take most all) × (rest ≡ drop most all)
-all_taken all rows rest i most joined none long within =
-    let same : all ≡ rows = joined ∙ ap (λ l. rows ++ l) none ∙ append-nil rows in
-    let short : length all ≤ most = omega (arith, within, long, ap (length {A = List ℤ}) same) in
-    (sym (take_all most all short ∙ same), none ∙ sym (drop_all most all short))

@@ -2,7 +2,7 @@
 use Rattle.std.proofs.Common.{◌≡◌, ℕ, zero, suc, ◌<◌, ◌≤◌, Bool, true, false, cond, List, [], ◌∷◌, ◌++◌, length, take, replicate, refl, sym, ap, ◌∙◌, arith, ⊎_elim, add-one, take_all, length-set, get_or-set_same, get_or-set_other}
 use Rattle.std.specs.Prelude.{◌==◌, ◌||◌, ◌&&◌, not, slice_index_or, slice_set}
 use Rattle.std.specs.List.{All, list_all}
-use Rattle.std.proofs.lemmas.Bool.{eq-eqb, ne_eqb, eqb-true, cases_eq, and_parts, and_from, false≢true}
+use Rattle.std.proofs.lemmas.Bool.{eq-eqb, ne_eqb, cases_eq, and_parts, and_from}
 use Rattle.std.proofs.lemmas.List.{length-replicate}
 use Rattle.std.proofs.lemmas.List.Elements.{All-head, All-tail}
 use Rattle.std.proofs.lemmas.List.Folds.{list_all_more, list_all-append, list_any-append}
@@ -10,6 +10,7 @@ use Rattle.std.proofs.Math.Bool.{or-false}
 use Rattle.flame_spec.specs.Below.{all_below, is_in}
 use Rattle.flame_pieces.specs.Waiting.{Awaited, Waiting, thing_at, is_free, waited_by, finished}
 use Rattle.flame_pieces.specs.FreeThings.{FreeWhereAllAreDone, FreeWhereTheseAreDone, NothingIsTold, WaitersAreTold, WhatIsDoneIsTold}
+use Rattle.flame_events.proofs.Works.{all_of_list}
 
 abbrev lets_go : ℕ → Awaited → Bool
 lets_go number thing = thing.done || not (is_in number thing.waiters)
@@ -80,16 +81,6 @@ all_these done (first ∷ these) n within all =
     or_right : (a b : Bool) → b ≡ true → (a || b) ≡ true
     or_right a b holds = elim a as (λ t. (t || b) ≡ true) [ true ↦ refl | false ↦ holds ]
 
-from_these : (done : ℕ → Bool) (these : List ℕ) → list_all done these ≡ true → (k : ℕ) → is_in k these ≡ true → done k ≡ true
-from_these done [] all k among = absurd (false≢true among)
-from_these done (first ∷ these) all k among =
-    let parts = and_parts (done first) (list_all done these) all in
-    (elim (first == k) as (λ t. (first == k) ≡ t → (t || is_in k these) ≡ true → done k ≡ true) [
-      | true ↦ λ same _. ap done (sym (eqb-true first k same)) ∙ parts.0
-      | false ↦ λ _ later. from_these done these parts.1 k later
-    ])
-    refl among
-
 all_below_these : (done : ℕ → Bool) (these : List ℕ) → list_all done these ≡ true → (n : ℕ) → list_all done (all_below (λ k. is_in k these) n) ≡ true
 all_below_these done these all zero = refl
 all_below_these done these all (suc n) =
@@ -97,7 +88,7 @@ all_below_these done these all (suc n) =
     ∙ and_from (list_all done (all_below (λ k. is_in k these) n)) (list_all done (cond (is_in n these) (n ∷ []) []))
     (all_below_these done these all n)
     ((elim (is_in n these) as (λ t. is_in n these ≡ t → list_all done (cond t (n ∷ []) []) ≡ true) [
-      | true ↦ λ among. and_from (done n) true (from_these done these all n among) refl
+      | true ↦ λ among. and_from (done n) true (all_of_list done these n all among) refl
       | false ↦ λ _. refl
     ])
     refl)

@@ -1,7 +1,7 @@
 -- The parts of a piece, as messages join what it sent, and as they are handed in.
 use Rattle.std.proofs.Common.{◌≡◌, ℕ, zero, suc, ◌+◌, ◌<◌, ◌≤◌, Bool, true, false, cond, List, [], ◌∷◌, ◌++◌, map, Option, Some, None, refl, sym, ap, ◌∙◌, subst, arith, one-add, add-one, ⊎_elim, length, take, drop, get_or, drop-cons}
 use Rattle.std.proofs.lemmas.List.{length-map, take_more}
-use Rattle.std.specs.Prelude.{ℤ, option_map, slice_set, slice_index_or, ◌==◌, not, ◌&&◌, is_none, is_some}
+use Rattle.std.specs.Prelude.{ℤ, option_map, slice_set, slice_index_or, ◌==◌, not, ◌&&◌, is_none}
 use Rattle.std.specs.List.{count_by, filter, list_all, position_or_len}
 use Rattle.std.proofs.lemmas.Bool.{eq-eqb, ne_eqb, cases_eq}
 use Rattle.std.proofs.lemmas.List.Sums.{length-filter, sum_by-cons}
@@ -147,13 +147,6 @@ none_kept sent output =
       | false ↦ refl
     ]
 
-pub some_kept : (sent : List Sent) (output : Output) → not output.handed ≡ is_some (part_of sent output)
-some_kept sent output =
-    elim output.handed as (λ b. not b ≡ is_some (cond b None (Some (ascending (messages_of sent output.message))))) [
-      | true ↦ refl
-      | false ↦ refl
-    ]
-
 pub all_handed : (sent : List Sent) (outputs : List Output) → HasNoTwice (messages_in outputs)
     → list_all (λ output. output.handed) outputs
     ≡ list_all (λ message. is_none (part_in (messages_in outputs) (map (part_of sent) outputs) message)) (messages_in outputs)
@@ -174,14 +167,6 @@ all_handed sent (output ∷ outputs) once =
     λ i. here i && rest i
 
 -- ---- one output after another
-
-pub next_part : (sent : List Sent) (outputs : List Output) (i : ℕ) (d : Output) (message : ℕ) → i < length outputs
-    → part_in (messages_in (drop i outputs)) (map (part_of sent) (drop i outputs)) message
-    ≡ cond ((get_or outputs i d).message == message) (part_of sent (get_or outputs i d))
-    (part_in (messages_in (drop (i + 1) outputs)) (map (part_of sent) (drop (i + 1) outputs)) message)
-next_part sent outputs i d message within =
-    ap (λ l. part_in (messages_in l) (map (part_of sent) l) message) (drop-cons outputs i d within ∙ ap (λ n. get_or outputs i d ∷ drop n outputs) (sym (add-one i)))
-    ∙ part_in-cons message (get_or outputs i d).message (messages_in (drop (i + 1) outputs)) (part_of sent (get_or outputs i d)) (map (part_of sent) (drop (i + 1) outputs))
 
 -- ---- the place of an output
 
@@ -223,12 +208,6 @@ place_later (output ∷ outputs) (suc i) d message within below apart =
     let rest = place_later outputs i d message (omega (arith, within)) (omega (arith, below, later)) apart in
     omega (arith, later, rest))
     (cases_eq output.message message)
-
--- what lies past the end changes nothing
-pub set_past : {X : Type 0} (xs : List X) (k : ℕ) (x : X) → length xs ≤ k → slice_set xs k x ≡ xs
-set_past [] k x past = refl
-set_past (y ∷ xs) zero x past = absurd (omega (arith, past))
-set_past (y ∷ xs) (suc k) x past = ap (λ l. y ∷ l) (set_past xs k x (omega (arith, past)))
 
 -- ---- how many messages
 

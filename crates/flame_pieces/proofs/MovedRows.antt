@@ -29,10 +29,6 @@ rest_next before now after_all i after is same =
     ∙ ap (drop 1) same
     ∙ drop-drop 1 i before
 
-own : (before : List Sent) (i : ℕ) (item : Sent) (message : ℕ) → item ≡ get_or before i item
-    → messages_of (get_or before i item ∷ []) message ≡ cond (item.message == message) (item.row ∷ []) []
-own before i item message is = ap (λ (s : Sent). messages_of (s ∷ []) message) (sym is) ∙ one_message item message
-
 pub more_is : (before : List Sent) (i : ℕ) (item : Sent) (message : ℕ) → i < length before → item ≡ get_or before i item
     → messages_of (take (i + 1) before) message ≡ messages_of (take i before) message ++ cond (item.message == message) (item.row ∷ []) []
 more_is before i item message within is =

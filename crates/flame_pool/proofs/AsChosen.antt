@@ -6,6 +6,7 @@ use Rattle.std.specs.Option.{option_map_or}
 use Rattle.std.proofs.lemmas.Bool.Decides.{eqb_tells}
 use Rattle.std.proofs.lemmas.List.Folds.{find_at}
 use Rattle.std.proofs.lemmas.Iterator.Adapters.{position_from-zero}
+use Rattle.std.proofs.lemmas.Bool.{ne_eqb, eq-eqb}
 use Rattle.flame_spec.specs.declared.models.Model.{Model}
 use Rattle.flame_spec.specs.declared.models.TimeUnit.{TimeUnit}
 use Rattle.flame_spec.specs.declared.models.AgentType.{AgentType}
@@ -18,7 +19,6 @@ use Rattle.flame_pool.specs.Choosing.{lets_through, admits, first_place}
 use Rattle.flame_pool.specs.Parting.{whose}
 use Rattle.flame_cond.specs.Said.{IsConditionOf}
 use Rattle.flame_pool.specs.PoolLaws.{permits_at, ChoiceIsFirstOut, PlaceIsChoice, WhoseAreTakers}
-use Rattle.flame_pool.proofs.Parts.{is_same, is_other}
 
 -- ---- the first of all that pass two tests is the first, of those that pass one, that passes the other
 
@@ -84,7 +84,7 @@ module _ {X : Type 0} (p : X → Bool) (n : ℕ) where
 
 not_chosen : (function : ℕ) (o : Option ℕ) → ((n : ℕ) → o ≡ Some n → n ≡ function → ⊥) → is_chosen function o ≡ false
 not_chosen function None other = refl
-not_chosen function (Some n) other = is_other n function (other n refl)
+not_chosen function (Some n) other = ne_eqb n function (other n refl)
 
 -- an agent chose the place where it chose the function there
 module _ (numbers : List ℕ) (function place : ℕ) (at : slice_get numbers place ≡ Some function)
@@ -93,7 +93,7 @@ module _ (numbers : List ℕ) (function place : ℕ) (at : slice_get numbers pla
   place-chosen chosen = elim (eqb_tells chosen place) [
     | inl agree ↦
         agree.0
-        ∙ sym (is_same function function refl)
+        ∙ sym (eq-eqb function function refl)
         ∙ ap (is_chosen function) (sym at ∙ ap (slice_get numbers) (sym agree.1))
     | inr differ ↦
         differ.0

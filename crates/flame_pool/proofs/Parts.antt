@@ -1,9 +1,7 @@
 -- Pools parted row by row, and joined again.
 use Rattle.std.proofs.Common.{◌≡◌, ℕ, ◌+◌, Bool, true, false, cond, List, [], ◌∷◌, ◌++◌, length, refl, sym, ap, ◌∙◌, arith, append_assoc, append-nil, ◌⊎◌, inl, inr}
-use Rattle.std.specs.Prelude.{ℤ, not, ◌==◌}
+use Rattle.std.specs.Prelude.{ℤ, not}
 use Rattle.std.specs.List.{flat_map}
-use Rattle.std.proofs.lemmas.Bool.{eq-eqb}
-use Rattle.std.proofs.lemmas.Bool.Decides.{eqb_tells}
 use Rattle.flame_rows.specs.Order.{row_order}
 use Rattle.flame_rows.specs.Sorted.{IsBelowAll, IsAscending}
 use Rattle.flame_rows.specs.Bags.{ascending, merge, weigh}
@@ -115,9 +113,3 @@ joined-all born rows pools [] so_far none =
 joined-all born rows pools (pool ∷ left) so_far none = absurd (omega (arith, none))
 
 -- ---- tests of choices
-
-pub is_same : (a b : ℕ) → a ≡ b → (a == b) ≡ true
-is_same a b same = eq-eqb a b same
-
-pub is_other : (a b : ℕ) → (a ≡ b → ⊥) → (a == b) ≡ false
-is_other a b other = elim (eqb_tells a b) [ inl agree ↦ absurd (other agree.1) | inr differ ↦ differ.0 ]

@@ -6,6 +6,7 @@ use Rattle.std.specs.Option.{option_map_or}
 use Rattle.std.specs.Str.{bytes_eq}
 use Rattle.std.proofs.lemmas.Bool.{or_parts}
 use Rattle.std.proofs.lemmas.List.Elements.{filter_map-append}
+use Rattle.flame_rows.proofs.Lists.{append-nils}
 use Rattle.serde_json.specs.Data.{Data}
 use Rattle.flame_spec.specs.declared.models.AgentType.{AgentType}
 use Rattle.flame_spec.specs.Columns.{width}
@@ -31,10 +32,6 @@ use Rattle.flame_popfile.proofs.ReadRows.{IsClear, items_back, each_clear, row_c
 abbrev pub IsBagFor : AgentType → List (List ℤ) → Type 0
 IsBagFor type bag = IsBagOf (width type.memory) bag
 
--- two lists of nothing
-pub none_both : {X : Type 0} (xs ys : List X) → xs ≡ [] → ys ≡ [] → xs ++ ys ≡ []
-none_both xs ys first second = ap₂ (λ a b. a ++ b) first second
-
 -- a member of a known type whose name no earlier member has
 agent_clear :
     (format : Format) (all : List AgentType) (earlier : List (List ℕ)) (path : List ℕ) (value : Data) (number : ℕ)
@@ -48,7 +45,7 @@ agent_clear :
 agent_clear format all earlier path value number type is named found new clear =
     let at = at_key path (codes "name") in
     ap (λ b. if b then agent_parts format all earlier path value else refused Shape path) is
-    ∙ none_both (member_name_faults all earlier path value)
+    ∙ append-nils (member_name_faults all earlier path value)
     (option_map_or (λ found. content_faults format found.1 path value) (type_in all value) [])
     (ap (λ o. option_map_or (name_faults all earlier at) o (refused Shape at)) named
     ∙ ap₂
@@ -155,7 +152,7 @@ twos_clear all path values before n i (type ∷ types) (bag ∷ bags) split long
     let value = bag_value type.name bag in
     let rest = agent_values Two types bags in
     let earlier : take n values ≡ before = ap (take n) split ∙ take_at before (value ∷ rest) n long in
-    none_both (agent_faults Two all (taken_names Two (take n values)) (at_number path n) value) _
+    append-nils (agent_faults Two all (taken_names Two (take n values)) (at_number path n) value) _
     (ap (λ l. agent_faults Two all (taken_names Two l) (at_number path n) value) earlier
     ∙ two_clear all (taken_names Two before) (at_number path n) i type bag found.0 new.0 are.0.1)
     (twos_clear all path values (before ++ value ∷ []) (n + 1) (i + 1) types bags

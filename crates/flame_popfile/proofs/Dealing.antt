@@ -9,8 +9,10 @@ use Rattle.std.proofs.lemmas.List.{flat_map_more, length-replicate, get_or-repli
 use Rattle.std.proofs.lemmas.Option.{slice_get_within}
 use Rattle.serde_json.specs.Data.{Data}
 use Rattle.flame_rows.specs.Bags.{ascending}
+use Rattle.flame_rows.proofs.Lists.{slice_index_or-map}
 use Rattle.flame_spec.specs.declared.models.AgentType.{AgentType}
-use Rattle.flame_spec.specs.Lists.{each_from, numbered_from}
+use Rattle.flame_spec.specs.Lists.{each_from}
+use Rattle.flame_spec.proofs.Numbered.{numbered_from-stands}
 use Rattle.flame_popfile.specs.declared.formats.Format.{Format}
 use Rattle.flame_popfile.specs.PopulationFaults.{type_named, type_in, agent_parts, member_name_faults, content_faults}
 use Rattle.flame_popfile.specs.PopulationParts.{name_in}
@@ -86,27 +88,6 @@ bags_of-rows dealt = each_bag dealt.items
 
 -- ---- the type that a member names
 
--- where the first one stands
-stands :
-    {X : Type 0} (passes : X → Bool) (i : ℕ) (xs : List X) (n : ℕ) (y : X)
-    → numbered_from passes i xs ≡ Some (n, y)
-    → (k : ℕ) × (n ≡ i + k) × (slice_get xs k ≡ Some y)
-stands passes i [] n y h = cc
-stands {X} passes i (x ∷ xs) n y h = by_test (passes x) (stands passes (i + 1) xs n y) h
-  where
-    by_test :
-        (b : Bool)
-        → (numbered_from passes (i + 1) xs ≡ Some (n, y) → (k : ℕ) × (n ≡ i + 1 + k) × (slice_get xs k ≡ Some y))
-        → cond b (Some (i, x)) (numbered_from passes (i + 1) xs) ≡ Some (n, y)
-        → (k : ℕ) × (n ≡ i + k) × (slice_get (x ∷ xs) k ≡ Some y)
-    by_test true more e =
-        let pair : (i, x) ≡ (n, y) = cc in
-        let at : i ≡ n = ap (λ (p : ℕ × X). p.0) pair in
-        (0, omega (arith, at), ap (λ (p : ℕ × X). Some p.1) pair)
-    by_test false more e =
-        let later = more e in
-        (suc later.0, omega (arith, later.1), later.2)
-
 -- the type that is found has its number
 pub type_stands :
     (types : List AgentType) (value : Data) (number : ℕ) (type : AgentType)
@@ -120,7 +101,7 @@ type_stands types value number type found = named (name_in value) found
         → slice_get types number ≡ Some type
     named None e = cc
     named (Some name) e =
-        let at = stands _ 0 types number type e in
+        let at = numbered_from-stands _ 0 types (number, type) e in
         let same : number ≡ at.0 = omega (arith, at.1) in
         ap (slice_get types) same ∙ at.2
 
@@ -144,13 +125,6 @@ parts_found format types earlier path value found is =
     is
 
 -- ---- what is written stands there, and elsewhere nothing changes
-
-stood :
-    {X Y : Type 0} (g : X → Y) (d : Y) (xs : List X) (i : ℕ) (old : X)
-    → i < length xs → old ≡ get_or xs i old → slice_index_or (map g xs) i d ≡ g old
-stood g d [] i old within at = absurd (omega (arith, within))
-stood g d (x ∷ xs) zero old within at = ap g (sym at)
-stood g d (x ∷ xs) (suc i) old within at = stood g d xs i old (omega (arith, within)) at
 
 written_here :
     {X Y : Type 0} (g : X → Y) (d : Y) (xs : List X) (i : ℕ) (new : X)
@@ -210,7 +184,7 @@ added_at format types value dealt place type old new same_count found was become
     at_place other same =
         written_here items_of [] dealt place new within
         ∙ becomes
-        ∙ ap₂ (λ l (t : AgentType). l ++ agents_in format t.memory value) (sym (stood items_of [] dealt place old within was)) same
+        ∙ ap₂ (λ l (t : AgentType). l ++ agents_in format t.memory value) (sym (slice_index_or-map items_of [] dealt place old within was)) same
 
     at_number :
         (number : ℕ) (other : AgentType) → slice_get types number ≡ Some other

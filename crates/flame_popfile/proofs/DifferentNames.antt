@@ -1,6 +1,6 @@
 -- The names of an accepted model differ, and stand in texts as they are.
-use Rattle.std.proofs.Common.{◌≡◌, ◌≢◌, ℕ, suc, ◌<◌, List, [], ◌∷◌, map, length, Bool, true, Some, refl, arith}
-use Rattle.std.specs.Prelude.{slice_get, slice_index_or}
+use Rattle.std.proofs.Common.{◌≡◌, ◌≢◌, ℕ, suc, ◌<◌, List, [], ◌∷◌, map, length, Bool, true, arith}
+use Rattle.std.specs.Prelude.{slice_index_or}
 use Rattle.std.specs.List.{list_all}
 use Rattle.std.specs.Option.{option_map_or}
 use Rattle.std.proofs.lemmas.Bool.{and_parts}
@@ -21,6 +21,7 @@ use Rattle.flame_popfile.proofs.PutMembers.{IsNoneOf, AllDiffer}
 use Rattle.flame_popfile.proofs.WrittenNames.{IsPlain, name_plain}
 use Rattle.flame_popfile.proofs.WrittenRows.{ArePlain}
 use Rattle.flame_popfile.proofs.WrittenMembers.{IsPlainType, IsPlainMessage, IsPlainModel}
+use Rattle.flame_meaning.proofs.Eachs.{each_from}
 
 -- ---- different names
 
@@ -38,12 +39,6 @@ all_differ (name ∷ names) h = (
   all_differ names (λ i k below within. h (suc i) (suc k) (omega arith) (omega arith)),
 )
 
-each_got :
-    {X : Type 0} (P : X → Type 0) (xs : List X)
-    → ((k : ℕ) (x : X) → slice_get xs k ≡ Some x → P x) → Each P xs
-each_got P [] h = tt
-each_got P (x ∷ xs) h = (h 0 x refl, each_got P xs (λ k y e. h (suc k) y e))
-
 -- the variables of the type have different names
 abbrev pub HasDifferentVariables : AgentType → Type 0
 HasDifferentVariables type = AllDiffer (map (λ (v : Variable). v.name) type.memory)
@@ -59,7 +54,7 @@ different_names model none = record {
   constants = all_differ model.constants (distinct model.constants (constants_differ model none).plain);
   types = all_differ (type_names model.agents) (distinct (type_names model.agents) (types_differ model none));
   memories =
-      each_got HasDifferentVariables model.agents
+      each_from HasDifferentVariables model.agents
       (λ k type at. all_differ (variable_names type.memory) (types_apart model k type none at).plain);
 }
 

@@ -7,6 +7,7 @@ use Rattle.std.specs.Option.{option_map_or}
 use Rattle.std.specs.Ordering.{nat_cmp, match_ordering}
 use Rattle.std.proofs.lemmas.Map.Text.{is_eq-slice_cmp}
 use Rattle.std.proofs.lemmas.Slice.Eq.{bytes_eq-Decides}
+use Rattle.flame_rows.proofs.Lists.{append-is_nil_left, append-is_nil_right}
 use Rattle.serde_json.specs.Data.{Data, null, boolean, number, string, array, object, Members, no_members, member}
 use Rattle.serde_json.specs.Find.{get_member}
 use Rattle.flame_spec.specs.declared.models.AgentType.{AgentType}
@@ -17,7 +18,6 @@ use Rattle.flame_meaning.specs.RangeLaws.{IsInt, AreInts, Each}
 use Rattle.flame_world.specs.WorldLaws.{IsRowOf}
 use Rattle.flame_world.proofs.Eachs.{each_append, each_map}
 use Rattle.flame_xmml.specs.ValueParts.{part, members}
-use Rattle.flame_xmml.proofs.Formed.{left-none, right-none}
 use Rattle.flame_popfile.specs.declared.faults.PopFault.{PopFault}
 use Rattle.flame_popfile.specs.declared.faults.PopKind.TheVariants.{Shape, UnknownVariable}
 use Rattle.flame_popfile.specs.declared.formats.Format.{Format}
@@ -40,7 +40,7 @@ entry_none :
 entry_none asked key no_members inside none at = cc
 entry_none asked key (member name value others) inside none at =
     by_order (slice_cmp nat_cmp key name) refl
-    (entry_none asked key others inside (right-none (asked name value) _ none))
+    (entry_none asked key others inside (append-is_nil_right (asked name value) _ none))
     at
   where
     by_order :
@@ -53,7 +53,7 @@ entry_none asked key (member name value others) inside none at =
     by_order Equal is later at =
         let found : value ≡ inside = cc in
         let same : key ≡ name = (bytes_eq-Decides key name).0 (sym (is_eq-slice_cmp key name) ∙ ap is_eq is) in
-        ap₂ asked same (sym found) ∙ left-none (asked name value) _ none
+        ap₂ asked same (sym found) ∙ append-is_nil_left (asked name value) _ none
     by_order Greater is later at = later at
 
 -- ---- variables

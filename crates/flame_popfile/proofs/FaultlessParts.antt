@@ -4,6 +4,7 @@ use Rattle.std.specs.Prelude.{ℤ, pos, ◌==◌, if◌then◌else◌, slice_get
 use Rattle.std.specs.Option.{option_map_or}
 use Rattle.std.proofs.lemmas.Bool.{eqb-true}
 use Rattle.std.proofs.lemmas.List.{length-map, length-replicate}
+use Rattle.flame_rows.proofs.Lists.{append-is_nil_left, append-is_nil_right}
 use Rattle.serde_json.specs.Data.{Data, null, boolean, number, string, array, object}
 use Rattle.flame_ops.specs.Integers.{is_int}
 use Rattle.flame_spec.specs.Lists.{each, each_from}
@@ -13,7 +14,6 @@ use Rattle.flame_world.specs.WorldLaws.{IsRowOf}
 use Rattle.flame_world.proofs.Eachs.{mapped}
 use Rattle.flame_xmml.specs.ValueParts.{members}
 use Rattle.flame_xmml.specs.Wants.{whole_of, held}
-use Rattle.flame_xmml.proofs.Formed.{left-none, right-none}
 use Rattle.flame_popfile.specs.declared.faults.PopFault.{PopFault}
 use Rattle.flame_popfile.specs.declared.faults.PopKind.{PopKind}
 use Rattle.flame_popfile.specs.declared.faults.PopKind.TheVariants.{Shape}
@@ -30,7 +30,7 @@ pub each_none :
     → Each P xs
 each_none P f follows i [] none = tt
 each_none P f follows i (x ∷ xs) none =
-    (follows i x (left-none (f i x) _ none), each_none P f follows (i + 1) xs (right-none (f i x) _ none))
+    (follows i x (append-is_nil_left (f i x) _ none), each_none P f follows (i + 1) xs (append-is_nil_right (f i x) _ none))
 
 -- and the element of each number gives none
 nth_none :
@@ -42,10 +42,10 @@ nth_none :
 nth_none f i [] none n x at = cc
 nth_none f i (y ∷ xs) none zero x at =
     let same : y ≡ x = cc in
-    ap (λ n. f n x) (add-zero i) ∙ ap (f i) (sym same) ∙ left-none (f i y) _ none
+    ap (λ n. f n x) (add-zero i) ∙ ap (f i) (sym same) ∙ append-is_nil_left (f i y) _ none
 nth_none f i (y ∷ xs) none (suc n) x at =
     let later : i + suc n ≡ i + 1 + n = omega arith in
-    ap (λ m. f m x) later ∙ nth_none f (i + 1) xs (right-none (f i y) _ none) n x at
+    ap (λ m. f m x) later ∙ nth_none f (i + 1) xs (append-is_nil_right (f i y) _ none) n x at
 
 pub each-nth :
     {X Y : Type 0} (f : ℕ → X → List Y) (xs : List X)

@@ -11,6 +11,7 @@ use Rattle.flame_rows.specs.declared.fails.Fail.{Fail}
 use Rattle.flame_rows.specs.Bags.{ascending}
 use Rattle.flame_rows.specs.Order.{row_order}
 use Rattle.flame_rows.proofs.BagLaws.{ascending_is_a_bag}
+use Rattle.flame_rows.proofs.Lists.{append-is_nil_left, append-is_nil_right}
 use Rattle.flame_ops.specs.Integers.{is_int}
 use Rattle.flame_spec.specs.declared.models.Model.{Model}
 use Rattle.flame_spec.specs.declared.models.AgentType.{AgentType}
@@ -24,10 +25,9 @@ use Rattle.flame_meaning.specs.RangeLaws.{AreInts, Each}
 use Rattle.flame_world.specs.declared.worlds.World.{World}
 use Rattle.flame_world.specs.WorldFits.{AreWide, FitsModel}
 use Rattle.flame_world.specs.WorldLaws.{IsRowOf, IsBagOf, IsWorldOf}
-use Rattle.flame_world.proofs.Eachs.{mapped, each_also, each_flat_map, each_sorted, zip_also}
+use Rattle.flame_world.proofs.Eachs.{mapped, each_also, each_flat_map, zip_also}
 use Rattle.flame_xmml.specs.ValueParts.{part, is_object, members}
 use Rattle.flame_xmml.specs.Wants.{whole_of, held}
-use Rattle.flame_xmml.proofs.Formed.{left-none, right-none}
 use Rattle.flame_popfile.specs.declared.faults.PopFault.{PopFault}
 use Rattle.flame_popfile.specs.declared.faults.PopKind.TheVariants.{Shape, OutOfInt, IterationLimit}
 use Rattle.flame_popfile.specs.declared.formats.Format.{Format}
@@ -45,6 +45,7 @@ use Rattle.flame_popfile.proofs.Dealing.{type_stands, parts_found}
 use Rattle.flame_popfile.proofs.FaultlessParts.{each_none, passes_none, where_missing, number_int, numbers_ints, numbers_counted, zeros_counted}
 use Rattle.flame_popfile.proofs.FirstVariables.{AreFirst, memories_first}
 use Rattle.flame_popfile.proofs.FaultlessMemories.{content_rows}
+use Rattle.flame_meaning.proofs.Eachs.{each_sorted}
 
 -- ---- agents
 
@@ -93,7 +94,7 @@ rows_of_member format types value number type are at faultless = of (type_in typ
       where
         content : content_faults format found.1 path value ≡ []
         content =
-            right-none (member_name_faults types faultless.earlier path value) _
+            append-is_nil_right (member_name_faults types faultless.earlier path value) _
             (sym (parts_found format types faultless.earlier path value found is) ∙ none)
 
         by_number :
@@ -187,11 +188,11 @@ world_is :
     → world_faults format model path states ≡ []
     → IsWorldOf model (world_of format model states)
 world_is format model path states are none = record {
-  count = constants_counted format model.constants path states (left-none _ _ none);
+  count = constants_counted format model.constants path states (append-is_nil_left _ _ none);
   ints = constants_ints format model.constants (part (codes "environment") states);
   agents =
       agents_are format model.agents path states are
-      (right-none (optional (environment_faults format model.constants) (codes "environment") path states) _ none);
+      (append-is_nil_right (optional (environment_faults format model.constants) (codes "environment") path states) _ none);
 }
 
 -- a world of the model fits it
@@ -249,15 +250,15 @@ states_start_is :
     → states_faults model turns path states ≡ []
     → IsStartOf model turns (states_start model states)
 states_start_is model turns path states are none =
-    let behind = right-none (version_faults path states) _ none in
-    let later = right-none (optional (number_faults is_itno) (codes "itno") path states) _ behind in
-    let world = world_is (format_of states) model path states are (left-none (world_faults (format_of states) model path states) _ later) in
+    let behind = append-is_nil_right (version_faults path states) _ none in
+    let later = append-is_nil_right (optional (number_faults is_itno) (codes "itno") path states) _ behind in
+    let world = world_is (format_of states) model path states are (append-is_nil_left (world_faults (format_of states) model path states) _ later) in
     record {
       world = world;
       fits = worlds_fit model (world_of (format_of states) model states) world;
       number =
-          leaves_room turns path states (left-none (optional (number_faults is_itno) (codes "itno") path states) _ behind)
-          (right-none (world_faults (format_of states) model path states) _ later);
+          leaves_room turns path states (append-is_nil_left (optional (number_faults is_itno) (codes "itno") path states) _ behind)
+          (append-is_nil_right (world_faults (format_of states) model path states) _ later);
     }
 
 pub read_populations_fit : ReadPopulationsFit

@@ -3,6 +3,7 @@ use Rattle.std.proofs.Common.{◌≡◌, ℕ, ◌+◌, Bool, true, false, cond, 
 use Rattle.std.specs.Prelude.{⊤}
 use Rattle.std.specs.Str.{bytes_eq}
 use Rattle.std.proofs.lemmas.Slice.Eq.{bytes_eq-Decides}
+use Rattle.flame_rows.proofs.Bytes.{bytes_eq-self}
 use Rattle.flame_spec.specs.declared.models.AgentType.{AgentType}
 use Rattle.flame_spec.specs.Lists.{numbered_from}
 use Rattle.flame_meaning.specs.RangeLaws.{Each}
@@ -38,10 +39,6 @@ not_true false h = refl
 pub names_apart : (name other : List ℕ) → (name ≡ other → ⊥) → bytes_eq name other ≡ false
 names_apart name other h = not_true (bytes_eq name other) (λ e. h ((bytes_eq-Decides name other).0 e))
 
--- a name is itself
-pub name_itself : (name : List ℕ) → bytes_eq name name ≡ true
-name_itself name = (bytes_eq-Decides name name).1 refl
-
 finds_behind :
     {X Y : Type 0} (name_of : X → List ℕ) (make : ℕ → X → Y) (found : List ℕ → Option Y) (name : List ℕ)
     (first : Option Y) (i : ℕ) (xs : List X)
@@ -59,7 +56,7 @@ finds_all :
     → AllDiffer (map name_of xs) → Finds name_of make (searched name_of make i xs) i xs
 finds_all name_of make i [] apart = tt
 finds_all name_of make i (x ∷ xs) apart = (
-  ap (λ b. cond b (Some (make i x)) (searched name_of make (i + 1) xs (name_of x))) (name_itself (name_of x)),
+  ap (λ b. cond b (Some (make i x)) (searched name_of make (i + 1) xs (name_of x))) (bytes_eq-self (name_of x)),
   finds_behind name_of make (searched name_of make (i + 1) xs) (name_of x) (Some (make i x)) (i + 1) xs apart.0
       (finds_all name_of make (i + 1) xs apart.1),
 )

@@ -8,6 +8,7 @@ use Rattle.std.proofs.lemmas.List.Concat.{flat_map-append}
 use Rattle.serde_json.specs.Data.{Data}
 use Rattle.flame_rows.specs.Bags.{ascending}
 use Rattle.flame_rows.proofs.BagLaws.{ascending-IsAscending}
+use Rattle.flame_rows.proofs.Lists.{append-nils}
 use Rattle.flame_spec.specs.declared.models.AgentType.{AgentType}
 use Rattle.flame_spec.specs.declared.models.Variable.{Variable}
 use Rattle.flame_spec.specs.Columns.{width}
@@ -25,7 +26,7 @@ use Rattle.flame_popfile.proofs.PopulationValues.{list_of, row_value, variable_p
 use Rattle.flame_popfile.proofs.DifferentNames.{HasDifferentVariables}
 use Rattle.flame_popfile.proofs.ReadRows.{items_back, row_back, memory_back, names_of-variables}
 use Rattle.serde_json.specs.Data.{no_members}
-use Rattle.flame_popfile.proofs.ClearMembers.{IsBagFor, none_both}
+use Rattle.flame_popfile.proofs.ClearMembers.{IsBagFor}
 
 -- an agent is read as its row
 memory_in :
@@ -117,7 +118,7 @@ none_given :
     → flat_map (given format all other variables) (type_values format type bag) ≡ []
 none_given One all number other type [] variables found apart = refl
 none_given One all number other type (row ∷ bag) variables found apart =
-    none_both (given One all other variables (agent_value type row)) _
+    append-nils (given One all other variables (agent_value type row)) _
     (gives_no_other One all number other type variables (agent_value type row) refl found apart)
     (none_given One all number other type bag variables found apart)
 none_given Two all number other type bag variables found apart =
@@ -137,7 +138,7 @@ none_later format all number i variables [] (bag ∷ bags) below found are = abs
 none_later format all number i variables (type ∷ types) [] below found are = absurd are
 none_later format all number i variables (type ∷ types) (bag ∷ bags) below found are =
     flat_map-append (given format all number variables) (type_values format type bag) (agent_values format types bags)
-    ∙ none_both (flat_map (given format all number variables) (type_values format type bag)) _
+    ∙ append-nils (flat_map (given format all number variables) (type_values format type bag)) _
     (none_given format all i number type bag variables found.0 (λ e. omega arith))
     (none_later format all number (i + 1) variables types bags (omega arith) found.1 are.1)
 
@@ -169,7 +170,7 @@ bags_back format all values before i (type ∷ types) (bag ∷ bags) split none 
     (split ∙ sym (append_assoc before block rest))
     (λ number variables above.
     flat_map-append (given format all number variables) before block
-    ∙ none_both (flat_map (given format all number variables) before) _ (none number variables (omega arith))
+    ∙ append-nils (flat_map (given format all number variables) before) _ (none number variables (omega arith))
     (none_given format all i number type bag variables found.0 (λ e. omega arith)))
     found.1 apart.1 are.1)
   where

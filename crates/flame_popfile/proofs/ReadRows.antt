@@ -25,7 +25,8 @@ use Rattle.flame_world.proofs.Eachs.{each_map}
 use Rattle.flame_popfile.proofs.PutMembers.{StandsIn, names_of, AllDiffer, each_stands, entries_put_all}
 use Rattle.flame_popfile.proofs.NameSearches.{each_called}
 use Rattle.flame_popfile.proofs.PopulationValues.{object_of, int_value, row_value, variable_value, variable_pairs, memory_value, constant_pairs}
-use Rattle.flame_popfile.proofs.WrittenRows.{each_take, each_drop}
+use Rattle.flame_popfile.proofs.WrittenRows.{each_take}
+use Rattle.flame_meaning.proofs.Eachs.{each_drop}
 
 -- ---- numbers
 

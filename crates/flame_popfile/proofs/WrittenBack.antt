@@ -2,6 +2,7 @@
 use Rattle.std.proofs.Common.{◌≡◌, ℕ, List, [], length, true, None, codes, ap, ap₂, ◌∙◌}
 use Rattle.std.specs.Prelude.{ℤ, pos, int_le, ◌+ℤ◌, if◌then◌else◌}
 use Rattle.std.proofs.lemmas.Bool.{and_parts}
+use Rattle.flame_rows.proofs.Lists.{append-nils}
 use Rattle.serde_json.specs.Read.{read}
 use Rattle.flame_ops.specs.Integers.{is_int}
 use Rattle.flame_spec.specs.declared.models.Model.{Model}
@@ -25,7 +26,7 @@ use Rattle.flame_popfile.proofs.PopulationValues.{list_of, int_value, agent_valu
 use Rattle.flame_popfile.proofs.WrittenPopulations.{text_read}
 use Rattle.flame_popfile.proofs.DifferentNames.{HasDifferentNames, different_names, plain_model}
 use Rattle.flame_popfile.proofs.ReadRows.{number_back, number_clear, row_back, row_clear, constants_clear, constants_back}
-use Rattle.flame_popfile.proofs.ClearMembers.{none_both, agents_clear}
+use Rattle.flame_popfile.proofs.ClearMembers.{agents_clear}
 use Rattle.flame_popfile.proofs.ReadAgents.{agents_back}
 
 -- ---- no faults
@@ -61,17 +62,17 @@ states_clear :
     → int_le (itno +ℤ pos turns) (pos 2147483647) ≡ true
     → states_faults model turns path (states_value model format itno world boards) ≡ []
 states_clear model One itno world boards turns path apart number int is within =
-    none_both _ _ (number_clear is_itno (at_key path (codes "itno")) itno number)
-    (none_both _ _
-    (none_both _ _
+    append-nils _ _ (number_clear is_itno (at_key path (codes "itno")) itno number)
+    (append-nils _ _
+    (append-nils _ _
     (environment_clear model One world (at_key path (codes "environment")) apart is)
     (agents_clear One model.agents world.agents (at_key path (codes "agents")) apart.types
     (types_numbered model.agents apart.types) apart.memories is.agents))
     (limit_clear turns (at_key path (codes "itno")) itno int within))
 states_clear model Two itno world boards turns path apart number int is within =
-    none_both _ _ (number_clear is_itno (at_key path (codes "itno")) itno number)
-    (none_both _ _
-    (none_both _ _
+    append-nils _ _ (number_clear is_itno (at_key path (codes "itno")) itno number)
+    (append-nils _ _
+    (append-nils _ _
     (environment_clear model Two world (at_key path (codes "environment")) apart is)
     (agents_clear Two model.agents world.agents (at_key path (codes "agents")) apart.types
     (types_numbered model.agents apart.types) apart.memories is.agents))

@@ -2,6 +2,7 @@
 use Rattle.std.proofs.Common.{◌≡◌, ℕ, suc, List, [], ◌∷◌, ◌++◌, map, codes, refl, ap, ◌∙◌, append_assoc, arith}
 use Rattle.std.specs.Prelude.{ℤ}
 use Rattle.std.specs.List.{AllZip}
+use Rattle.flame_rows.proofs.Lists.{AllZip-append}
 use Rattle.json.specs.Print.{quoted, escape_byte}
 use Rattle.serde_json.specs.Data.{Data, string}
 use Rattle.flame_spec.specs.declared.models.Model.{Model}
@@ -146,15 +147,6 @@ pub record IsPlainModel (model : Model) : Type 0 where
 
 -- ---- all agents, and all boards
 
-zip_append :
-    {A B : Type 0} (R : A → B → Type 0) (xs more : List A) (ys others : List B)
-    → AllZip R xs ys → AllZip R more others → AllZip R (xs ++ more) (ys ++ others)
-zip_append R [] more [] others first second = second
-zip_append R [] more (y ∷ ys) others first second = absurd first
-zip_append R (x ∷ xs) more [] others first second = absurd first
-zip_append R (x ∷ xs) more (y ∷ ys) others first second =
-    (first.0, zip_append R xs more ys others first.1 second)
-
 rows_ints : (wide : ℕ) (bag : List (List ℤ)) → Each (IsRowOf wide) bag → Each AreInts bag
 rows_ints wide bag rows = each_also (IsRowOf wide) AreInts (λ row is. is.1) bag rows
 
@@ -168,8 +160,7 @@ writes_agents One [] (bag ∷ bags) plain all = absurd all
 writes_agents One (type ∷ types) [] plain all = absurd all
 writes_agents One (type ∷ types) (bag ∷ bags) plain all =
     let first = plain.0 in
-    zip_append (Writes 5) (map (agent_text type) bag) (agent_texts types bags) (map (agent_value type) bag)
-    (agent_values One types bags)
+    (AllZip-append (Writes 5) (map (agent_text type) bag) (map (agent_value type) bag) (agent_texts types bags) (agent_values One types bags))
     (each_zip (IsRowOf (width type.memory)) (Writes 5) (agent_text type) (agent_value type)
     (λ row is. writes_agent 2 type row first.name first.memory is) bag all.0.1)
     (writes_agents One types bags plain.1 all.1)

@@ -14,6 +14,7 @@ use Rattle.flame_popfile.specs.RowTexts.{row_text, named_text, value_text, varia
 use Rattle.flame_popfile.proofs.PopulationValues.{int_value, row_value, variable_value, variable_pairs, memory_value, constant_pairs}
 use Rattle.flame_popfile.proofs.WrittenNames.{IsPlain}
 use Rattle.flame_popfile.proofs.WrittenForms.{Writes, WritesMember, writes_integer, writes_list, writes_object}
+use Rattle.flame_meaning.proofs.Eachs.{each_drop}
 
 int_small : (z : ℤ) → IsInt z → mag z < 2 ^ 63
 int_small (pos n) h =
@@ -45,11 +46,6 @@ pub each_take : {X : Type 0} (P : X → Type 0) (n : ℕ) (xs : List X) → Each
 each_take P zero xs all = tt
 each_take P (suc n) [] all = tt
 each_take P (suc n) (x ∷ xs) all = (all.0, each_take P n xs all.1)
-
-pub each_drop : {X : Type 0} (P : X → Type 0) (n : ℕ) (xs : List X) → Each P xs → Each P (drop n xs)
-each_drop P zero xs all = all
-each_drop P (suc n) [] all = tt
-each_drop P (suc n) (x ∷ xs) all = each_drop P n xs all.1
 
 -- the numbers of a variable
 writes_variable :

@@ -1,11 +1,13 @@
 -- What makes a source accepted, and what acceptance gives.
-use Rattle.std.proofs.Common.{◌≡◌, ℕ, zero, suc, ◌+◌, Bool, true, false, List, [], ◌∷◌, map, length, Some, refl, sym, ap, ◌∙◌, subst, arith, cond}
+use Rattle.std.proofs.Common.{◌≡◌, ℕ, ◌+◌, Bool, true, false, List, [], ◌∷◌, map, length, Some, refl, sym, ap, ◌∙◌, arith, cond}
 use Rattle.std.specs.Prelude.{◌==◌, ◌||◌, slice_get}
 use Rattle.std.specs.List.{list_all}
 use Rattle.std.specs.Str.{bytes_eq}
-use Rattle.std.proofs.lemmas.Bool.{and_parts, and_from, eqb-true}
+use Rattle.std.proofs.lemmas.Bool.{and_from, eqb-true}
 use Rattle.std.proofs.lemmas.Bool.Decides.{Decides-eqb}
 use Rattle.std.proofs.lemmas.Slice.Eq.{bytes_eq-Decides}
+use Rattle.std.proofs.lemmas.Option.{same_Some}
+use Rattle.flame_rows.proofs.Lists.{list_all-at, list_all-each}
 use Rattle.flame_spec.specs.declared.models.AgentType.{AgentType}
 use Rattle.flame_spec.specs.declared.models.MessageType.{MessageType}
 use Rattle.flame_spec.specs.declared.outcomes.Source.{Source}
@@ -25,7 +27,7 @@ use Rattle.flame_spec_laws.proofs.UsedKnown.{used_declared}
 use Rattle.flame_route.specs.ModelRoutes.{ReadMessages}
 use Rattle.flame_program.specs.SourceCodes.{function_codes, helper_codes}
 use Rattle.flame_program.specs.AcceptanceLaws.{PlannedAreAccepted, IsRunnable, AcceptedAreRunnable}
-use Rattle.flame_program.proofs.SourceBodies.{same-some, mapped, helper-at, function-is, function-calls}
+use Rattle.flame_program.proofs.SourceBodies.{mapped, helper-at, function-is, function-calls}
 use Rattle.flame_program.proofs.ProgramOutcomes.{code-at}
 use Rattle.flame_program.proofs.TypePlaces.{stands-in}
 
@@ -52,25 +54,6 @@ planned-are-accepted source plan formed named checked planned = record {
 }
 
 -- ---- lists
-
--- what passes in each place
-all-pass :
-    {X : Type 0} (test : X → Bool) (xs : List X)
-    → ((k : ℕ) (x : X) → slice_get xs k ≡ Some x → test x ≡ true)
-    → list_all test xs ≡ true
-all-pass test [] each = refl
-all-pass test (x ∷ xs) each =
-    and_from (test x) (list_all test xs) (each zero x refl) (all-pass test xs (λ k y at. each (suc k) y at))
-
--- one of those that all pass
-one-passes :
-    {X : Type 0} (test : X → Bool) (xs : List X) (k : ℕ) (x : X)
-    → list_all test xs ≡ true → slice_get xs k ≡ Some x → test x ≡ true
-one-passes test [] k x all at = absurd (cc)
-one-passes test (y ∷ xs) zero x all at =
-    let same : y ≡ x = cc in
-    subst (λ z. test z ≡ true) same (and_parts (test y) (list_all test xs) all).0
-one-passes test (y ∷ xs) (suc k) x all at = one-passes test xs k x (and_parts (test y) (list_all test xs) all).1 at
 
 -- a list of one
 one-state : (states : List (List ℕ)) → length states ≡ 1 → (state : List ℕ) × (states ≡ state ∷ [])
@@ -131,7 +114,7 @@ variables-found from (message ∷ messages) name found is =
         → variables_in (message ∷ messages) name ≡ found.1.variables
     by_test true same h more =
         let equal : message.name ≡ name = (bytes_eq-Decides message.name name).0 same in
-        let this : (from, message) ≡ found = same-some (from, message) found h in
+        let this : (from, message) ≡ found = same_Some (from, message) found h in
         ap (λ b. cond b message.variables (variables_in messages name))
         ((bytes_eq-Decides name message.name).1 (sym equal))
         ∙ ap (λ (f : ℕ × MessageType). f.1.variables) this
@@ -156,7 +139,7 @@ module _ (source : Source) (accepted : IsAccepted source) where
       → code.widths ≡ widths_in source.model (Some place)
   code-widths function place code there at =
       let c = code-at source function code at in
-      let same : c.place ≡ place = same-some c.place place (sym c.there ∙ there) in
+      let same : c.place ≡ place = same_Some c.place place (sym c.there ∙ there) in
       ap (λ (r : Routine). r.widths) c.is ∙ ap (λ p. widths_in source.model (Some p)) same
 
   -- each helper sees as many constants as the code of a function
@@ -164,7 +147,7 @@ module _ (source : Source) (accepted : IsAccepted source) where
       (function : ℕ) (code : Routine)
       → slice_get (function_codes source) function ≡ Some code
       → list_all (λ (helper : Routine). helper.widths.constants == code.widths.constants) (helper_codes source).routines ≡ true
-  constants-alike function code at = all-pass
+  constants-alike function code at = list_all-each
       (λ (helper : Routine). helper.widths.constants == code.widths.constants) (helper_codes source).routines one
     where
       one :
@@ -198,7 +181,7 @@ module _ (source : Source) (accepted : IsAccepted source) where
     starts = λ agent type at.
         one-state (start_states type.functions)
         (eqb-true (length (start_states type.functions)) 1
-        (one-passes has_one_start source.model.agents agent type accepted.started at));
+        (list_all-at has_one_start source.model.agents agent type accepted.started at));
     widths = code-widths;
     calls = code-fits;
     reads = λ function input place form there at.

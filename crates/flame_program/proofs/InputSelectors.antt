@@ -1,13 +1,14 @@
 -- The filter and the key of one input.
 use Rattle.std.proofs.Common.{◌≡◌, ℕ, List, Option, Some, None, refl, sym, ap, ◌∙◌, subst}
 use Rattle.std.specs.Prelude.{slice_get, option_and_then}
+use Rattle.std.proofs.lemmas.Option.{same_Some}
+use Rattle.flame_rows.proofs.Lists.{AllZip-at}
 use Rattle.flame_spec.specs.declared.models.Model.{Model}
 use Rattle.flame_spec.specs.Functions.{Place, functions}
 use Rattle.flame_cond.specs.Said.{IsFilterOf, IsKeyOf}
 use Rattle.flame_program.specs.declared.reading.Selector.{Selector}
 use Rattle.flame_program.specs.SourceInputs.{IsReadFrom, IsSelectorOf, AreSelectorsOf, AreSelectors, Reads, IsNoInput, FiltersInput, SortsInput}
-use Rattle.flame_program.proofs.SourceBodies.{same-some}
-use Rattle.flame_program.proofs.Zips.{zip-at, zip-there, zip-back}
+use Rattle.flame_program.proofs.Zips.{zip-there, zip-back}
 
 -- what was read for an input, where there is one
 record SelectorAt (model : Model) (function input : ℕ) (found : Option Selector) (r : Reads model function input) : Type 0 where
@@ -23,11 +24,11 @@ selector-there :
     → (r : Reads model function input) → SelectorAt model function input found r
 selector-there model selectors function input found all is r =
     let own = zip-there (AreSelectorsOf model) (functions model) selectors function r.place all r.there in
-    let of_function = zip-at (AreSelectorsOf model) (functions model) selectors function r.place own.0 all r.there own.1 in
+    let of_function = AllZip-at (AreSelectorsOf model) (functions model) selectors function r.place own.0 all r.there own.1 in
     let one =
     zip-there (IsSelectorOf model r.place.type) r.place.function.inputs own.0 input r.form of_function r.listed in
     let of_input =
-    zip-at (IsSelectorOf model r.place.type) r.place.function.inputs own.0 input r.form one.0 of_function r.listed one.1 in
+    AllZip-at (IsSelectorOf model r.place.type) r.place.function.inputs own.0 input r.form one.0 of_function r.listed one.1 in
     let both = subst (λ o. IsReadFrom o r.place.type r.form one.0) r.message of_input in
     record {
       selector = one.0;
@@ -62,7 +63,7 @@ nothing-there model selectors function input all none = by_own (slice_get select
     by_own (Some own) at =
         let there = zip-back (AreSelectorsOf model) (functions model) selectors function own all at in
         let of_function =
-        zip-at (AreSelectorsOf model) (functions model) selectors function there.0 own all there.1 at in
+        AllZip-at (AreSelectorsOf model) (functions model) selectors function there.0 own all there.1 at in
         ap (option_and_then (λ (inputs : List Selector). slice_get inputs input)) at
         ∙ by_form own there.0 there.1 of_function (slice_get own input) refl
 
@@ -85,7 +86,7 @@ pub filter-found :
 filter-found model selectors function input selector all is = record {
   own = λ r.
       let at = selector-there model selectors function input (Some selector) all is r in
-      let same : selector ≡ at.selector = same-some selector at.selector at.is in
+      let same : selector ≡ at.selector = same_Some selector at.selector at.is in
       subst (λ (x : Selector). IsFilterOf x.filter r.form.filter r.place.type r.found.1) (sym same) at.filter;
   none = λ none. absurd (found-input model selectors function input selector all is none);
 }
@@ -98,7 +99,7 @@ pub sort-found :
 sort-found model selectors function input selector all is = record {
   own = λ r.
       let at = selector-there model selectors function input (Some selector) all is r in
-      let same : selector ≡ at.selector = same-some selector at.selector at.is in
+      let same : selector ≡ at.selector = same_Some selector at.selector at.is in
       subst (λ (x : Selector). IsKeyOf x.sort r.form.sort r.found.1) (sym same) at.sort;
   none = λ none. absurd (found-input model selectors function input selector all is none);
 }

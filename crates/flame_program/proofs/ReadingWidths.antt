@@ -5,6 +5,7 @@ use Rattle.std.specs.List.{AllZip}
 use Rattle.std.specs.Str.{bytes_eq}
 use Rattle.std.proofs.lemmas.List.{length-map}
 use Rattle.std.proofs.lemmas.Option.{slice_get-map, get_or_from_slice_get}
+use Rattle.flame_rows.proofs.Lists.{AllZip-at}
 use Rattle.flame_spec.specs.declared.models.AgentType.{AgentType}
 use Rattle.flame_spec.specs.declared.models.Input.{Input}
 use Rattle.flame_spec.specs.declared.models.MessageType.{MessageType}
@@ -17,7 +18,6 @@ use Rattle.flame_body.specs.FunctionBodies.{input_width}
 use Rattle.flame_code.specs.InputRows.{HaveWidths}
 use Rattle.flame_spec_laws.proofs.Readings.{viewed}
 use Rattle.flame_lookup.proofs.Firsts.{slice_get-numbered}
-use Rattle.flame_meaning.proofs.Ranges.{each_at}
 use Rattle.flame_meaning.specs.Outcomes.{reading_by, reading_of, readings_at}
 use Rattle.flame_meaning.specs.RangeLaws.{Each}
 use Rattle.flame_program.specs.AcceptanceLaws.{ReadsMessage, IsRunnable}
@@ -25,7 +25,8 @@ use Rattle.flame_program.specs.InputWidths.{ReadingsFitCodes}
 use Rattle.flame_program.proofs.Acceptances.{accepted-are-runnable}
 use Rattle.flame_program.proofs.ProgramOutcomes.{code-at}
 use Rattle.flame_program.proofs.SourceBodies.{mapped}
-use Rattle.flame_program.proofs.Zips.{zip-at, zip-there}
+use Rattle.flame_program.proofs.Zips.{zip-there}
+use Rattle.flame_meaning.proofs.Eachs.{each_at}
 
 abbrev IsWide : ℕ → List ℤ → Type 0
 IsWide wide row = length row ≡ wide
@@ -39,7 +40,7 @@ module _ (model : Model) (memory : List ℤ) (boards : List (List (List ℤ)))
       → Each (IsWide (width message.variables)) (slice_index_or boards n [])
   board-wide n message at =
       let there = zip-there _ model.messages boards n message all at in
-      let rows = zip-at _ model.messages boards n message there.0 all at there.1 in
+      let rows = AllZip-at _ model.messages boards n message there.0 all at there.1 in
       subst (Each (IsWide (width message.variables))) (sym (get_or_from_slice_get boards n there.0 [] there.1)) rows
 
   -- what one input gives

@@ -5,7 +5,7 @@ use Rattle.std.specs.List.{list_all, range_with_len}
 use Rattle.std.proofs.lemmas.Bool.{lt-ltb}
 use Rattle.std.proofs.lemmas.List.{length-map}
 use Rattle.std.proofs.lemmas.List.FromFn.{get_or-map-range_with_len}
-use Rattle.std.proofs.lemmas.Option.{slice_get-map, slice_get_within}
+use Rattle.std.proofs.lemmas.Option.{slice_get-map, slice_get_within, same_Some}
 use Rattle.flame_spec.specs.declared.models.Model.{Model}
 use Rattle.flame_spec.specs.declared.trees.Unit as file
 use Rattle.flame_spec.specs.CheckFaults.{check_faults, definition_faults}
@@ -33,10 +33,6 @@ use Rattle.flame_spec_laws.proofs.CallRounds.{low, rises}
 use Rattle.flame_meaning.specs.AcceptedMeaning.{place_in}
 use Rattle.flame_meaning.proofs.Checked.{function_checked, helper_checked}
 
--- what is found is what was named
-pub same-some : {X : Type 0} (x y : X) → Some x ≡ Some y → x ≡ y
-same-some x y e = cc
-
 -- a list that is mapped has an item where the list has one
 pub record Mapped {X Y : Type 0} (f : X → Y) (xs : List X) (n : ℕ) (y : Y) : Type 0 where
   pub from : X
@@ -50,7 +46,7 @@ pub was-mapped :
     → option_map f found ≡ Some y
     → Mapped f xs n y
 was-mapped f None xs n y at is = absurd (cc)
-was-mapped f (Some x) xs n y at is = record { from = x; there = at; is = sym (same-some (f x) y is) }
+was-mapped f (Some x) xs n y at is = record { from = x; there = at; is = sym (same_Some (f x) y is) }
 
 -- the item of a mapped list
 pub mapped : {X Y : Type 0} (f : X → Y) (xs : List X) (n : ℕ) (y : Y) → slice_get (map f xs) n ≡ Some y → Mapped f xs n y
@@ -79,7 +75,7 @@ module _ (model : Model) (units : List file.Unit) (none : check_faults model uni
       by_found (Some d) there is = record {
         d = d;
         there = there;
-        is = sym (same-some (helper_body model units h d) body is);
+        is = sym (same_Some (helper_body model units h d) body is);
       }
 
   -- it has no faults

@@ -1,20 +1,8 @@
 -- Two lists, place by place.
-use Rattle.std.proofs.Common.{◌≡◌, ℕ, zero, suc, ◌<◌, List, [], ◌∷◌, map, length, Some, refl, sym, ap, ◌∙◌, subst}
+use Rattle.std.proofs.Common.{◌≡◌, ℕ, zero, suc, ◌<◌, List, [], ◌∷◌, map, length, Some, refl, sym, ap, ◌∙◌}
 use Rattle.std.specs.Prelude.{slice_get, slice_index_or, option_map}
 use Rattle.std.specs.List.{AllZip}
 use Rattle.std.proofs.lemmas.Option.{slice_get-map, slice_get_read}
-
--- what holds of the items in one place
-pub zip-at :
-    {A B : Type 0} (P : A → B → Type 0) (xs : List A) (ys : List B) (k : ℕ) (x : A) (y : B)
-    → AllZip P xs ys → slice_get xs k ≡ Some x → slice_get ys k ≡ Some y → P x y
-zip-at P [] ys k x y all at there = absurd (cc)
-zip-at P (a ∷ xs) [] k x y all at there = absurd (all)
-zip-at P (a ∷ xs) (b ∷ ys) zero x y all at there =
-    let one : a ≡ x = cc in
-    let two : b ≡ y = cc in
-    subst (λ z. P x z) two (subst (λ z. P z b) one all.0)
-zip-at P (a ∷ xs) (b ∷ ys) (suc k) x y all at there = zip-at P xs ys k x y all.1 at there
 
 -- where the first list has an item, the second has one
 pub zip-there :

@@ -3,6 +3,7 @@ use Rattle.std.proofs.Common.{◌≡◌, ℕ, zero, suc, ◌<◌, ◌≤◌, tru
 use Rattle.std.specs.Prelude.{◌&&◌, not, nat_lt, slice_index_or}
 use Rattle.std.specs.List.{All, list_all}
 use Rattle.std.proofs.lemmas.Bool.{lt-ltb, le-ltb}
+use Rattle.std.proofs.lemmas.Option.{slice_get_within}
 use Rattle.flame_spec.specs.declared.models.Model.{Model}
 use Rattle.flame_spec.specs.Before.{before, function_count}
 use Rattle.flame_spec.specs.Below.{is_in}
@@ -10,7 +11,7 @@ use Rattle.flame_spec.specs.Functions.{functions}
 use Rattle.flame_events.specs.CoreStates.{is_shut, is_waiting, status_of, is_frozen}
 use Rattle.flame_events.specs.LegalEvents.{are_shut, inputs_at, inputs_of, outputs_of, may_freeze, may_open, predecessors, writers}
 use Rattle.flame_events.proofs.Serial.{is_in-later, is_in-self}
-use Rattle.flame_events.proofs.Spots.{get_below, get_there, input_named}
+use Rattle.flame_events.proofs.Spots.{get_there, input_named}
 use Rattle.flame_pieces.specs.Waiting.{is_free}
 use Rattle.flame_pieces.proofs.Freeing.{free_where_all, free_where_these}
 use Rattle.flame_progress.specs.declared.counts.Counts.{Counts}
@@ -35,7 +36,7 @@ inputs_below model f less =
     all_in (λ m. m < length model.messages) (inputs_of model f)
     (λ m among.
     let input = input_named model place.0 m (sym (ap (λ o. is_in m (inputs_at o model)) place.1) ∙ among) in
-    get_below model.messages m input.named.message input.named.there)
+    slice_get_within model.messages m input.named.message input.named.there)
 
 module _ (model : Model) (progress : Progress) (counts : Counts) (tallies : Tallies model progress counts) where
   pub predecessors_free : (f : ℕ) → is_free counts.functions f ≡ are_shut (core_of progress) (predecessors model f)

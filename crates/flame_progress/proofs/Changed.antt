@@ -1,7 +1,8 @@
 -- Lists of which one element is written.
-use Rattle.std.proofs.Common.{◌≡◌, ℕ, zero, suc, ◌<◌, List, [], ◌∷◌, length, map, get_or, refl, sym, ap, ◌∙◌, arith}
+use Rattle.std.proofs.Common.{◌≡◌, ℕ, zero, suc, ◌<◌, List, [], ◌∷◌, length, map, get_or, refl, ap, ◌∙◌, arith}
 use Rattle.std.specs.Prelude.{ℤ, slice_set, slice_index_or}
 use Rattle.flame_world.specs.Fields.{changed, changed_pool, pool_in}
+use Rattle.flame_world.proofs.Counting.{length-changed}
 
 -- what is written is what the old element becomes
 pub map-written : {X Y : Type 0} (g : X → Y) (f : Y → Y) (xs : List X) (place : ℕ) (old new : X)
@@ -14,12 +15,6 @@ map-written g f (x ∷ xs) zero old new within at becomes =
     λ i. (becomes ∙ ap (λ o. f (g o)) at) i ∷ map g xs
 map-written g f (x ∷ xs) (suc place) old new within at becomes =
     λ i. g x ∷ map-written g f xs place old new (omega (arith, within)) at becomes i
-
-pub map-at : {X Y : Type 0} (g : X → Y) (d : Y) (xs : List X) (place : ℕ) (old : X)
-    → place < length xs → old ≡ get_or xs place old → slice_index_or (map g xs) place d ≡ g old
-map-at g d [] place old within at = absurd (omega (arith, within))
-map-at g d (x ∷ xs) zero old within at = ap g (sym at)
-map-at g d (x ∷ xs) (suc place) old within at = map-at g d xs place old (omega (arith, within)) at
 
 -- a list that has an element there is one of the lists
 pub within_list : {X Y : Type 0} (f : X → List Y) (xs : List X) (place k : ℕ)
@@ -42,11 +37,6 @@ changed-to place f d [] = refl
 changed-to zero f d (x ∷ xs) = refl
 changed-to (suc place) f d (x ∷ xs) = λ i. x ∷ changed-to place f d xs i
 
-pub changed-length : {X : Type 0} (place : ℕ) (f : X → X) (xs : List X) → length (changed place f xs) ≡ length xs
-changed-length place f [] = refl
-changed-length zero f (x ∷ xs) = refl
-changed-length (suc place) f (x ∷ xs) = ap suc (changed-length place f xs)
-
 -- how a change of a list within a list shows there
 pub changed-within : {X : Type 0} (at : ℕ) (f : List X → List X) (lists : List (List X)) (other : ℕ)
     → ((xs : List X) → length (f xs) ≡ length xs)
@@ -60,7 +50,7 @@ changed-within (suc at) f (xs ∷ lists) (suc other) keeps = changed-within at f
 pub changed_pool-length : (agent state : ℕ) (change : List (List ℤ) → List (List ℤ)) (pools : List (List (List (List ℤ)))) (other : ℕ)
     → length (slice_index_or (changed_pool agent state change pools) other []) ≡ length (slice_index_or pools other [])
 changed_pool-length agent state change pools other =
-    changed-within agent (changed state change) pools other (changed-length state change)
+    changed-within agent (changed state change) pools other (length-changed state change)
 
 changed-inner : {X : Type 0} (agent : ℕ) (f g h : List X → List X) (lists : List (List X))
     → ((xs : List X) → f (g xs) ≡ h xs) → changed agent f (changed agent g lists) ≡ changed agent h lists

@@ -3,18 +3,18 @@ use Rattle.std.proofs.Common.{◌≡◌, ℕ, zero, suc, ◌<◌, List, [], ◌�
 use Rattle.std.specs.Global.{Global}
 use Rattle.std.specs.Prelude.{ℤ, slice_set, slice_index_or}
 use Rattle.std.proofs.lemmas.List.{length-map, map-set}
+use Rattle.flame_rows.proofs.Lists.{slice_index_or-map}
 use Rattle.flame_spec.specs.declared.outcomes.Born.{Born}
 use Rattle.flame_world.specs.AgentRuns.{births_of}
 use Rattle.flame_world.specs.Fields.{changed, changed_pool, joined}
 use Rattle.flame_events.specs.CoreStates.{Status, Waiting}
-use Rattle.flame_events.proofs.Pools.{length-changed}
 use Rattle.flame_pieces.specs.declared.statuses.Status as kept
 use Rattle.flame_pieces.specs.declared.statuses.Status.TheVariants as is
 use Rattle.flame_pieces.specs.RunStatuses.{status_of as kept_status, HasOutputs}
 use Rattle.flame_progress.specs.declared.gatherings.Gathering.{Gathering}
 use Rattle.flame_progress.specs.RunPools.{pools_of, bags_of}
 use Rattle.flame_progress.proofs.Borne.{joined-later}
-use Rattle.flame_progress.proofs.Changed.{map-at}
+use Rattle.flame_world.proofs.Counting.{length-changed}
 
 -- an element that is there, whatever else would be
 pub at_default : {X : Type 0} (xs : List X) (k : ℕ) (x d : X) → k < length xs → x ≡ get_or xs k x → x ≡ get_or xs k d
@@ -27,7 +27,7 @@ at_default (y ∷ xs) (suc k) x d less at = at_default xs k x d (omega (arith, l
 -- the status of the function at hand
 pub status_at : (statuses : List kept.Status) (f : ℕ) (old : kept.Status) → f < length statuses → old ≡ get_or statuses f old
     → kept_status old ≡ slice_index_or (map kept_status statuses) f Waiting
-status_at statuses f old less at = sym (map-at kept_status Waiting statuses f old less at)
+status_at statuses f old less at = sym (slice_index_or-map kept_status Waiting statuses f old less at)
 
 -- one is written
 pub statuses_put : (statuses : List kept.Status) (f : ℕ) (new : kept.Status) (v : Status) → kept_status new ≡ v

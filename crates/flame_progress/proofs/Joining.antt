@@ -3,19 +3,13 @@ use Rattle.std.proofs.Common.{◌≡◌, ℕ, zero, suc, ◌+◌, ◌<◌, true,
 use Rattle.std.proofs.lemmas.Bool.Decides.{eqb_tells}
 use Rattle.std.specs.Prelude.{ℤ, ◌==◌}
 use Rattle.std.specs.List.{filter}
+use Rattle.std.proofs.lemmas.Bool.{eq-eqb}
 use Rattle.flame_rows.specs.Bags.{ascending, merge}
 use Rattle.flame_world.specs.Fields.{changed, joined_from, joined}
 use Rattle.flame_spec.specs.declared.outcomes.Born.{Born}
 use Rattle.flame_spec.specs.declared.outcomes.Sent.{Sent}
 use Rattle.flame_world.specs.AgentRuns.{births_of, messages_of}
 use Rattle.flame_progress.proofs.Gathered.{merge-append, merge-none}
-
-eqb-same : (a b : ℕ) → a ≡ b → (a == b) ≡ true
-eqb-same a b same =
-    elim (eqb_tells a b) [
-      | inl tells ↦ tells.0
-      | inr tells ↦ absurd (tells.1 same)
-    ]
 
 eqb-differs : (a b : ℕ) → (b < a) ⊎ (a < b) → (a == b) ≡ false
 eqb-differs a b apart =
@@ -41,7 +35,7 @@ joined-one k row rows more each i place is [] = refl
 joined-one k row rows more each i zero is (bag ∷ bags) =
     let same : k ≡ i = omega (arith, is) in
     let here : merge bag (rows i) ≡ merge (merge bag (row ∷ [])) (more i) =
-    ap (merge bag) (each i ∙ ap (λ t. cond t (row ∷ more i) (more i)) (eqb-same k i same)) ∙ sym (merge-append bag (row ∷ []) (more i)) in
+    ap (merge bag) (each i ∙ ap (λ t. cond t (row ∷ more i) (more i)) (eq-eqb k i same)) ∙ sym (merge-append bag (row ∷ []) (more i)) in
     λ j. here j ∷ joined-past k row rows more each (i + 1) (omega (arith, is)) bags j
 joined-one k row rows more each i (suc place) is (bag ∷ bags) =
     let here : rows i ≡ more i = each i ∙ ap (λ t. cond t (row ∷ more i) (more i)) (eqb-differs k i (inl (omega (arith, is)))) in

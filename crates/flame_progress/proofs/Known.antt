@@ -1,5 +1,5 @@
 -- What is known of a function from what it may do.
-use Rattle.std.proofs.Common.{◌≡◌, ℕ, zero, suc, ◌+◌, ◌<◌, ◌≤◌, Bool, true, false, cond, List, [], ◌∷◌, length, map, get_or, Option, Some, None, refl, sym, ap, ◌∙◌, subst, arith, ⊎_elim}
+use Rattle.std.proofs.Common.{◌≡◌, ℕ, suc, ◌+◌, ◌<◌, ◌≤◌, Bool, true, false, cond, List, [], ◌∷◌, length, map, get_or, Option, Some, None, refl, sym, ap, ◌∙◌, subst, arith, ⊎_elim}
 use Rattle.std.specs.Prelude.{ℤ, ◌==◌, not, is_some, slice_get, slice_set, slice_index_or, if◌then◌else◌}
 use Rattle.std.specs.List.{All, position_or_len}
 use Rattle.std.proofs.lemmas.Bool.{and_parts, cases_lt, eqb-true, false≢true, leb-true}
@@ -23,11 +23,6 @@ use Rattle.flame_progress.specs.RunWorkEvents.{are_left, OutputsOnce}
 
 -- ---- what is there
 
-pub got_within : {X : Type 0} (xs : List X) (k : ℕ) (x : X) → slice_get xs k ≡ Some x → k < length xs
-got_within [] k x at = absurd cc
-got_within (y ∷ xs) zero x at = omega arith
-got_within (y ∷ xs) (suc k) x at = omega (arith, got_within xs k x at)
-
 pub record Runs (ran : ℕ) (works : List Work) (piece : ℕ) : Type 0 where
   pub work : Work
   pub there : slice_get works piece ≡ Some work
@@ -40,13 +35,6 @@ are_left_is ran works piece may = go (slice_get works piece) refl may
     go : (o : Option Work) → slice_get works piece ≡ o → are_left ran o ≡ true → Runs ran works piece
     go None is left = absurd (false≢true left)
     go (Some work) is left = record { work = work; there = is; left = leb-true (work.ran + ran) (length work.agents) left }
-
--- a status that has a piece is open
-pub has_piece : (status : Status) (piece : ℕ) → piece < length (works_of status) → status ≡ Open (works_of status)
-has_piece Waiting piece less = absurd (omega (arith, less))
-has_piece (Open works) piece less = refl
-has_piece Shut piece less = absurd (omega (arith, less))
-has_piece (Faulted fault) piece less = absurd (omega (arith, less))
 
 -- one that may be shut is open
 pub may_shut_is : (outputs : List ℕ) (status : Status) → may_shut outputs status ≡ true → status ≡ Open (works_of status)

@@ -2,8 +2,9 @@
 use Rattle.std.proofs.Common.{◌≡◌, ℕ, suc, ◌+◌, ◌<◌, Bool, true, false, List, [], ◌∷◌, length, drop, drop-cons, get_or, refl, sym, ap, ◌∙◌, arith, ⊎_elim, get_or-set_same, get_or-set_other}
 use Rattle.std.specs.Prelude.{◌==◌, ◌||◌, ◌&&◌, slice_set, slice_index_or}
 use Rattle.std.specs.List.{All}
-use Rattle.std.proofs.lemmas.Bool.{cases_eq, eq-eqb, ne_eqb}
+use Rattle.std.proofs.lemmas.Bool.{cases_eq}
 use Rattle.std.proofs.lemmas.List.Elements.{All-head, All-tail}
+use Rattle.flame_rows.proofs.Truths.{eqb-sym}
 use Rattle.flame_spec.specs.Below.{is_in}
 use Rattle.flame_pieces.specs.FreeThings.{Tells}
 use Rattle.flame_pieces.specs.Waiting.{Awaited, Waiting, thing_at, waited_by, with_waiter}
@@ -29,12 +30,6 @@ still_open waiting thing waiter undone k =
 pub next_first : (numbers : List ℕ) (k : ℕ) → k < length numbers → drop k numbers ≡ get_or numbers k 0 ∷ drop (k + 1) numbers
 next_first numbers k less =
     drop-cons numbers k 0 less ∙ ap (λ n. get_or numbers k 0 ∷ drop n numbers) (let next : suc k ≡ k + 1 = omega arith in next)
-
-turned : (a b : ℕ) → (a == b) ≡ (b == a)
-turned a b = ⊎_elim
-    (λ (same : a ≡ b). eq-eqb a b same ∙ sym (eq-eqb b a (sym same)))
-    (λ (apart : a ≡ b → ⊥). ne_eqb a b apart ∙ sym (ne_eqb b a (λ e. apart (sym e))))
-    (cases_eq a b)
 
 -- another word for who waits for what
 tells_who : (all many : ℕ) (told other : ℕ → ℕ → Bool) (is_done : ℕ → Bool) (waiting : Waiting)
@@ -75,7 +70,7 @@ waiting_is_told all many told is_done waiter (first ∷ things) waiting within t
     (waiting_for waiter things (with_waiter first waiter waiting))
     (λ thing number.
     here_or_later (told thing number) (thing == first) (is_in thing things) (number == waiter)
-    ∙ ap (λ b. told thing number || ((b || is_in thing things) && (number == waiter))) (turned thing first))
+    ∙ ap (λ b. told thing number || ((b || is_in thing things) && (number == waiter))) (eqb-sym thing first))
     (waiting_is_told all many more is_done waiter things (with_waiter first waiter waiting)
     (All-tail (λ thing. thing < all) first things within)
     (waiters_are_told all many told is_done waiting first waiter (All-head (λ thing. thing < all) first things within) tells))
@@ -106,6 +101,6 @@ waiters_told all many told is_done thing (waiter ∷ waiters) waiting within tel
     (waited_for_by thing waiters (with_waiter thing waiter waiting))
     (λ other number.
     for_here_or_later (told other number) (other == thing) (number == waiter) (is_in number waiters)
-    ∙ ap (λ b. told other number || ((other == thing) && (b || is_in number waiters))) (turned number waiter))
+    ∙ ap (λ b. told other number || ((other == thing) && (b || is_in number waiters))) (eqb-sym number waiter))
     (waiters_told all many more is_done thing waiters (with_waiter thing waiter waiting) within
     (waiters_are_told all many told is_done waiting thing waiter within tells))

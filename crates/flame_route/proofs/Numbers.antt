@@ -4,6 +4,7 @@ use Rattle.std.specs.Prelude.{◌==◌, ◌&&◌, slice_get}
 use Rattle.std.specs.Str.{bytes_eq}
 use Rattle.std.proofs.lemmas.Bool.Decides.{nat_tests}
 use Rattle.std.proofs.lemmas.List.{length-append}
+use Rattle.flame_rows.proofs.Truths.{eqb-above}
 use Rattle.flame_spec.specs.declared.models.AgentType.{AgentType}
 use Rattle.flame_spec.specs.declared.models.Function.{Function}
 use Rattle.flame_spec.specs.Choice.{leaves}
@@ -52,9 +53,6 @@ numbers-other n m first type (f ∷ fs) state apart =
     ap (λ b. cond (b && bytes_eq f.current state) (first ∷ rest) rest) apart
     ∙ numbers-other n m (first + 1) type fs state apart
 
-above : (n m : ℕ) → n < m → (m == n) ≡ false
-above n m h = grind (arith, nat_tests)
-
 below : (n m i : ℕ) → n ≡ m + suc i → (m == n) ≡ false
 below n m i h = grind (arith, nat_tests)
 
@@ -68,7 +66,7 @@ numbers-later n a first (type ∷ types) state h =
     let own = map (at_type a type) type.functions in
     numbers-append (leaves n state) first own (functions_from (a + 1) types)
     ∙ ap (λ ns. ns ++ numbers_from (leaves n state) (first + length own) (functions_from (a + 1) types))
-    (numbers-other n a first type type.functions state (above n a h))
+    (numbers-other n a first type type.functions state (eqb-above n a h))
     ∙ numbers-later n (a + 1) (first + length own) types state (omega (arith, h))
 
 append-none : (ns : List ℕ) → ns ++ [] ≡ ns

@@ -2,15 +2,7 @@
 use Rattle.std.proofs.Common.{◌≡◌, ℕ, zero, suc, ◌+◌, List, [], ◌∷◌, ◌++◌, map, take, length, Some, refl, sym, ap, ◌∙◌, subst, arith}
 use Rattle.std.specs.Prelude.{slice_get}
 use Rattle.std.specs.List.{AllZip}
-
--- one list behind another
-pub zip-append :
-    {A B : Type 0} (P : A → B → Type 0) (xs : List A) (ys : List B) (more : List A) (others : List B)
-    → AllZip P xs ys → AllZip P more others → AllZip P (xs ++ more) (ys ++ others)
-zip-append P [] [] more others all rest = rest
-zip-append P [] (y ∷ ys) more others all rest = absurd (all)
-zip-append P (x ∷ xs) [] more others all rest = absurd (all)
-zip-append P (x ∷ xs) (y ∷ ys) more others all rest = (all.0, zip-append P xs ys more others all.1 rest)
+use Rattle.flame_rows.proofs.Lists.{AllZip-append}
 
 -- the lists are equally long
 pub zip-length :
@@ -36,7 +28,7 @@ pub zip-taken :
 zip-taken P xs k ys x y at all one =
     let next : k + 1 ≡ suc k = omega arith in
     subst (λ zs. AllZip P zs (ys ++ y ∷ [])) (sym (ap (λ n. take n xs) next ∙ take-more xs k x at))
-    (zip-append P (take k xs) ys (x ∷ []) (y ∷ []) all (one, tt))
+    (AllZip-append P (take k xs) ys (x ∷ []) (y ∷ []) all (one, tt))
 
 -- an item of two lists, one behind the other, is of the first or of the second
 pub of-either :

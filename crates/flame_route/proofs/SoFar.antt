@@ -4,6 +4,7 @@ use Rattle.std.specs.Prelude.{slice_get}
 use Rattle.std.specs.List.{AllZip}
 use Rattle.std.proofs.lemmas.Option.{slice_get_within}
 use Rattle.std.proofs.lemmas.List.{length-append}
+use Rattle.flame_rows.proofs.Lists.{AllZip-append}
 use Rattle.flame_spec.specs.declared.models.AgentType.{AgentType}
 use Rattle.flame_spec.specs.declared.models.Function.{Function}
 use Rattle.flame_spec.specs.declared.models.Model.{Model}
@@ -14,7 +15,7 @@ use Rattle.flame_route.specs.declared.routes.Route.{Route}
 use Rattle.flame_route.specs.declared.routes.Routes.{Routes}
 use Rattle.flame_route.specs.ModelRoutes.{ReadsEach, ReadMessages, IsRouteOf, AreRoutesOf, start_place}
 use Rattle.flame_route.specs.TypeRoutes.{ReadsAll, numbers_out, AreTypeRoutes}
-use Rattle.flame_route.proofs.Places.{zip-append, zip-length, of-either, ComesFrom, comes-from}
+use Rattle.flame_route.proofs.Places.{zip-length, of-either, ComesFrom, comes-from}
 use Rattle.flame_route.proofs.Numbers.{numbers-of-type, functions-more}
 
 -- those of the first i types
@@ -116,7 +117,7 @@ module _ (model : Model) (i : ℕ) (type : AgentType) (routes : List Route) (lea
   pub one-type-more : AreSoFar model (i + 1) (routes ++ own) (leaving ++ out ∷ [])
   one-type-more = record {
     each = subst (λ ps. AllZip (IsRouteOf model) ps (routes ++ own)) (sym grown)
-        (zip-append (IsRouteOf model) before routes places own far.each mine.each);
+        (AllZip-append (IsRouteOf model) before routes places own far.each mine.each);
     turns = λ n place route there given. more-turns n place route (ap (λ ps. slice_get ps n) (sym grown) ∙ there) given;
     count = length-append leaving (out ∷ []) ∙ ap (λ n. n + 1) far.count;
     lists = more-leaving;

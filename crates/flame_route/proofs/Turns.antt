@@ -6,6 +6,7 @@ use Rattle.std.specs.Str.{bytes_eq}
 use Rattle.std.proofs.lemmas.List.{length-append}
 use Rattle.std.proofs.lemmas.Option.{slice_get-map}
 use Rattle.std.proofs.lemmas.Slice.Eq.{bytes_eq-Decides}
+use Rattle.flame_rows.proofs.Lists.{drop-there}
 use Rattle.flame_spec.specs.declared.models.AgentType.{AgentType}
 use Rattle.flame_spec.specs.declared.models.Function.{Function}
 use Rattle.flame_spec.specs.declared.models.Model.{Model}
@@ -44,11 +45,6 @@ none-taken model agent type first under none = record {
       ∙ ap (λ n. numbers_out n type.functions state) same;
 }
 
-drop-more : {A : Type 0} (xs : List A) (k : ℕ) (x : A) → slice_get xs k ≡ Some x → drop k xs ≡ x ∷ drop (suc k) xs
-drop-more [] k x at = absurd (cc)
-drop-more (y ∷ ys) zero x at = let same : y ≡ x = cc in ap (λ z. z ∷ ys) same
-drop-more (y ∷ ys) (suc k) x at = drop-more ys k x at
-
 module _ (model : Model) (agent : ℕ) (type : AgentType) (first i : ℕ) (routes : List Route) (under : List ℕ → List ℕ)
     (function : Function) (route : Route) (after : List ℕ → List ℕ)
     (at : slice_get type.functions i ≡ Some function)
@@ -65,7 +61,7 @@ module _ (model : Model) (agent : ℕ) (type : AgentType) (first i : ℕ) (route
       ≡ numbers_out first type.functions state
   unfolding behind
   opened state =
-      sym (ap (λ fs. under state ++ numbers_out (first + i) fs state) (drop-more type.functions i function at))
+      sym (ap (λ fs. under state ++ numbers_out (first + i) fs state) (drop-there type.functions i function at))
       ∙ so.rest state
 
   own-turn : slice_get (numbers_out first type.functions function.current) route.turn ≡ Some (first + i)

@@ -1,20 +1,14 @@
 -- What stands of a report whose run was driven.
-use Rattle.std.proofs.Common.{◌≡◌, inl, inr, ℕ, List, ◌++◌, Ok, refl, sym, ap, subst}
-use Rattle.std.specs.Prelude.{◌+◌, ℤ, pos, ◌+ℤ◌, codes, decimal}
-use Rattle.std.specs.Fmt.{signed_decimal}
+use Rattle.std.proofs.Common.{◌≡◌, inl, inr, ℕ, List, Ok, sym, ap, subst}
+use Rattle.std.specs.Prelude.{◌+◌, ℤ, pos, ◌+ℤ◌}
 use Rattle.flame_outside.specs.Files.{Files}
 use Rattle.flame_outside.specs.Devices.{SeenDepot, SeenSink}
 use Rattle.flame_outside.specs.Frames.{OnlyReads}
 use Rattle.flame_outside.specs.Scripts.{Outside, outside, HasDone, GoesOn}
 use Rattle.flame_words.specs.declared.orders.RunOrder.{RunOrder}
-use Rattle.flame_spec.specs.declared.models.Model.{Model}
 use Rattle.flame_spec.specs.declared.outcomes.Source.{Source}
-use Rattle.flame_world.specs.declared.faults.SimFault.{SimFault}
 use Rattle.flame_popfile.specs.declared.formats.Format.{Format}
 use Rattle.flame_popfile.specs.declared.starts.Start.{Start}
-use Rattle.flame_ops.specs.CauseNames.{name_of_cause}
-use Rattle.flame_report.specs.LineParts.{function_name, memory_of, memory_text}
-use Rattle.flame_report.specs.FaultLines.{sim_line}
 use Rattle.flame_load.specs.InputReads.{known}
 use Rattle.flame_driver.specs.declared.drivers.DriveEnd.{DriveEnd}
 use Rattle.flame_driver.specs.declared.drivers.DriveEnd.TheVariants as drive
@@ -25,19 +19,12 @@ use Rattle.flame_top.specs.declared.ending.Ending.{Ending}
 use Rattle.flame_top.specs.Reports.{fault_text, fault_status, run_report}
 use Rattle.flame_top.specs.OrderReports.{version, ordered_run, start_read, run_of_source}
 use Rattle.flame_top.specs.RunEndings.{run_ending, EndsRun}
-use Rattle.flame_top.specs.Standing.{Stands, Carries, IsOfInput, IsLine, Keeps}
+use Rattle.flame_top.specs.Standing.{Stands, Carries, IsOfInput, Keeps}
 use Rattle.flame_top.proofs.Standings.{carries_known, carries_given, read_is_of_input}
+use Rattle.flame_top.proofs.ReportLines.{sim_is_line}
 
 -- ---- the line of a fault
 
-sim_line_ends : (model : Model) (fault : SimFault) → IsLine (sim_line model fault)
-sim_line_ends model fault = (
-  codes "fault: iteration " ++ signed_decimal fault.iteration
-      ++ codes ": " ++ function_name model fault.function
-      ++ codes ": " ++ name_of_cause fault.cause
-      ++ codes " at line " ++ decimal fault.line
-      ++ codes ": memory" ++ memory_text (memory_of model fault.function) fault.memory,
-  refl,
 )
 
 -- ---- by the end of the run
@@ -78,7 +65,7 @@ module _ (writing : Writing) (ran : Run) (next : ℤ) (files done : ℕ) (old ne
   keeps_by_end (drive.Fault fault) e on = record {
     caused = tt;
     ordered = λ r. r;
-    line = sim_line_ends writing.model fault;
+    line = sim_is_line writing.model fault;
     input = λ i. absurd i;
     goes_on = on;
   }

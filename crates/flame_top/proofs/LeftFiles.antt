@@ -1,13 +1,13 @@
 -- Files that are set one after another: the last one, and names that none of them has.
-use Rattle.std.proofs.Common.{◌≡◌, ◌≢◌, ℕ, zero, suc, true, false, cond, List, [], ◌∷◌, length, Some, refl, sym, ap, ◌∙◌, subst, arith}
+use Rattle.std.proofs.Common.{◌≡◌, ◌≢◌, ℕ, zero, suc, cond, List, [], ◌∷◌, length, Some, refl, sym, ap, ◌∙◌, subst, arith}
 use Rattle.std.specs.Prelude.{Contains, slice_get}
-use Rattle.std.specs.Ordering.{nat_cmp, eq_by_cmp}
-use Rattle.std.specs.Cmp.{Equal-is, eq_by_cmp_equiv}
-use Rattle.std.specs.Cmp.Lexicographic.{slice_cmp, nat_list_cmp_total}
-use Rattle.std.specs.FinMap.{get, insert, get-insert, slice_cmp-IsAntisymmetric, nat_cmp-IsAntisymmetric}
+use Rattle.std.specs.Cmp.{eq_by_cmp_equiv}
+use Rattle.std.specs.Cmp.Lexicographic.{nat_list_cmp_total}
+use Rattle.std.specs.FinMap.{get, insert, get-insert}
 use Rattle.flame_outside.specs.Files.{Files}
 use Rattle.flame_outside.specs.WhatIsTold.{with_files}
 use Rattle.flame_load.specs.LoadLaws.{Agree}
+use Rattle.flame_outside.proofs.PutLemmas.{get-insert_other}
 
 -- a file with its name
 abbrev pub Named : Type 0
@@ -17,18 +17,6 @@ get-insert_same : (files : Files) (name bytes : List ℕ) → get (insert files 
 get-insert_same files name bytes =
     get-insert nat_list_cmp_total files name bytes name
     ∙ ap (λ same. cond same (Some bytes) (get files name)) ((eq_by_cmp_equiv nat_list_cmp_total).refl name)
-
-get-insert_other :
-    (files : Files) (name bytes other : List ℕ) → other ≢ name → get (insert files name bytes) other ≡ get files other
-get-insert_other files name bytes other differs =
-    get-insert nat_list_cmp_total files name bytes other
-    ∙ elim (eq_by_cmp (slice_cmp nat_cmp) other name) as
-    (λ same. eq_by_cmp (slice_cmp nat_cmp) other name ≡ same
-    → cond same (Some bytes) (get files other) ≡ get files other) [
-      | true ↦ λ e. let tied = (Equal-is (slice_cmp nat_cmp other name)).0 e in
-          absurd (differs (slice_cmp-IsAntisymmetric nat_cmp-IsAntisymmetric other name tied))
-      | false ↦ λ e. refl
-    ] refl
 
 -- names that none of the files has stay as they are
 pub left_agree :

@@ -17,7 +17,7 @@ use Rattle.flame_top.specs.CallAnswers.{OrdersTrial, OrdersText, PutsNothing}
 use Rattle.flame_top.specs.Standing.{IsLine, Carries, Keeps}
 use Rattle.flame_top.specs.Ordering.{IsUsageEnding, IsApartBy, IsUnordered, KeepsOrder}
 use Rattle.flame_top.proofs.Standings.{unchanged}
-use Rattle.flame_top.proofs.ToldLines.{usage_is_line}
+use Rattle.flame_top.proofs.ReportLines.{usage_is_line}
 
 -- ---- orders
 

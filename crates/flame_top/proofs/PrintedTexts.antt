@@ -14,23 +14,9 @@ use Rattle.flame_top.specs.declared.ending.Ending.{Ending}
 use Rattle.flame_top.specs.declared.ending.Ending.TheVariants.{Done, RefusedWords, Refused, Faulted, ReadFault, FileFault, OutputFault, NoMemory}
 use Rattle.flame_top.specs.Reports.{carried_out, printing}
 use Rattle.flame_top.specs.OrderReports.{source_read, text_reading}
-use Rattle.flame_top.specs.Printing.{StopsPrint, EndsPrint}
+use Rattle.flame_top.specs.Printing.{EndsPrint}
 use Rattle.flame_top.specs.Standing.{Stands, Carries, IsOfInput, Keeps}
 use Rattle.flame_top.proofs.Standings.{unchanged, carries_known, carries_given, read_is_of_input}
-
--- why a text was not printed whole is how its printing ended
-pub stops_print :
-    (text : List ℕ) (old new : SeenSink) (ending : Ending)
-    → StopsPrint text old new ending
-    → EndsPrint text old new ending
-stops_print text old new Done s = absurd s
-stops_print text old new (RefusedWords line) s = s
-stops_print text old new (Refused line) s = s
-stops_print text old new (Faulted line) s = s
-stops_print text old new (ReadFault name) s = s
-stops_print text old new (FileFault name) s = s
-stops_print text old new OutputFault s = s
-stops_print text old new NoMemory s = s
 
 module _ (depot : SeenDepot) (old new : SeenSink) where
   whole_text : (text : List ℕ) → Prints text old new → Stands Done 0 (carried_out (printing text)) (outside depot old) (outside depot new)

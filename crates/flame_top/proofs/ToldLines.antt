@@ -1,23 +1,14 @@
 -- Lines that end with a line feed.
-use Rattle.std.proofs.Common.{◌≢◌, ℕ, List, ◌++◌, refl, subst}
+use Rattle.std.proofs.Common.{◌≢◌, ℕ, List, refl, subst}
 use Rattle.std.specs.Prelude.{codes}
 use Rattle.flame_outside.specs.Devices.{SeenSink}
-use Rattle.flame_words.specs.declared.faults.Usage.{Usage}
-use Rattle.flame_words.specs.UsageTexts.{fault_name, word_number, missing_word}
-use Rattle.flame_report.specs.FaultLines.{word_part, missing_part, usage_line, file_line}
 use Rattle.flame_top.specs.declared.ending.Ending.{Ending}
 use Rattle.flame_top.specs.declared.ending.Ending.TheVariants.{Done, RefusedWords, Refused, Faulted}
 use Rattle.flame_top.specs.declared.ending.Ending.TheVariants.{ReadFault, FileFault, OutputFault, NoMemory}
 use Rattle.flame_top.specs.EndingLines.{status_of, line_of}
 use Rattle.flame_top.specs.CallAnswers.{Tells, TellsALine}
 use Rattle.flame_top.specs.Standing.{IsLine, TellsLine}
-
-pub file_is_line : (word name : List ℕ) → IsLine (file_line word name)
-file_is_line word name = (word ++ codes ": " ++ name, refl)
-
-pub usage_is_line : (usage : Usage) → IsLine (usage_line usage)
-usage_is_line usage =
-    (codes "usage: " ++ fault_name usage ++ word_part (word_number usage) ++ missing_part (missing_word usage), refl)
+use Rattle.flame_top.proofs.ReportLines.{file_is_line}
 
 ending_is_line : (ending : Ending) → TellsLine ending → status_of ending ≢ 0 → IsLine (line_of ending)
 ending_is_line Done line told = absurd (told refl)

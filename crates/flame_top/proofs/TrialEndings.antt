@@ -1,5 +1,5 @@
 -- How a trial ends, whose run was written to a depot of its own that never fails.
-use Rattle.std.proofs.Common.{◌≡◌, ◌≢◌, ℕ, zero, suc, ◌+◌, ◌==◌, Bool, true, false, if◌then◌else◌, List, [], ◌∷◌, ◌++◌, length, take, Some, refl, sym, ap, ◌∙◌, subst, arith, add-zero, append-nil, le_refl, true≢false}
+use Rattle.std.proofs.Common.{◌≡◌, ℕ, zero, suc, ◌+◌, ◌==◌, Bool, true, false, if◌then◌else◌, List, [], ◌∷◌, ◌++◌, length, take, Some, refl, sym, ap, ◌∙◌, subst, arith, add-zero, append-nil, le_refl, true≢false}
 use Rattle.std.specs.Prelude.{IsTrue}
 use Rattle.std.specs.FinMap.{empty}
 use Rattle.std.proofs.lemmas.List.{take_all}
@@ -16,12 +16,10 @@ use Rattle.flame_top.specs.declared.ending.Ending.TheVariants.{Done, RefusedWord
 use Rattle.flame_top.specs.Reports.{Report}
 use Rattle.flame_top.specs.OrderReports.{bytes_of, prints_of, bytes_line, bytes_told, trial_of}
 use Rattle.flame_top.specs.Standing.{Ends, IsWholeEnding, Blames, Stands, IsCaused, IsOfInput, RefusesWords, TellsLine, Keeps}
-use Rattle.flame_top.specs.InputAnswers.{IsReadFault}
 use Rattle.flame_top.specs.Printing.{EndsPrint}
 use Rattle.flame_top.specs.TrialAnswers.{total_line, EndsTrial}
 use Rattle.flame_top.proofs.FileTotals.{NamesStandOnce, total_of-files}
 use Rattle.flame_top.proofs.PrintedScripts.{printed, stands_beside, whole_beside, fails_beside}
-use Rattle.flame_top.proofs.Standings.{read_is_of_input}
 
 -- ---- the acts of a trial
 
@@ -307,10 +305,6 @@ tells_line (Faulted line) text old new p = absurd p
 tells_line (ReadFault name) text old new p = tt
 tells_line (FileFault name) text old new p = tt
 
-not_a_read_fault :
-    (ending : Ending) (text : List ℕ) (old new : SeenSink) → EndsPrint text old new ending → ¬ IsReadFault ending
-not_a_read_fault ending text old new p r = not_of_input ending text old new p (read_is_of_input ending r)
-
 caused_behind :
     (ending : Ending) (text : List ℕ) (depot : SeenDepot) (old mid new : SeenSink)
     → Grows old mid
@@ -341,17 +335,6 @@ keeps_behind ending text depot old mid new first then_grows p = record {
 }
 
 -- ---- a trial as its run ended
-
--- of another ending than Done nothing more is printed
-pub ends_otherwise : (ended : Ending) (text : List ℕ) (out : SeenSink) → ended ≢ Done → EndsTrial ended text out out ended
-ends_otherwise Done text out other = absurd (other refl)
-ends_otherwise (Refused line) text out other = (refl, refl)
-ends_otherwise (RefusedWords line) text out other = (refl, refl)
-ends_otherwise (Faulted line) text out other = (refl, refl)
-ends_otherwise (ReadFault name) text out other = (refl, refl)
-ends_otherwise (FileFault name) text out other = (refl, refl)
-ends_otherwise OutputFault text out other = (refl, refl)
-ends_otherwise NoMemory text out other = (refl, refl)
 
 -- the run of this report went to the depot `own`, which never fails and held no file, and it ended so
 module _
@@ -394,20 +377,6 @@ module _
       moved KeepsBy OutputFault e (keeps_beside report own (seen_depot after) depot out out' calm OutputFault files k)
   trial_keeps NoMemory files k e =
       moved KeepsBy NoMemory e (keeps_beside report own (seen_depot after) depot out out' calm NoMemory files k)
-
-  pub trial_reads :
-      (ended : Ending) (files : ℕ)
-      → Keeps ended files (outside own out) (outside (seen_depot after) out')
-      → EndsTrial ended text out' out'' ending
-      → ¬ IsReadFault ending
-  trial_reads Done files k e = not_a_read_fault ending text out' out'' e
-  trial_reads (Refused line) files k e = subst (λ (x : Ending). ¬ IsReadFault x) (sym e.0) (λ r. r)
-  trial_reads (RefusedWords line) files k e = absurd (k.ordered tt)
-  trial_reads (Faulted line) files k e = subst (λ (x : Ending). ¬ IsReadFault x) (sym e.0) (λ r. r)
-  trial_reads (ReadFault name) files k e = absurd (true≢false (sym calm ∙ k.caused.not_calm))
-  trial_reads (FileFault name) files k e = absurd (true≢false (sym calm ∙ k.caused.not_calm))
-  trial_reads OutputFault files k e = subst (λ (x : Ending). ¬ IsReadFault x) (sym e.0) (λ r. r)
-  trial_reads NoMemory files k e = subst (λ (x : Ending). ¬ IsReadFault x) (sym e.0) (λ r. r)
 
   stopped :
       (ended : Ending) (files : ℕ)

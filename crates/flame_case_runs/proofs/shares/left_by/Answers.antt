@@ -3,12 +3,12 @@ use Rattle.std.specs.Prelude.{ℤ}
 use Rattle.std.specs.List.{cons_option, filter_map}
 use Rattle.std.proofs.lemmas.Int.{to_z-of_z}
 use Rattle.std.proofs.lemmas.List.{take_all}
+use Rattle.flame_rows.proofs.Lists.{filter_map-next, flat_map-next}
 use Rattle.flame_spec.specs.declared.outcomes.Outcome.{Outcome}
 use Rattle.flame_meaning.specs.Outcomes.{outcome}
 use Rattle.flame_world.specs.AgentRuns.{born_by, fault_by, kept, sent_by}
 use Rattle.flame_world.specs.Meaning.{outcome_under}
 use Rattle.flame_world.proofs.NamedBoards.{named_boards_are_enough}
-use Rattle.flame_case_runs.proofs.Further.{filter_map-next, flat_map-next}
 use Rattle.flame_case_runs.proofs.shares.left_by.Goals as goal
 
 pub loop-memory-preserved : goal.loop-memory-preserved

@@ -2,8 +2,9 @@ use Rattle.std.proofs.Common.{◌≡◌, ◌∙◌, ◌<◌, ◌++◌, [], ◌�
 use Rattle.std.specs.Prelude.{ℤ}
 use Rattle.std.specs.Arc.{arc_value}
 use Rattle.std.proofs.lemmas.List.{length-set, map-append, take_more}
+use Rattle.flame_rows.proofs.Lists.{slice_index_or-map}
 use Rattle.flame_core.specs.RunFields.{board_bag}
-use Rattle.flame_progress.proofs.Changed.{map-written, map-at, changed-not}
+use Rattle.flame_progress.proofs.Changed.{map-written, changed-not}
 use Rattle.flame_core.proofs.fields.freeze.Goals as goal
 
 pub loop-message-preserved : goal.loop-message-preserved
@@ -18,7 +19,7 @@ loop-message-preserved c =
     let read : List ℕ → List (List (List ℤ)) = λ ms. map (λ m. slice_index_or (map board_bag c.args.boards.now.items) m []) ms in
     let one : arc_value c.in_ok-freeze.field-0 ≡ slice_index_or (map board_bag c.args.boards.now.items) message [] =
     c.in_ok-freeze.ensures.read
-    ∙ sym (map-at board_bag [] boards message c.index_mut.result.now here at)
+    ∙ sym (slice_index_or-map board_bag [] boards message c.index_mut.result.now here at)
     ∙ ap (λ bags. slice_index_or bags message []) old.kept in
     record {
       count = length-set boards message _ ∙ old.count;

@@ -1,10 +1,11 @@
-use Rattle.std.proofs.Common.{◌≡◌, ◌∙◌, ◌<◌, ◌++◌, ◌+◌, [], ◌∷◌, List, ap, append_assoc, arith, drop, get_or, length, length-append, map, sym}
+use Rattle.std.proofs.Common.{◌≡◌, ◌∙◌, ◌<◌, ◌++◌, ◌+◌, [], ◌∷◌, List, ap, append_assoc, arith, drop, get_or, length, length-append, map, sym, refl}
 use Rattle.std.specs.Prelude.{ℤ}
 use Rattle.std.specs.List.{zip}
 use Rattle.std.specs.Vec.Iter.{into_iter_items, into_iter_len}
 use Rattle.std.specs.Iterator.Adapters.{zip_first, zip_second}
 use Rattle.std.specs.Slice.Iter.{iter_rest}
 use Rattle.std.proofs.lemmas.List.{length-map, map-append}
+use Rattle.std.proofs.lemmas.Option.{slice_get_read}
 use Rattle.flame_rows.specs.Bags.{ascending}
 use Rattle.flame_spec.specs.declared.models.AgentType.{AgentType}
 use Rattle.flame_spec.specs.Choice.{functions_out}
@@ -14,7 +15,6 @@ use Rattle.flame_program.proofs.Acceptances.{accepted-are-runnable}
 use Rattle.flame_world.specs.Fields.{begun, changed}
 use Rattle.flame_progress.specs.RunPools.{bags_of, pools_of}
 use Rattle.flame_core.proofs.Beginnings.{next-type, nones, some-left, stands-alone}
-use Rattle.flame_core.proofs.Gets.{get-there}
 use Rattle.flame_route.proofs.Places.{zip-length}
 use Rattle.flame_core.proofs.iterations.pools_begun.Goals as goal
 
@@ -73,7 +73,7 @@ begun-requires c =
     c.index-items-len.is
     ∙ (λ i. get_or (c.items-in-loop-bag.ensures i) ((c.len.ensures ∙ c.loop-bag.pools.ok.0) i) lists) in
     let is = c.routes-routes.ensures.leaving.1 k type lists next.there
-    (get-there leaving k lists (omega (arith, within, c.routes-routes.ensures.leaving.0)) at) in
+    (slice_get_read leaving (length leaving) k lists refl (omega (arith, within, c.routes-routes.ensures.leaving.0)) at) in
     omega (arith, start, alone.within, ap length c.items-states.ensures, ap length is, length-map (states type.functions) (functions_out model k))
 
 pub loop-bag-preserved : goal.loop-bag-preserved
@@ -101,7 +101,7 @@ loop-bag-preserved c =
     c.index-items-len.is
     ∙ (λ i. get_or (c.items-in-loop-bag.ensures i) ((c.len.ensures ∙ c.loop-bag.pools.ok.0) i) lists) in
     let is = c.routes-routes.ensures.leaving.1 k type lists next.there
-    (get-there leaving k lists (omega (arith, within, c.routes-routes.ensures.leaving.0)) at) in
+    (slice_get_read leaving (length leaving) k lists refl (omega (arith, within, c.routes-routes.ensures.leaving.0)) at) in
     let here : bags_of c.in_ok-own.own ≡ begun type bag =
     c.in_ok-own.ensures
     ∙ (λ i. changed (start i) (λ old. ascending bag) (map (λ state. none) ((c.items-states.ensures ∙ is) i)))

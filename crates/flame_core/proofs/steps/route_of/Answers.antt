@@ -1,7 +1,9 @@
-use Rattle.std.proofs.Common.{◌≡◌, ap, arith, get_or, length, subst}
+use Rattle.std.proofs.Common.{◌≡◌, ap, arith, get_or, length, subst, refl}
+use Rattle.std.proofs.lemmas.Option.{slice_get_read}
+use Rattle.flame_rows.proofs.Lists.{AllZip-at}
 use Rattle.flame_spec.specs.Functions.{functions}
 use Rattle.flame_route.specs.ModelRoutes.{IsRouteOf}
-use Rattle.flame_core.proofs.Gets.{get-there, has-at, zip-get}
+use Rattle.flame_core.proofs.Gets.{has-at}
 use Rattle.flame_route.proofs.Places.{zip-length}
 use Rattle.flame_core.proofs.steps.route_of.Goals as goal
 
@@ -19,11 +21,10 @@ returns c =
     let route = c.index-items-function.result in
     let found = has-at (functions model) function c.requires in
     let count = zip-length (IsRouteOf model) (functions model) routes c.routes.ensures.each in
-    let there = get-there routes function route (omega (arith, c.requires, count))
-    (subst (λ list. route ≡ get_or list function route) c.items.ensures c.index-items-function.is) in
+    let there = slice_get_read routes (length routes) function route refl (omega (arith, c.requires, count)) (subst (λ list. route ≡ get_or list function route) c.items.ensures c.index-items-function.is) in
     record {
       place = found.item;
       there = found.there;
-      routed = zip-get (IsRouteOf model) (functions model) routes function found.item route c.routes.ensures.each found.there there;
+      routed = AllZip-at (IsRouteOf model) (functions model) routes function found.item route c.routes.ensures.each found.there there;
       turn = c.routes.ensures.turns function found.item route found.there there;
     }

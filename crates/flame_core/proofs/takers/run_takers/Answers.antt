@@ -1,10 +1,11 @@
 use Rattle.std.proofs.Common.{◌++◌, ◌∙◌, [], List, sym, ap}
 use Rattle.std.specs.Prelude.{ℤ}
 use Rattle.std.specs.List.{cons_option}
+use Rattle.flame_rows.proofs.Lists.{filter_map-next, flat_map-next}
 use Rattle.flame_spec.specs.declared.outcomes.Outcome.{Outcome}
 use Rattle.flame_world.specs.AgentRuns.{born_by, fault_by, kept, sent_by}
 use Rattle.flame_world.specs.Meaning.{outcome_under}
-use Rattle.flame_core.proofs.TakenRuns.{filter_map-next, first-given, flat_map-next}
+use Rattle.flame_core.proofs.TakenRuns.{first-given}
 use Rattle.flame_core.proofs.takers.run_takers.Goals as goal
 
 pub loop-memory-preserved : goal.loop-memory-preserved

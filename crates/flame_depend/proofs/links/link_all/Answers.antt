@@ -3,15 +3,16 @@ use Rattle.std.proofs.Common.{◌≡◌, ℕ, [], ◌<◌, List, Option, length,
 use Rattle.std.specs.Prelude.{slice_get}
 use Rattle.std.proofs.lemmas.Bool.{false≢true, cases_lt}
 use Rattle.std.proofs.lemmas.List.{get_or_past, length-map}
-use Rattle.std.proofs.lemmas.Option.{slice_get_past}
+use Rattle.std.proofs.lemmas.Option.{slice_get_past, slice_get_read}
+use Rattle.flame_rows.proofs.Lists.{take-written}
 use Rattle.flame_spec.specs.Functions.{Place}
 use Rattle.flame_spec.specs.Below.{all_below, is_in}
 use Rattle.flame_spec.specs.Before.{before_among}
 use Rattle.flame_depend.specs.PlacedFunctions.{shown}
 use Rattle.flame_graph.specs.Marks.{marked_where}
 use Rattle.flame_depend.specs.Links.{IsOfTypes, adds_at, enters_at, listed_at, is_linked}
-use Rattle.flame_depend.proofs.Gets.{shown_at, read_at}
-use Rattle.flame_graph.proofs.Marking.{marked_more, whole}
+use Rattle.flame_depend.proofs.Gets.{shown_at}
+use Rattle.flame_graph.proofs.Marking.{marked_more}
 use Rattle.flame_depend.proofs.Linking.{linked_is, none_after}
 use Rattle.flame_depend.proofs.links.link_all.Goals as goal
 
@@ -33,7 +34,7 @@ link-requires-clause-entering c = λ q f h.
     let at = shown_at c.args.places.now c.loop-i.i place c.loop-i-test.true c.index-places-i.is in
     let P : Option Place → Type 0 = IsOfTypes c.args.types in
     let of : place.agent < c.args.types = subst P at (c.requires.within c.loop-i.i) in
-    let there = read_at c.in_ok-entering.entering.items place.agent c.index.result.now (omega (arith, of, c.in_ok-entering.ensures.len)) c.index.ensures in
+    let there = slice_get_read c.in_ok-entering.entering.items (length c.in_ok-entering.entering.items) place.agent c.index.result.now refl (omega (arith, of, c.in_ok-entering.ensures.len)) c.index.ensures in
     let enters : enters_at (slice_get ps f) place.agent q ≡ true = sym (c.in_ok-entering.ensures.at place.agent of q f) ∙ ap (λ o. is_in f (listed_at o q)) there ∙ h in
     omega (arith, within ps f (λ o. enters_at o place.agent q) refl enters, length-map c.args.places.now shown, c.deref_mut.ensures.len, c.loop-i.invariant.len)
 
@@ -51,10 +52,10 @@ loop-i-preserved c =
     let at = shown_at c.args.places.now i place c.loop-i-test.true c.index-places-i.is in
     let P : Option Place → Type 0 = IsOfTypes c.args.types in
     let of : place.agent < c.args.types = subst P at (c.requires.within i) in
-    let there = read_at c.in_ok-entering.entering.items place.agent c.index.result.now (omega (arith, of, c.in_ok-entering.ensures.len)) c.index.ensures in
+    let there = slice_get_read c.in_ok-entering.entering.items (length c.in_ok-entering.entering.items) place.agent c.index.result.now refl (omega (arith, of, c.in_ok-entering.ensures.len)) c.index.ensures in
     let items = c.deref_mut.ensures.value in
     let same : length c.link.new.lists ≡ length c.loop-i.lists.items = c.link.auto.lists ∙ ap (length {A = List ℕ}) items in
-    let lent = whole c.link.new.lists c.loop-i.lists.items c.loop-i.lists.len same (omega arith) in
+    let lent = take-written c.link.new.lists c.loop-i.lists.items c.loop-i.lists.len same (omega arith) in
     record {
       len = ap (length {A = List ℕ}) lent ∙ same ∙ c.loop-i.invariant.len;
       at = λ f l.

@@ -1,7 +1,8 @@
 use Rattle.std.proofs.Common.{◌≡◌, ap, ◌∙◌, sym, arith, length, inl, inr, ◌⊎◌, ℕ, List}
 use Rattle.std.specs.Prelude.{◌==◌, not, ℤ}
+use Rattle.std.proofs.lemmas.Bool.{ne_eqb, eq-eqb}
 use Rattle.flame_rows.specs.Bags.{ascending, merge}
-use Rattle.flame_pool.proofs.Parts.{whose-taken, whose-left, whose-all, ascending-whose, merge-whose, is_same, is_other}
+use Rattle.flame_pool.proofs.Parts.{whose-taken, whose-left, whose-all, ascending-whose, merge-whose}
 use Rattle.flame_pool.proofs.pools.take.Goals as goal
 
 -- where the pairs end, one of the two lists does
@@ -15,7 +16,7 @@ over len pool choices counted (inr ends) = inr ends.1.0
 pub loop-row-preserved : goal.loop-row-preserved
 loop-row-preserved c =
     let steps = c.in-Some.ensures.steps in
-    let differs = is_other c.in-Some.choice.now c.args.number c.if-choice-number.false in
+    let differs = ne_eqb c.in-Some.choice.now c.args.number c.if-choice-number.false in
     record {
       counted = omega (arith, steps.0.1, ap length steps.0.0, c.loop-row.invariant.counted);
       takers = whose-left _ _ _ _ _ _ _ _ _ c.loop-row.invariant.takers steps.0.0 steps.1 differs;
@@ -25,7 +26,7 @@ loop-row-preserved c =
 pub loop-row-preserved-in_ok-push : goal.loop-row-preserved-in_ok-push
 loop-row-preserved-in_ok-push c =
     let steps = c.in-Some.ensures.steps in
-    let agrees = is_same c.in-Some.choice.now c.args.number c.if-choice-number.true in
+    let agrees = eq-eqb c.in-Some.choice.now c.args.number c.if-choice-number.true in
     record {
       counted = omega (arith, steps.0.1, ap length steps.0.0, c.loop-row.invariant.counted);
       takers = whose-taken _ _ _ _ _ _ _ _ _ _ c.loop-row.invariant.takers steps.0.0 steps.1 agrees c.in_ok-push.ensures.items;

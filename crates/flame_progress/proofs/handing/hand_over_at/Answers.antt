@@ -1,13 +1,14 @@
 use Rattle.std.proofs.Common.{false, sym, ◌∙◌}
 use Rattle.flame_rows.specs.Bags.{merge}
+use Rattle.flame_rows.proofs.Lists.{slice_index_or-map}
 use Rattle.flame_progress.specs.RunBoards.{board_bag, is_board_frozen}
-use Rattle.flame_progress.proofs.Changed.{map-at, map-written}
+use Rattle.flame_progress.proofs.Changed.{map-written}
 use Rattle.flame_progress.proofs.Written.{map-kept, on_err}
 use Rattle.flame_progress.proofs.handing.hand_over_at.Goals as goal
 
 pub hand_over_function-requires-clause-gathers : goal.hand_over_function-requires-clause-gathers
 hand_over_function-requires-clause-gathers c =
-    sym (map-at is_board_frozen false c.args.boards.now.items c.args.message c.index_mut.result.now c.requires.known c.index_mut.ensures.value)
+    sym (slice_index_or-map is_board_frozen false c.args.boards.now.items c.args.message c.index_mut.result.now c.requires.known c.index_mut.ensures.value)
     ∙ c.requires.gathers
 
 pub returns-in_err-hand_over_function-clause-frozen : goal.returns-in_err-hand_over_function-clause-frozen
@@ -16,7 +17,7 @@ returns-in_err-hand_over_function-clause-frozen c =
     c.requires.known c.index_mut.ensures.value
     (c.in_err-hand_over_function.ensures.gathers
     ∙ sym c.requires.gathers
-    ∙ map-at is_board_frozen false c.args.boards.now.items c.args.message c.index_mut.result.now c.requires.known c.index_mut.ensures.value)
+    ∙ slice_index_or-map is_board_frozen false c.args.boards.now.items c.args.message c.index_mut.result.now c.requires.known c.index_mut.ensures.value)
 
 pub returns-in_err-hand_over_function-clause-same_boards : goal.returns-in_err-hand_over_function-clause-same_boards
 returns-in_err-hand_over_function-clause-same_boards c =
@@ -37,4 +38,4 @@ returns-clause-frozen c =
     c.requires.known c.index_mut.ensures.value
     (c.in_ok-hand_over_function.ensures.gathers
     ∙ sym c.requires.gathers
-    ∙ map-at is_board_frozen false c.args.boards.now.items c.args.message c.index_mut.result.now c.requires.known c.index_mut.ensures.value)
+    ∙ slice_index_or-map is_board_frozen false c.args.boards.now.items c.args.message c.index_mut.result.now c.requires.known c.index_mut.ensures.value)

@@ -3,8 +3,8 @@ use Rattle.std.proofs.Common.{◌≡◌, ◌∙◌, ◌<◌, ◌++◌, [], ◌�
 use Rattle.std.specs.Prelude.{ℤ}
 use Rattle.std.specs.Arc.{arc_value}
 use Rattle.std.proofs.lemmas.List.{length-set, map-append, take_more}
+use Rattle.flame_rows.proofs.Lists.{slice_index_or-map}
 use Rattle.flame_progress.specs.RunBoards.{board_bag, is_board_frozen}
-use Rattle.flame_progress.proofs.Changed.{map-at}
 use Rattle.flame_progress.proofs.Written.{map-kept}
 use Rattle.flame_progress.proofs.sharing.share.Goals as goal
 
@@ -15,7 +15,7 @@ share-requires c =
     let message = slice_index_or c.args.messages.now place 0 in
     let boards = c.loop-message.boards.items in
     let here : message < length boards = omega (arith, c.requires.known place 0 c.loop-message-test.true, old.count) in
-    sym (map-at is_board_frozen false boards message c.index_mut.result.now here c.index_mut.ensures.value)
+    sym (slice_index_or-map is_board_frozen false boards message c.index_mut.result.now here c.index_mut.ensures.value)
     ∙ ap (λ l. slice_index_or l message false) old.marks
     ∙ c.requires.frozen place 0 c.loop-message-test.true
 
@@ -37,7 +37,7 @@ returns-in_err-share-clause-frozen c =
     let boards = c.loop-message.boards.items in
     let here : message < length boards = omega (arith, c.requires.known place 0 c.loop-message-test.true, old.count) in
     let at = c.index_mut.ensures.value in
-    let marked = sym (map-at is_board_frozen false boards message c.index_mut.result.now here at)
+    let marked = sym (slice_index_or-map is_board_frozen false boards message c.index_mut.result.now here at)
     ∙ ap (λ l. slice_index_or l message false) old.marks ∙ c.requires.frozen place 0 c.loop-message-test.true in
     map-kept is_board_frozen boards message c.index_mut.result.now c.share.new.self here at (c.in_err-share.ensures.frozen ∙ sym marked)
     ∙ old.marks
@@ -60,7 +60,7 @@ returns-in_err-push-clause-frozen c =
     let boards = c.loop-message.boards.items in
     let here : message < length boards = omega (arith, c.requires.known place 0 c.loop-message-test.true, old.count) in
     let at = c.index_mut.ensures.value in
-    let marked = sym (map-at is_board_frozen false boards message c.index_mut.result.now here at)
+    let marked = sym (slice_index_or-map is_board_frozen false boards message c.index_mut.result.now here at)
     ∙ ap (λ l. slice_index_or l message false) old.marks ∙ c.requires.frozen place 0 c.loop-message-test.true in
     map-kept is_board_frozen boards message c.index_mut.result.now c.share.new.self here at (c.in_ok-share.ensures.frozen ∙ sym marked)
     ∙ old.marks
@@ -73,12 +73,12 @@ loop-message-preserved c =
     let boards = c.loop-message.boards.items in
     let here : message < length boards = omega (arith, c.requires.known place 0 c.loop-message-test.true, old.count) in
     let at = c.index_mut.ensures.value in
-    let marked = sym (map-at is_board_frozen false boards message c.index_mut.result.now here at)
+    let marked = sym (slice_index_or-map is_board_frozen false boards message c.index_mut.result.now here at)
     ∙ ap (λ l. slice_index_or l message false) old.marks ∙ c.requires.frozen place 0 c.loop-message-test.true in
     let read : List ℕ → List (List (List ℤ)) = λ ms. map (λ m. slice_index_or (map board_bag c.args.boards.now.items) m []) ms in
     let one : arc_value c.in_ok-share.field-0 ≡ slice_index_or (map board_bag c.args.boards.now.items) message [] =
     c.in_ok-share.ensures.read
-    ∙ sym (map-at board_bag [] boards message c.index_mut.result.now here at)
+    ∙ sym (slice_index_or-map board_bag [] boards message c.index_mut.result.now here at)
     ∙ ap (λ bags. slice_index_or bags message []) old.bags in
     record {
       count = length-set boards message _ ∙ old.count;

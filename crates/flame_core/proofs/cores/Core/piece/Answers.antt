@@ -3,13 +3,13 @@ use Rattle.flame_spec.specs.Columns.{width}
 use Rattle.flame_world.specs.WorldFits.{AreWide}
 use Rattle.flame_events.specs.CoreFits.{FitsCore, FitsWork}
 use Rattle.flame_events.specs.CoreStates.{status_of, work_of, works_of}
-use Rattle.flame_events.proofs.Works.{each_at}
 use Rattle.flame_pieces.specs.RunWorks.{work_of as kept_work}
 use Rattle.flame_core.specs.SeenCores.{Seen}
 use Rattle.flame_core.proofs.Inside.{seen_of}
 use Rattle.flame_core.proofs.Comings.{reached_fits}
 use Rattle.flame_core.proofs.Gets.{has-at}
 use Rattle.flame_core.proofs.cores.Core.piece.Goals as goal
+use Rattle.flame_meaning.proofs.Eachs.{each_at}
 
 pub returns-clause-is : goal.returns-clause-is
 returns-clause-is c = record {

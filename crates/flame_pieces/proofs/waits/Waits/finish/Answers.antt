@@ -2,10 +2,11 @@
 use Rattle.std.proofs.Common.{◌≡◌, ◌+◌, ◌<◌, ℕ, List, true, false, length, map, take, drop, ◌++◌, refl, sym, ap, ◌∙◌, subst, arith, get_or-set_same}
 use Rattle.std.specs.Prelude.{slice_index, slice_set}
 use Rattle.std.proofs.lemmas.List.{length-map}
+use Rattle.flame_rows.proofs.Lists.{take-written}
 use Rattle.flame_spec.specs.Below.{times}
 use Rattle.flame_pieces.specs.Waiting.{Awaited, Waiting, awaited, thing_at, finished, AreCounts}
 use Rattle.flame_pieces.specs.declared.waits.Awaited as run
-use Rattle.flame_pieces.proofs.Counting.{is_there, counts_finished, whole}
+use Rattle.flame_pieces.proofs.Counting.{is_there, counts_finished}
 use Rattle.flame_pieces.proofs.Things.{thing_is, things_changed}
 use Rattle.flame_pieces.proofs.waits.Waits.finish.Goals as goal
 
@@ -20,7 +21,7 @@ invariant_of-self c =
     let is = thing_is things thing c.index_mut.result.now there c.index_mut.ensures.value in
     let after = things_changed finished things thing c.index_mut.result.now (record { waiters = c.index_mut.result.now.waiters; done = true }) there c.index_mut.ensures.value refl in
     let long : length c.lessen.new.counts ≡ length counts = c.lessen.auto.counts ∙ ap (length {A = ℕ}) c.deref_mut.ensures.value in
-    let all = whole c.lessen.new.counts counts c.self.inside.counts.len long (omega arith) in
+    let all = take-written c.lessen.new.counts counts c.self.inside.counts.len long (omega arith) in
     let read : c.index.result.now ≡ record { waiters = c.index_mut.result.now.waiters; done = true } =
     c.index.ensures
     ∙ get_or-set_same things thing (record { waiters = c.index_mut.result.now.waiters; done = true }) c.index.result.now there in
@@ -47,6 +48,6 @@ returns c =
     let after = things_changed finished things thing c.index_mut.result.now (record { waiters = c.index_mut.result.now.waiters; done = true }) there c.index_mut.ensures.value refl
     ∙ ap (λ (v : Waiting). slice_set v.things thing (finished (thing_at v.things thing))) c.self.view_is in
     let long : length c.lessen.new.counts ≡ length counts = c.lessen.auto.counts ∙ ap (length {A = ℕ}) c.deref_mut.ensures.value in
-    let all = ap (length {A = ℕ}) (whole c.lessen.new.counts counts c.self.inside.counts.len long (omega arith)) in
+    let all = ap (length {A = ℕ}) (take-written c.lessen.new.counts counts c.self.inside.counts.len long (omega arith)) in
     let count = all ∙ long ∙ ap (λ (v : Waiting). v.count) c.self.view_is in
     λ i. record { things = after i; count = count i }
