@@ -1,15 +1,15 @@
 -- How boards are kept.
 use Rattle.std.specs.Prelude.{ℤ, List, Bool, true, false}
-use Rattle.std.specs.Arc.{arc_value}
 use Rattle.flame_rows.specs.Bags.{ascending}
+use Rattle.flame_index.specs.FrozenBoards.{messages_on, shared_messages}
 use Rattle.flame_progress.specs.declared.boards.Board.{Board}
 use Rattle.flame_progress.specs.declared.boards.Board.TheVariants as board
 
 -- the bag of its messages [libmboard]
 abbrev pub board_bag : Board → List (List ℤ)
 board_bag (board.Gathering rows) = ascending rows.items
-board_bag (board.Frozen frozen) = frozen
-board_bag (board.Shared frozen) = arc_value frozen
+board_bag (board.Frozen frozen) = messages_on frozen
+board_bag (board.Shared frozen) = shared_messages frozen
 
 -- no message comes any more [libmboard]
 abbrev pub is_board_frozen : Board → Bool

@@ -2,6 +2,7 @@
 
 ghost use Rattle.std.specs.Prelude.{◌≡◌, [], true, false, Some, None, IfOk, OnOk, OnErr, option_map, if◌then◌else◌};
 ghost use Rattle.std.specs.Arc.{arc_value};
+ghost use Rattle.flame_index.specs.FrozenBoards.{messages_on, shared_messages};
 ghost use Rattle.flame_progress.specs.RunBoards.{board_bag, is_board_frozen, is_board_shared};
 
 use flame_index::Frozen;
@@ -37,7 +38,7 @@ fn moved(alloc: Global, board: &mut Frozen) -> Result<Arc<Frozen>, NoMemory>
 
 /// The messages of a board that may be shared, given back. They are copied only where somebody still reads them.
 fn unshared(board: Arc<Frozen>) -> Result<Bag, NoMemory>
-    ensures { IfOk result (λ bag. bag ≡ arc_value board) }
+    ensures { IfOk result (λ bag. bag ≡ shared_messages board) }
 {
     match Arc::try_unwrap(board) {
         Ok(frozen) => Ok(frozen.into_bag()),
@@ -63,7 +64,7 @@ impl Board {
 
     /// The messages, where no more come.
     pub fn frozen(&self) -> Option<&Frozen>
-        ensures { option_map (λ board. board.now) result
+        ensures { option_map (λ board. messages_on board.now) result
             ≡ (if is_board_frozen self.now then Some (board_bag self.now) else None) }
     {
         match self {
@@ -102,7 +103,7 @@ impl Board {
     /// One who reads the board more.
     fn reader(&self) -> Result<Arc<Frozen>, NoMemory>
         requires { is_board_shared self.now ≡ true }
-        ensures { IfOk result (λ board. arc_value board ≡ board_bag self.now) }
+        ensures { IfOk result (λ board. shared_messages board ≡ board_bag self.now) }
     {
         match self {
             Board::Gathering(_) => unreachable!(),
@@ -114,7 +115,7 @@ impl Board {
     /// The board, which is frozen, to be read.
     pub(crate) fn share(&mut self, alloc: Global) -> Result<Arc<Frozen>, NoMemory>
         requires { is_board_frozen self.old ≡ true }
-        ensures read { IfOk result (λ board. arc_value board ≡ board_bag self.old) }
+        ensures read { IfOk result (λ board. shared_messages board ≡ board_bag self.old) }
         ensures bag { board_bag self.new ≡ board_bag self.old }
         ensures frozen { is_board_frozen self.new ≡ true }
     {

@@ -1,6 +1,6 @@
 //! Agents that come together.
 
-ghost use Rattle.std.specs.Prelude.{◌≡◌, ◌+◌, ◌≤◌, [], ◌∷◌, IfOk, OnOk};
+ghost use Rattle.std.specs.Prelude.{◌≡◌, ◌+◌, ◌≤◌, [], ◌∷◌, IfOk, OnOk, OnErr};
 ghost use Rattle.std.specs.Vec.{vec_len, vec_capacity};
 ghost use Rattle.flame_rows.specs.Bags.{ascending, merge};
 ghost use Rattle.flame_progress.specs.RunPools.{bag_of};
@@ -36,7 +36,8 @@ impl Gathering {
 
     /// Adds a row.
     pub fn add(&mut self, row: Row) -> Result<(), NoMemory>
-        ensures { OnOk result (bag_of self.new ≡ merge (bag_of self.old) (row ∷ [])) }
+        ensures ok { OnOk result (bag_of self.new ≡ merge (bag_of self.old) (row ∷ [])) }
+        ensures err { OnErr result (bag_of self.new ≡ bag_of self.old) }
     {
         self.rows.push(row)?;
         Ok(())
@@ -44,7 +45,8 @@ impl Gathering {
 
     /// Adds some rows.
     pub fn add_all(&mut self, rows: Vec<Row>) -> Result<(), NoMemory>
-        ensures { OnOk result (bag_of self.new ≡ merge (bag_of self.old) rows.items) }
+        ensures ok { OnOk result (bag_of self.new ≡ merge (bag_of self.old) rows.items) }
+        ensures err { OnErr result (bag_of self.new ≡ bag_of self.old) }
     {
         let mut rows = rows;
         self.rows.append(&mut rows)?;

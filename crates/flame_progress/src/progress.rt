@@ -1,11 +1,14 @@
 //! How far an iteration is.
 
-ghost use Rattle.std.specs.Prelude.{◌≡◌, ◌<◌, [], ℕ, ℤ, List, true, false, Some, None, OnOk, OnErr, length, map, option_map};
+ghost use Rattle.std.specs.Prelude.{◌≡◌, ◌<◌, [], ℕ, ℤ, List, true, false, Some, None, OnOk, OnErr, length, map};
+ghost use Rattle.std.specs.Prelude.{option_map};
 ghost use Rattle.std.specs.Prelude.{is_some, IfSome, slice_get, slice_set, slice_index_or, if◌then◌else◌};
 ghost use Rattle.flame_rows.specs.Bags.{ascending, merge};
+ghost use Rattle.flame_index.specs.FrozenBoards.{messages_on};
 ghost use Rattle.flame_world.specs.AgentRuns.{births_of};
 ghost use Rattle.flame_world.specs.Fields.{changed, changed_pool, joined, pool_in};
-ghost use Rattle.flame_events.specs.CoreStates.{Work as Meant, Open, is_waiting, is_shut, fault_of, fault_in, is_frozen, part_in};
+ghost use Rattle.flame_events.specs.CoreStates.{Work as Meant, Open, is_waiting, is_shut, fault_of, fault_in};
+ghost use Rattle.flame_events.specs.CoreStates.{is_frozen, part_in};
 ghost use Rattle.flame_events.specs.CoreStates.{status_of, work_of, works_of};
 ghost use Rattle.flame_events.specs.EventSteps.{done_with, with_work};
 ghost use Rattle.flame_events.specs.LegalEvents.{may_run, may_hand_in, may_shut};
@@ -45,15 +48,18 @@ impl Progress {
     /// How far the function of this number is.
     pub(crate) fn status(&self, function: u32) -> Option<&Status>
         ensures kept { option_map (λ status. status.now) result ≡ slice_get self.now.statuses.items function }
-        ensures status { option_map (λ status. kept_status status.now) result ≡ slice_get (core_of self.now).statuses function }
+        ensures status { option_map (λ status. kept_status status.now) result
+            ≡ slice_get (core_of self.now).statuses function }
     {
         self.statuses.get(function as usize)
     }
 
     /// The board of this number.
     fn board(&self, message: u32) -> Option<&Board>
-        ensures bag { option_map (λ board. board_bag board.now) result ≡ slice_get (core_of self.now).field.boards message }
-        ensures frozen { option_map (λ board. is_board_frozen board.now) result ≡ slice_get (core_of self.now).frozen message }
+        ensures bag { option_map (λ board. board_bag board.now) result
+            ≡ slice_get (core_of self.now).field.boards message }
+        ensures frozen { option_map (λ board. is_board_frozen board.now) result
+            ≡ slice_get (core_of self.now).frozen message }
     {
         self.boards.get(message as usize)
     }
@@ -122,7 +128,7 @@ impl Progress {
 
     /// The messages of the board of this number, where it is frozen.
     pub fn frozen(&self, message: u32) -> Option<&Frozen>
-        ensures { option_map (λ board. board.now) result ≡ (if is_frozen (core_of self.now) message
+        ensures { option_map (λ board. messages_on board.now) result ≡ (if is_frozen (core_of self.now) message
             then Some (slice_index_or (core_of self.now).field.boards message []) else None) }
     {
         match self.board(message) {
@@ -146,7 +152,8 @@ impl Progress {
           statuses = slice_set (core_of self.old).statuses function
               (done_with (fault_in (works_of (status_of (core_of self.old) function))));
         } }
-        ensures outputs { (other : ℕ) (outputs : List ℕ) → HasOutputsAt self.old other outputs → HasOutputsAt self.new other outputs }
+        ensures outputs { (other : ℕ) (outputs : List ℕ) → HasOutputsAt self.old other outputs
+            → HasOutputsAt self.new other outputs }
     {
         self.statuses[function as usize].shut();
     }
@@ -154,7 +161,9 @@ impl Progress {
     /// The board of this number is complete.
     pub(crate) fn freeze(&mut self, message: u32)
         requires { message < length self.old.boards.items }
-        ensures core { core_of self.new ≡ record (core_of self.old) { frozen = slice_set (core_of self.old).frozen message true } }
+        ensures core { core_of self.new ≡ record (core_of self.old) {
+          frozen = slice_set (core_of self.old).frozen message true;
+        } }
         ensures statuses { self.new.statuses.items ≡ self.old.statuses.items }
     {
         self.boards[message as usize].freeze();
@@ -200,7 +209,8 @@ impl Progress {
                 born = joined (births_of leaving.born.items) (core_of self.old).field.born;
               };
             }) }
-        ensures outputs { (other : ℕ) (outputs : List ℕ) → HasOutputsAt self.old other outputs → HasOutputsAt self.new other outputs }
+        ensures outputs { (other : ℕ) (outputs : List ℕ) → HasOutputsAt self.old other outputs
+            → HasOutputsAt self.new other outputs }
         ensures err { OnErr result (core_of self.new ≡ core_of self.old) }
     {
         settle_function(
@@ -238,7 +248,8 @@ impl Progress {
                 boards = changed message (λ board. merge board rows) (core_of self.old).field.boards;
               };
             }) }
-        ensures outputs { (other : ℕ) (outputs : List ℕ) → HasOutputsAt self.old other outputs → HasOutputsAt self.new other outputs }
+        ensures outputs { (other : ℕ) (outputs : List ℕ) → HasOutputsAt self.old other outputs
+            → HasOutputsAt self.new other outputs }
         ensures err { OnErr result (core_of self.new ≡ core_of self.old) }
     {
         hand_over_at(

@@ -1,8 +1,8 @@
 //! Boards that are read.
 
 ghost use Rattle.std.specs.Prelude.{◌≡◌, ◌<◌, [], true, false, IfOk, length, map, slice_index_or};
-ghost use Rattle.std.specs.Arc.{arc_value};
 ghost use Rattle.std.specs.List.{All};
+ghost use Rattle.flame_index.specs.FrozenBoards.{shared_messages};
 ghost use Rattle.flame_progress.specs.RunBoards.{board_bag, is_board_frozen};
 
 use crate::boards::Board;
@@ -18,8 +18,9 @@ pub fn share(
     messages: &[u32],
 ) -> Result<Vec<Arc<Frozen>>, NoMemory>
     requires known { All (λ message. message < length boards.old.items) messages.now }
-    requires frozen { All (λ message. slice_index_or (map is_board_frozen boards.old.items) message false ≡ true) messages.now }
-    ensures read { IfOk result (λ shared. map arc_value shared.items
+    requires frozen { All (λ message. slice_index_or (map is_board_frozen boards.old.items) message false ≡ true)
+        messages.now }
+    ensures read { IfOk result (λ shared. map shared_messages shared.items
         ≡ map (λ message. slice_index_or (map board_bag boards.old.items) message []) messages.now) }
     ensures bags { map board_bag boards.new.items ≡ map board_bag boards.old.items }
     ensures frozen { map is_board_frozen boards.new.items ≡ map is_board_frozen boards.old.items }

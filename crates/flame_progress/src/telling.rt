@@ -8,7 +8,8 @@ ghost use Rattle.flame_progress.specs.ManyWait.{waiting_for, waited_for_by};
 use flame_pieces::Waits;
 use flame_rows::NoMemory;
 
-/// The one of this number waits for each of these things, of which none is done.
+/// The one of this number waits for each of these things, of which none is done. Where no memory is found, it waits for
+/// the first of them alone: for those that were told before.
 pub fn wait_for(waits: &mut Waits, things: &[u32], waiter: u32) -> Result<(), NoMemory>
     requires within { waiter < waits.old.count }
     requires open { All (λ thing. (thing_at waits.old.things thing).done ≡ false) things.now }
@@ -20,7 +21,8 @@ pub fn wait_for(waits: &mut Waits, things: &[u32], waiter: u32) -> Result<(), No
     Ok(())
 }
 
-/// For the thing of this number, which is not done, each of these waits.
+/// For the thing of this number, which is not done, each of these waits. Where no memory is found, the first of them
+/// alone wait for it: those who were told before.
 pub fn tell_waiters(waits: &mut Waits, thing: u32, waiters: &[u32]) -> Result<(), NoMemory>
     requires within { All (λ waiter. waiter < waits.old.count) waiters.now }
     requires open { (thing_at waits.old.things thing).done ≡ false }

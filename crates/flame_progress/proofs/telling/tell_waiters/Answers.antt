@@ -18,7 +18,7 @@ loop-waiter-preserved c =
     let thing = c.args.thing in
     let waiter = get_or waiters k 0 in
     let old = c.loop-waiter.invariant in
-    let added = c.in_ok-add.ensures in
+    let added = c.in_ok-add.ensures.ok in
     let undone : (thing_at c.loop-waiter.waits.things thing).done ≡ false = old.undone thing ∙ c.requires.open in
     record {
       rest =

@@ -18,7 +18,7 @@ loop-thing-preserved c =
     let things = c.args.things.now in
     let thing = get_or things k 0 in
     let old = c.loop-thing.invariant in
-    let added = c.in_ok-add.ensures in
+    let added = c.in_ok-add.ensures.ok in
     let undone : (thing_at c.loop-thing.waits.things thing).done ≡ false =
     old.undone thing ∙ c.requires.open k 0 c.loop-thing-test.true in
     record {

@@ -3,5 +3,6 @@ use Rattle.flame_rows.specs.Bags.{ascending}
 use Rattle.flame_progress.proofs.Gathered.{ascending-append}
 use Rattle.flame_progress.proofs.gatherings.Gathering.add_all.Goals as goal
 
-pub returns : goal.returns
-returns c = ap ascending c.in_ok-append.ensures.items ∙ ascending-append c.args.self.now.rows.items c.args.rows.items
+pub returns-clause-ok : goal.returns-clause-ok
+returns-clause-ok c =
+    ap ascending c.in_ok-append.ensures.items ∙ ascending-append c.args.self.now.rows.items c.args.rows.items
