@@ -1,5 +1,5 @@
 -- Lists that are filled with zeros, and locals in lists.
-use Rattle.std.proofs.Common.{◌≡◌, ℕ, zero, suc, ◌-◌, ◌<◌, ◌≤◌, List, [], ◌∷◌, ◌++◌, length, refl, sym, ap, ◌∙◌, take, arith, append-nil, length-append}
+use Rattle.std.proofs.Common.{◌≡◌, ℕ, zero, suc, ◌-◌, ◌<◌, ◌≤◌, List, [], ◌∷◌, ◌++◌, length, refl, ap, ◌∙◌, take, arith, append-nil, length-append}
 use Rattle.std.specs.Prelude.{ℤ, pos, replicate}
 use Rattle.std.proofs.lemmas.List.{take_all}
 use mathlib.Core.Path.{fun_ext}

@@ -10,7 +10,7 @@ use std::alloc::Global;
 use std::marker::Model;
 
 /// The messages and births that a run added, in order. They stand apart from its frame, whose fields then need no memory.
-#[derive(Debug, Drop)]
+#[derive(Drop)]
 pub struct Added {
     alloc: Global,
     sent: Vec<Sent>,

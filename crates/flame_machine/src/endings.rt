@@ -8,7 +8,7 @@ use flame_rows::Row;
 use flame_spec::Fault;
 
 /// How a run ended.
-#[derive(Debug, Drop)]
+#[derive(Drop)]
 pub enum Finish {
     /// It returned the value, and left its frame.
     Returned(i32, Frame),
@@ -17,7 +17,7 @@ pub enum Finish {
 }
 
 /// What a helper gives back.
-#[derive(Debug, Drop)]
+#[derive(Drop)]
 pub enum Called {
     /// Its value, and the fuel that is left.
     Returned(i32, u32),

@@ -8,7 +8,7 @@ use std::marker::Model;
 
 /// A run's place, stack, locals, memory and fuel. Its lists are taken once at their greatest size, so that no step
 /// allocates. The top of the stack stands in a field of its own, and the values below it in the cells from 1 on.
-#[derive(Debug, Drop)]
+#[derive(Drop)]
 pub struct Frame {
     place: usize,
     height: usize,

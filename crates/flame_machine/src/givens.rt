@@ -7,7 +7,7 @@ use flame_rows::Row;
 use std::marker::Model;
 
 /// The constants and the iteration's number.
-#[derive(Debug, Drop)]
+#[derive(Drop)]
 pub struct Given<'a> {
     constants: &'a [i32],
     iteration: i32,

@@ -7,7 +7,7 @@ use flame_rows::NoMemory;
 use std::alloc::Global;
 
 /// Lists of helpers' runs that ended, for those that begin, so that calls in a loop allocate once.
-#[derive(Debug, Drop)]
+#[derive(Drop)]
 pub struct Pool {
     alloc: Global,
     spare: Vec<Vec<i32>>,

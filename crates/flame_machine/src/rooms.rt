@@ -26,7 +26,7 @@ use std::mem;
 /// The lists that runs need, kept from one run to the next: cells for the stack, as many as the code has instructions, its
 /// locals, and the same for each helper that is open. Whoever runs codes one after another keeps one room for all, and
 /// memory for lists is taken only where a run needs longer ones or more. A run that faults drops those that are open.
-#[derive(Debug, Drop)]
+#[derive(Drop)]
 pub struct Room {
     alloc: Global,
     cells: Vec<i32>,

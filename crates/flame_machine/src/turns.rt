@@ -18,7 +18,7 @@ use flame_rows::{Row, Seq};
 use flame_spec::{Fault, Widths};
 
 /// What a step came to.
-#[derive(Debug, Drop)]
+#[derive(Drop)]
 pub enum Turned {
     /// The run goes on.
     On,

@@ -5,7 +5,7 @@ use Rattle.std.specs.Prelude.{reverse}
 use Rattle.std.proofs.lemmas.Int.{to_z-of_z}
 use Rattle.flame_code.specs.Machine.{returned}
 use Rattle.flame_code.specs.InputRows.{rows_of}
-use Rattle.flame_code.specs.Meanings.{Runs, last, more}
+use Rattle.flame_code.specs.Meanings.{Runs, last, more, entry}
 use Rattle.flame_code.proofs.Safety.{on_falls, on_less}
 use Rattle.flame_machine.specs.MachineFrames.{Framed, Additions, config}
 use Rattle.flame_machine.specs.Running.{Ready}
@@ -32,7 +32,7 @@ call-returns-clause-feeds g t c = unseen c.helper_of-code.result.now (g.F.Feed.f
 pub call-returns-clause-ends : goal.call-returns-clause-ends
 call-returns-clause-ends g t c inner at =
     let feeds = g.F.Feed.feeds c.args.feed.now in
-    let begins =
+    let begins : config c.in_ok-frame.frame c.added-added.result (seen c.helper_of-code.result.now.widths feeds) ≡ entry c.args.args.items c.args.fuel =
     ap (λ (x : Additions). config c.in_ok-frame.frame x (seen c.helper_of-code.result.now.widths feeds)) c.added-added.ensures
     ∙ c.in_ok-frame.ensures.begins feeds in
     call_ends c.args.given.now c.args.helpers.now.routines c.helper_of-code.result.now inner c.args.helper c.args.args.items c.args.fuel
