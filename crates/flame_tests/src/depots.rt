@@ -2,76 +2,34 @@
 
 ghost use Rattle.std.specs.Prelude.{IsTrue};
 
-use flame_outside::{Depot, Got, MemDepot, PutFail, ReadFail};
+use flame_outside::{Depot, Got, MemDepot, PutFail};
 use flame_rows::NoMemory;
-use std::alloc::Global;
 use std::test::Fail;
 
-/// What a put answers, as a word.
-pub(crate) fn put_word<D: Depot>(depot: &mut D, name: &str, bytes: &[u8]) -> &'static str {
+/// Puts a file. Tells whether that failed; none where memory was not found.
+pub(crate) fn put_failed<D: Depot>(depot: &mut D, name: &str, bytes: &[u8]) -> Option<bool> {
     match depot.put(name, bytes) {
-        Ok(()) => "ok",
-        Err(PutFail::Failed) => "failed",
-        Err(PutFail::NoMemory) => "no memory",
+        Ok(()) => Some(false),
+        Err(PutFail::Failed) => Some(true),
+        Err(PutFail::NoMemory) => None,
     }
 }
 
-/// What a read answers, as a word; whether it finds this text, where it finds a file.
-pub(crate) fn read_word<D: Depot>(
-    depot: &mut D,
-    name: &str,
-    most: usize,
-    text: &[u8],
-) -> &'static str {
+/// Whether a read of so many bytes at most finds these.
+pub(crate) fn finds<D: Depot>(depot: &mut D, name: &str, most: usize, bytes: &[u8]) -> bool {
     match depot.read(name, most) {
-        Ok(Got::Missing) => "missing",
-        Ok(Got::Bytes(bytes)) => {
-            if bytes.bytes() == text {
-                "this"
-            } else {
-                "another"
-            }
-        }
-        Err(ReadFail::Failed) => "failed",
-        Err(ReadFail::NoMemory) => "no memory",
+        Ok(Got::Bytes(found)) => found.bytes() == bytes,
+        _ => false,
     }
-}
-
-/// Files in memory whose second call fails.
-fn failing(alloc: Global) -> Result<MemDepot, NoMemory> {
-    Ok(MemDepot::new(alloc, vec![in alloc; 1]?))
 }
 
 #[test]
 fn a_put_that_fails_leaves_a_front(rt: HostRuntime) -> Result<(), Fail> {
-    let mut depot = failing(rt.alloc())?;
-    let first = put_word(&mut depot, "b", b"1234");
-    let second = put_word(&mut depot, "b", b"567");
-    let third = read_word(&mut depot, "b", 9, b"5");
-    assert_eq!(rt; (first, second, third), ("ok", "failed", "this"));
-    assert_eq!(rt; depot.total(), 1);
-    Ok(())
-}
-
-#[test]
-fn a_read_that_fails_loses_no_file(rt: HostRuntime) -> Result<(), Fail> {
-    let mut depot = failing(rt.alloc())?;
-    let first = put_word(&mut depot, "b", b"1234");
-    let second = read_word(&mut depot, "b", 9, b"1234");
-    let third = read_word(&mut depot, "b", 3, b"123");
-    assert_eq!(rt; (first, second, third), ("ok", "failed", "this"));
-    Ok(())
-}
-
-#[test]
-fn a_file_that_is_set_is_no_call(rt: HostRuntime) -> Result<(), Fail> {
-    let mut depot = failing(rt.alloc())?;
-    let set = depot.set("a", b"12").is_ok();
-    let first = read_word(&mut depot, "a", 1, b"1");
-    assert_eq!(rt;
-        (set, first, depot.get("a").is_some()),
-        (true, "this", true)
-    );
+    let alloc = rt.alloc();
+    let mut depot = MemDepot::new(alloc, vec![in alloc; 1]?);
+    assert!(rt; put_failed(&mut depot, "b", b"1234") == Some(false));
+    assert!(rt; put_failed(&mut depot, "b", b"567") == Some(true));
+    assert!(rt; finds(&mut depot, "b", 9, b"5"));
     Ok(())
 }
 

@@ -9,8 +9,6 @@ mod meadows;
 #[cfg(test)]
 mod real_devices;
 #[cfg(test)]
-mod settings;
-#[cfg(test)]
 mod sinks;
 #[cfg(test)]
 mod transfers;

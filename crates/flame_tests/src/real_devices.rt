@@ -1,8 +1,8 @@
 //! What real files and streams do.
 
-use crate::depots::{put_word, read_word};
-use crate::sinks::write_word;
-use flame_outside::{Gate, HostDepot, HostSink, OpenGate};
+use crate::depots::{finds, put_failed};
+use crate::sinks::write_failed;
+use flame_outside::{Depot, Gate, Got, HostDepot, HostSink, OpenGate, ReadFail};
 use std::rt::Files;
 use std::test::Fail;
 use std::{fs, io};
@@ -15,43 +15,43 @@ fn make_folder(rt: &(impl Files + Alloc), name: &str) -> io::Result<()> {
     fs::create_dir(rt, name)
 }
 
-/// The answers of puts in a folder that is there.
-fn put_answers(rt: &(impl Files + AllocGlobal)) -> (&'static str, &'static str, &'static str) {
-    let mut depot = HostDepot::new(rt);
-    let first = put_word(&mut depot, "few_files/made", b"a longer text");
-    let second = put_word(&mut depot, "few_files/made", b"short");
-    let third = put_word(&mut depot, "few_files", b"text");
-    (first, second, third)
+/// Whether puts in a folder that is there are made whole, and one in place of the folder fails.
+fn puts_answer<D: Depot>(depot: &mut D) -> bool {
+    put_failed(depot, "few_files/made", b"a longer text") == Some(false)
+        && put_failed(depot, "few_files/made", b"short") == Some(false)
+        && put_failed(depot, "few_files", b"text") == Some(true)
 }
 
-/// The answers of reads behind those puts.
-fn read_answers(rt: &(impl Files + AllocGlobal)) -> (&'static str, &'static str, &'static str) {
-    let mut depot = HostDepot::new(rt);
-    let first = read_word(&mut depot, "few_files/made", 3, b"sho");
-    let second = read_word(&mut depot, "few_files", 100, b"text");
-    let third = read_word(&mut depot, "few_files/absent", 100, b"text");
-    (first, second, third)
+/// Whether reads behind those puts find the last file, its front alone, and nothing else.
+fn reads_answer<D: Depot>(depot: &mut D) -> bool {
+    finds(depot, "few_files/made", 3, b"sho")
+        && matches!(depot.read("few_files", 100), Err(ReadFail::Failed))
+        && matches!(depot.read("few_files/absent", 100), Ok(Got::Missing))
 }
 
 #[test]
 fn real_files_answer(rt: HostRuntime) -> Result<(), Fail> {
     make_folder(&rt, "few_files")?;
-    let put = put_answers(&rt);
-    let read = read_answers(&rt);
+    let mut depot = HostDepot::new(&rt);
+    let put = puts_answer(&mut depot);
+    let read = reads_answer(&mut depot);
     fs::remove_dir_all(&rt, "few_files")?;
-    assert_eq!(rt; put, ("ok", "ok", "failed"));
-    assert_eq!(rt; read, ("this", "failed", "missing"));
+    assert!(rt; put);
+    assert!(rt; read);
     Ok(())
 }
 
 #[test]
-fn real_streams_answer(rt: HostRuntime) {
+fn the_output_takes_bytes(rt: HostRuntime) {
     let mut out = HostSink::out(&rt);
+    assert!(rt; write_failed(&mut out, b"to the output\n") == Some(false));
+}
+
+#[test]
+fn the_error_stream_takes_text(rt: HostRuntime) {
     let mut err = HostSink::err(&rt);
-    let first = write_word(&mut out, b"to the output\n");
-    let second = write_word(&mut err, b"to the error stream\n");
-    let third = write_word(&mut err, b"\xff");
-    assert_eq!(rt; (first, second, third), ("ok", "ok", "failed"));
+    assert!(rt; write_failed(&mut err, b"to the error stream\n") == Some(false));
+    assert!(rt; write_failed(&mut err, b"\xff") == Some(true));
 }
 
 #[test]

@@ -8,7 +8,7 @@ use std::io;
 use std::io::{ErrorKind, Read, Write};
 
 /// What a call of a stream made up for a test does.
-#[derive(Clone, Copy, Debug)]
+#[derive(Clone, Copy)]
 enum Call {
     Take(usize),
     Fail(ErrorKind),
@@ -51,25 +51,21 @@ impl Read for Scripted<'_> {
     }
 }
 
-/// What a write of five bytes answers, as a word.
-fn written(calls: &[Call]) -> &'static str {
+/// Whether a write of five bytes failed; none where memory was not found.
+fn write_failed(calls: &[Call]) -> Option<bool> {
     match write_whole(&mut Scripted { calls }, b"12345") {
-        Ok(()) => "ok",
-        Err(WriteFail::Failed) => "failed",
-        Err(WriteFail::NoMemory) => "no memory",
+        Ok(()) => Some(false),
+        Err(WriteFail::Failed) => Some(true),
+        Err(WriteFail::NoMemory) => None,
     }
 }
 
-/// How many bytes a read of at most four finds, or what it answers.
-fn read(alloc: Global, calls: &[Call]) -> &'static str {
+/// How many bytes a read of at most four finds; none where memory was not found.
+fn read(alloc: Global, calls: &[Call]) -> Option<usize> {
     match read_front(alloc, &mut Scripted { calls }, 4) {
-        Ok(bytes) => match bytes.len() {
-            2 => "2",
-            4 => "4",
-            _ => "other",
-        },
-        Err(ReadFail::Failed) => "failed",
-        Err(ReadFail::NoMemory) => "no memory",
+        Ok(bytes) => Some(bytes.len()),
+        Err(ReadFail::Failed) => Some(usize::MAX),
+        Err(ReadFail::NoMemory) => None,
     }
 }
 
@@ -77,27 +73,27 @@ fn read(alloc: Global, calls: &[Call]) -> &'static str {
 fn transfers_go_on_after_interrupted_calls(rt: HostRuntime) {
     let interrupted = Call::Fail(ErrorKind::Interrupted);
     let calls = [interrupted, Call::Take(1), interrupted, Call::Take(4)];
-    assert_eq!(rt; written(&calls), "ok");
-    assert_eq!(rt; read(rt.alloc(), &calls), "4");
+    assert!(rt; write_failed(&calls) == Some(false));
+    assert!(rt; read(rt.alloc(), &calls) == Some(4));
 }
 
 #[test]
 fn transfers_end_where_nothing_more_is_taken(rt: HostRuntime) {
     let calls = [Call::Take(2)];
-    assert_eq!(rt; written(&calls), "failed");
-    assert_eq!(rt; read(rt.alloc(), &calls), "2");
+    assert!(rt; write_failed(&calls) == Some(true));
+    assert!(rt; read(rt.alloc(), &calls) == Some(2));
 }
 
 #[test]
-fn memory_may_be_wanting_at_first(rt: HostRuntime) {
+fn memory_may_be_wanting_before_the_first_byte(rt: HostRuntime) {
     let calls = [Call::Fail(ErrorKind::OutOfMemory)];
-    assert_eq!(rt; written(&calls), "no memory");
-    assert_eq!(rt; read(rt.alloc(), &calls), "no memory");
+    assert!(rt; write_failed(&calls) == None);
+    assert!(rt; read(rt.alloc(), &calls) == None);
 }
 
 #[test]
 fn memory_may_be_wanting_later(rt: HostRuntime) {
     let calls = [Call::Take(1), Call::Fail(ErrorKind::OutOfMemory)];
-    assert_eq!(rt; written(&calls), "failed");
-    assert_eq!(rt; read(rt.alloc(), &calls), "no memory");
+    assert!(rt; write_failed(&calls) == Some(true));
+    assert!(rt; read(rt.alloc(), &calls) == None);
 }
