@@ -20,7 +20,7 @@ use Rattle.flame_world.specs.Iterations.{Round, iteration, outcome_in, staying}
 use Rattle.flame_meaning.specs.Outcomes.{outputs_at}
 use Rattle.flame_events.specs.declared.events.Event.{Event}
 use Rattle.flame_events.specs.declared.events.Event.TheVariants as event
-use Rattle.flame_events.specs.Cuts.{cut}
+use Rattle.flame_rows.specs.Cuts.{cut}
 use Rattle.flame_events.specs.CoreEnds.{ending, is_complete}
 use Rattle.flame_events.specs.CoreFits.{FitsCore}
 use Rattle.flame_events.specs.CoreStates.{Work, Status, Waiting, Open, Shut, Faulted, is_shut, is_waiting, Core, status_of, work_of}

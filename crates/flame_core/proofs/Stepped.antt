@@ -28,7 +28,7 @@ use Rattle.flame_spec.specs.Choice.{choice, functions_out, is_chosen, takers}
 use Rattle.flame_cond.specs.declared.forms.Test.{Test}
 use Rattle.flame_cond.specs.Said.{AreConditionsOf}
 use Rattle.flame_pool.specs.Choosing.{choices_of}
-use Rattle.flame_pool.specs.Parting.{whose}
+use Rattle.flame_rows.specs.Parted.{whose}
 use Rattle.flame_pool.proofs.AsChosen.{whose_are_takers}
 use Rattle.flame_core.specs.declared.takers.Left.{Left}
 use Rattle.flame_core.specs.RunSteps.{GoesBy, HasRoute}

@@ -29,7 +29,7 @@ use Rattle.flame_world.proofs.Eachs.{each_append, each_map, each_passing, each_f
 use Rattle.flame_world.proofs.RowsKept.{IsSentOf, IsBornOf, LeavesRows, place_type}
 use Rattle.flame_world.proofs.WidthsKept.{IsWide, leaves_wide, fitting_worlds_open}
 use Rattle.flame_events.specs.declared.events.Event.TheVariants as event
-use Rattle.flame_events.specs.Cuts.{piece_size, runs, cut}
+use Rattle.flame_rows.specs.Cuts.{piece_size, runs, cut}
 use Rattle.flame_events.specs.CoreStates.{Work, Status, Waiting, Open, Faulted, works_of, part_in, fault_in, Core, status_of, work_of}
 use Rattle.flame_events.specs.LegalEvents.{outputs_of}
 use Rattle.flame_events.specs.EventSteps.{fresh_work, opened, with_sent, with_agent, ran_agent, ran_next, joined_board, handed_in, done_with, after}

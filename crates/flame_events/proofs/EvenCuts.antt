@@ -2,7 +2,7 @@
 use Rattle.std.proofs.Common.{◌≡◌, ℕ, zero, suc, ◌+◌, ◌-◌, ◌/◌, ◌%◌, ◌*◌, ◌<◌, ◌≤◌, List, [], ◌∷◌, ◌++◌, length, take, drop, None, Some, refl, sym, ap, ◌∙◌, arith, subst, take-append-drop, length-take, length-drop, le-div_iff_mul-le, div-lt_iff_lt-mul, div-add-mod', mul_comm}
 use Rattle.std.specs.Prelude.{ℤ, slice_get}
 use Rattle.std.proofs.lemmas.Nat.{mod_below}
-use Rattle.flame_events.specs.Cuts.{piece_size, runs}
+use Rattle.flame_rows.specs.Cuts.{piece_size, runs}
 use Rattle.flame_events.specs.EvenPieces.{AreEven, PieceSizesAreShares, CutsAreEven, NobodyIsNoPiece}
 
 -- ---- the size of a piece

@@ -20,7 +20,7 @@ use Rattle.flame_world.specs.Iterations.{Round, taking, outcome_in}
 use Rattle.flame_meaning.specs.Outcomes.{outputs_at}
 use Rattle.flame_events.specs.declared.events.Event.{Event}
 use Rattle.flame_events.specs.declared.events.Event.TheVariants as event
-use Rattle.flame_events.specs.Cuts.{cut}
+use Rattle.flame_rows.specs.Cuts.{cut}
 use Rattle.flame_events.specs.CoreStates.{Work, Status, Waiting, Open, is_waiting, is_shut, works_of, has_left, part_in, fault_in, Core, status_of, work_of, is_frozen, opening_core}
 use Rattle.flame_events.specs.LegalEvents.{inputs_of, outputs_of, predecessors, are_shut, writers, may_open, may_hand_in, may_shut, may_freeze, is_legal}
 use Rattle.flame_events.specs.EventSteps.{fresh_work, opened, with_sent, with_agent, with_work, ran_agent, ran_next, joined_board, handed_in, done_with, after, replay, are_legal}

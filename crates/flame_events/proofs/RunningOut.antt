@@ -14,7 +14,7 @@ use Rattle.flame_world.specs.AgentRuns.{sent_by, messages_of}
 use Rattle.flame_world.specs.Iterations.{Round, outcome_in, taking}
 use Rattle.flame_events.specs.declared.events.Event.{Event}
 use Rattle.flame_events.specs.declared.events.Event.TheVariants as event
-use Rattle.flame_events.specs.Cuts.{cut}
+use Rattle.flame_rows.specs.Cuts.{cut}
 use Rattle.flame_events.specs.CoreStates.{Work, Status, Waiting, Open, works_of, has_left, part_in, fault_in, Core, status_of, work_of, is_frozen}
 use Rattle.flame_events.specs.LegalEvents.{outputs_of, are_shut, writers, may_open, may_run, may_hand_in, may_shut, may_freeze, is_legal}
 use Rattle.flame_events.specs.EventSteps.{fresh_work, opened, with_sent, with_agent, with_work, ran_agent, ran_next, joined_board, handed_in, done_with, after, are_legal}

@@ -11,7 +11,7 @@ use Rattle.flame_spec.specs.Functions.{Place, functions}
 use Rattle.flame_spec.proofs.FirstBelow.{is_in-all_below}
 use Rattle.flame_world.specs.Fields.{Field}
 use Rattle.flame_world.specs.Iterations.{Round, taking, outcome_in}
-use Rattle.flame_events.specs.Cuts.{cut}
+use Rattle.flame_rows.specs.Cuts.{cut}
 use Rattle.flame_events.specs.CoreStates.{Work, Status, Waiting, Open, Shut, Faulted, is_waiting, is_shut, works_of, Core, status_of, is_frozen}
 use Rattle.flame_events.specs.LegalEvents.{predecessors, inputs_at, inputs_of, outputs_of, may_open}
 use Rattle.flame_events.specs.EventSteps.{fresh_work, opened}

@@ -17,7 +17,7 @@ use Rattle.flame_meaning.specs.RangeLaws.{Each}
 use Rattle.flame_world.specs.declared.faults.SimFault.{SimFault}
 use Rattle.flame_world.specs.AgentRuns.{sent_by, fault_by, messages_of, least_fault}
 use Rattle.flame_world.specs.Iterations.{Round}
-use Rattle.flame_events.specs.Cuts.{cut}
+use Rattle.flame_rows.specs.Cuts.{cut}
 use Rattle.flame_events.specs.CoreStates.{Work, Status, Waiting, Open, Shut, Faulted, has_left, part_in, fault_in}
 use Rattle.flame_events.specs.LegalEvents.{outputs_of, is_over}
 use Rattle.flame_events.specs.EventSteps.{fresh_work, with_sent, with_agent, done_with}

@@ -1,7 +1,7 @@
 -- Laws of cuts: how the agents that take a function stand in its pieces.
 use Rattle.std.specs.Prelude.{◌≡◌, ℕ, ◌+◌, ◌*◌, ◌<◌, ◌≤◌, ℤ, List, [], length, slice_get, Some}
 use Rattle.std.specs.List.{flat_map}
-use Rattle.flame_events.specs.Cuts.{piece_size, cut}
+use Rattle.flame_rows.specs.Cuts.{piece_size, cut}
 
 -- these pieces, laid end to end, are the agents; there are at most so many of them; each has an agent at least and this
 -- many at most, and each but the last has this many [own]

@@ -14,7 +14,7 @@ use Rattle.flame_world.specs.Fields.{Field, changed, changed_pool, joined}
 use Rattle.flame_world.specs.Iterations.{Round, taking, staying, outcome_in}
 use Rattle.flame_events.specs.declared.events.Event.{Event}
 use Rattle.flame_events.specs.declared.events.Event.TheVariants as event
-use Rattle.flame_events.specs.Cuts.{cut}
+use Rattle.flame_rows.specs.Cuts.{cut}
 use Rattle.flame_events.specs.CoreStates.{Work, Status, Open, Shut, Faulted, works_of, part_in, fault_in}
 use Rattle.flame_events.specs.CoreStates.{Core, status_of, work_of}
 use Rattle.flame_events.specs.LegalEvents.{outputs_of, is_legal}

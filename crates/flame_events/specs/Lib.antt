@@ -7,7 +7,6 @@ pub mod EveryOrder
 pub mod AbsorbedPieces
 pub mod HandedPieces
 -- ---- what it is about
-pub mod Cuts
 pub mod EvenPieces
 pub mod CoreStates
 pub mod LegalEvents

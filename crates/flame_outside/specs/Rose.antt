@@ -10,8 +10,3 @@ Rose old new = (old < new) ⊎ (2 ^ 64 - 1 ≤ new)
 pub Rose_within : (old before after new : ℕ) → old ≤ before → after ≤ new → Rose before after → Rose old new
 Rose_within old before after new first last (inl rose) = inl (omega arith)
 Rose_within old before after new first last (inr full) = inr (omega arith)
-
--- a count that did not rise in the whole of a call rose in no part of it
-pub Rose_in_no_part :
-    (old before after new : ℕ) → old ≤ before → after ≤ new → ¬ (Rose old new) → ¬ (Rose before after)
-Rose_in_no_part old before after new first last calm rose = calm (Rose_within old before after new first last rose)

@@ -5,7 +5,7 @@ use Rattle.flame_rows.specs.Bags.{ascending}
 use Rattle.flame_rows.specs.Order.{row_order}
 use Rattle.flame_rows.specs.Sorted.{IsBelowAll, IsAscending}
 use Rattle.flame_rows.proofs.BagLaws.{ascending-IsAscending}
-use Rattle.flame_events.specs.Cuts.{runs}
+use Rattle.flame_rows.specs.Cuts.{runs}
 use Rattle.flame_events.proofs.EvenCuts.{none_to_run}
 
 -- ---- parts of rows in order

@@ -2,7 +2,7 @@
 
 ghost use Rattle.std.specs.Prelude.{◌≡◌, ◌≤◌, IfOk, OnOk, take, drop};
 ghost use Rattle.std.specs.Vec.Iter.{into_iter_items};
-ghost use Rattle.flame_events.specs.Cuts.{cut as meant};
+ghost use Rattle.flame_rows.specs.Cuts.{cut as meant};
 
 use flame_rows::{Bag, NoMemory, Row};
 use std::alloc::Global;

@@ -16,7 +16,7 @@ use Rattle.flame_spec.specs.Functions.{Place, functions}
 use Rattle.flame_spec.specs.Choice.{permits, leaves, may_take, functions_out, choice, is_chosen}
 use Rattle.flame_cond.specs.declared.forms.Test.{Test}
 use Rattle.flame_pool.specs.Choosing.{lets_through, admits, first_place}
-use Rattle.flame_pool.specs.Parting.{whose}
+use Rattle.flame_rows.specs.Parted.{whose}
 use Rattle.flame_cond.specs.Said.{IsConditionOf}
 use Rattle.flame_pool.specs.PoolLaws.{permits_at, ChoiceIsFirstOut, PlaceIsChoice, WhoseAreTakers}
 

@@ -8,7 +8,7 @@ use Rattle.flame_spec.specs.Choice.{permits, functions_out, choice, is_chosen, t
 use Rattle.flame_cond.specs.declared.forms.Test.{Test}
 use Rattle.flame_cond.specs.Said.{AreConditionsOf}
 use Rattle.flame_pool.specs.Choosing.{first_place, choices_of}
-use Rattle.flame_pool.specs.Parting.{whose}
+use Rattle.flame_rows.specs.Parted.{whose}
 
 -- whether the condition of the model's function of this number lets an agent with this memory through
 -- [FLAME User Manual]

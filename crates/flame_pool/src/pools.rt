@@ -3,9 +3,10 @@
 ghost use Rattle.std.specs.Prelude.{◌≡◌, ◌==◌, not, length, IfOk};
 ghost use Rattle.std.specs.List.{flat_map};
 ghost use Rattle.flame_rows.specs.Bags.{merge};
-ghost use Rattle.flame_pool.specs.Parting.{whose};
+ghost use Rattle.flame_rows.specs.Parted.{whose};
 
-use flame_rows::{Bag, NoMemory, Row, Seq};
+use flame_rows::laws::parted_bags;
+use flame_rows::{Bag, NoMemory, Seq};
 
 /// The agents of the pool whose choice is this number, and all others. No row is copied.
 pub fn take(pool: Bag, choices: &Seq<u32>, number: u32) -> Result<(Bag, Bag), NoMemory>
@@ -14,18 +15,10 @@ pub fn take(pool: Bag, choices: &Seq<u32>, number: u32) -> Result<(Bag, Bag), No
     ensures others { IfOk result (λ parts. parts.1 ≡ whose (λ choice. not (choice == number)) pool choices.now) }
     ensures all { IfOk result (λ parts. merge parts.0 parts.1 ≡ pool) }
 {
-    let rows = pool.into_rows();
-    let alloc = *rows.allocator();
-    let mut takers: Vec<Row> = Vec::new(alloc);
-    let mut others: Vec<Row> = Vec::new(alloc);
-    for (row, choice) in rows.into_iter().zip(choices.items()) {
-        if *choice == number {
-            takers.push(row)?;
-        } else {
-            others.push(row)?;
-        }
-    }
-    Ok((Bag::of_rows(takers)?, Bag::of_rows(others)?))
+    parted_bags();
+    let _ascending = pool.rows();
+    let parts = pool.chosen(choices.items(), number)?;
+    Ok(parts)
 }
 
 /// All pools and the births together: what a type's agents are after an iteration.

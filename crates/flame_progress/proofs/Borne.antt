@@ -6,7 +6,7 @@ use Rattle.flame_spec.specs.declared.outcomes.Born.{Born}
 use Rattle.flame_world.specs.AgentRuns.{births_of}
 use Rattle.flame_world.specs.Fields.{joined, joined_from}
 use Rattle.flame_events.proofs.Holding.{births_of-append}
-use Rattle.flame_progress.proofs.Gathered.{merge-append}
+use Rattle.flame_rows.proofs.Merging.{merge-append}
 
 joined_from-twice : (i : ℕ) (one other both : ℕ → List (List ℤ)) → ((k : ℕ) → both k ≡ one k ++ other k) → (bags : List (List (List ℤ)))
     → joined_from i both bags ≡ joined_from i other (joined_from i one bags)

@@ -9,7 +9,8 @@ use Rattle.flame_world.specs.Fields.{changed, joined_from, joined}
 use Rattle.flame_spec.specs.declared.outcomes.Born.{Born}
 use Rattle.flame_spec.specs.declared.outcomes.Sent.{Sent}
 use Rattle.flame_world.specs.AgentRuns.{births_of, messages_of}
-use Rattle.flame_progress.proofs.Gathered.{merge-append, merge-none}
+use Rattle.flame_rows.proofs.Merging.{merge-append}
+use Rattle.flame_progress.proofs.Gathered.{merge-none}
 
 eqb-differs : (a b : ℕ) → (b < a) ⊎ (a < b) → (a == b) ≡ false
 eqb-differs a b apart =

@@ -7,11 +7,6 @@ use Rattle.flame_rows.specs.Cuts.{piece_size, runs, cut}
 abbrev Rows : Type 0
 Rows = List (List ℤ)
 
-pub size_is : (rows pieces others : ℕ) → 1 ≤ pieces → rows ≡ others + 1 → others / pieces + 1 ≡ piece_size rows pieces
-size_is rows pieces others some more =
-    let all : rows + pieces - 1 ≡ others + pieces = omega (arith, more, some) in
-    sym (add-div_right others {k = pieces} (omega (arith, some))) ∙ ap (λ n. n / pieces) (sym all)
-
 pub some_run : (n : ℕ) → (n == 0) ≡ false → 0 < n
 some_run zero fails = absurd cc
 some_run (suc n) fails = omega arith
@@ -19,10 +14,6 @@ some_run (suc n) fails = omega arith
 none_to_run : (pieces size : ℕ) → runs pieces size (let none : Rows = [] in none) ≡ []
 none_to_run zero size = refl
 none_to_run (suc pieces) size = refl
-
-pub none_to_cut : (pieces : ℕ) (rows : Rows) → length rows ≡ 0 → [] ≡ cut pieces rows
-none_to_cut pieces [] none = sym (none_to_run pieces (piece_size 0 pieces))
-none_to_cut pieces (row ∷ rows) none = absurd (omega (arith, none))
 
 -- no run is left
 pub cut_over : (bags : List Rows) (pieces size : ℕ) (rest run : Rows) → 0 < size → run ≡ take size rest → length run ≡ 0

@@ -39,10 +39,6 @@ module _ (passes : List ℤ → Bool) where
       ∙ (λ i. found ++ filter passes (is i))
       ∙ (λ i. found ++ cond (failed i) (row ∷ filter passes rest) (filter passes rest))
 
-  pub filter-over : (all found left : Rows) → all ≡ found ++ filter passes left → length left ≡ 0 → found ≡ all
-  filter-over all found [] so_far none = sym (so_far ∙ append-nil found)
-  filter-over all found (row ∷ left) so_far none = absurd (omega (arith, none))
-
 -- ---- by choices
 
 module _ (passes : ℕ → Bool) where
@@ -70,10 +66,6 @@ module _ (passes : ℕ → Bool) where
       so_far
       ∙ (λ i. found ++ whose passes (is i) (chosen i))
       ∙ (λ i. found ++ cond (failed i) (row ∷ whose passes rest more) (whose passes rest more))
-
-  whose-none : (rows : Rows) → whose passes rows [] ≡ []
-  whose-none [] = refl
-  whose-none (row ∷ rows) = refl
 
   pub whose-over : (all found left : Rows) (choices : List ℕ)
       → all ≡ found ++ whose passes left choices

@@ -6,7 +6,7 @@ use Rattle.std.proofs.lemmas.List.{length-map}
 use Rattle.flame_spec.specs.States.{state_place}
 use Rattle.flame_world.specs.Fields.{changed_pool, pool_in}
 use Rattle.flame_meaning.specs.Outcomes.{outputs_at}
-use Rattle.flame_events.specs.Cuts.{cut}
+use Rattle.flame_rows.specs.Cuts.{cut}
 use Rattle.flame_events.specs.CoreStates.{Open}
 use Rattle.flame_events.specs.EventSteps.{fresh_work}
 use Rattle.flame_events.specs.LegalEvents.{outputs_of}

@@ -4,7 +4,7 @@ use Rattle.std.specs.Vec.Iter.{into_iter_items}
 use Rattle.std.proofs.lemmas.Bool.{eqb-true}
 use Rattle.flame_rows.specs.Order.{row_order}
 use Rattle.flame_rows.specs.Sorted.{IsAscending}
-use Rattle.flame_events.specs.Cuts.{runs}
+use Rattle.flame_rows.specs.Cuts.{runs}
 use Rattle.flame_pieces.proofs.Cutting.{ascending_drop, cut_more, cut_over, some_run}
 use Rattle.flame_pieces.proofs.cuts.cut.Goals as goal
 

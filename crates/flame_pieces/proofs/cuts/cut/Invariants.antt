@@ -2,7 +2,7 @@ use Rattle.std.proofs.Common.{◌≡◌, ◌-◌, ◌++◌}
 use Rattle.std.specs.Vec.Iter.{into_iter_items}
 use Rattle.flame_rows.specs.Order.{row_order}
 use Rattle.flame_rows.specs.Sorted.{IsAscending}
-use Rattle.flame_events.specs.Cuts.{runs, cut}
+use Rattle.flame_rows.specs.Cuts.{runs, cut}
 use Rattle.flame_pieces.proofs.cuts.cut.Given as goal
 
 abbrev pub invariant-loop-piece : goal.invariant-loop-piece

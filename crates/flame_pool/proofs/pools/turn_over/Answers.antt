@@ -1,6 +1,6 @@
 use Rattle.std.proofs.Common.{◌∙◌, sym}
 use Rattle.std.proofs.lemmas.Result.{IfOk-weaker}
-use Rattle.flame_pool.proofs.Parts.{joined-all}
+use Rattle.flame_pool.proofs.Joining.{joined-all}
 use Rattle.flame_pool.proofs.pools.turn_over.Goals as goal
 
 pub returns : goal.returns

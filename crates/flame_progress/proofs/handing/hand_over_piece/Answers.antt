@@ -8,7 +8,7 @@ use Rattle.flame_events.specs.CoreStates.{part_in}
 use Rattle.flame_pieces.specs.RunWorks.{work_of, outputs_in}
 use Rattle.flame_progress.specs.RunBoards.{board_bag}
 use Rattle.flame_progress.specs.RunWorkEvents.{without}
-use Rattle.flame_progress.proofs.Gathered.{merge-ascending}
+use Rattle.flame_rows.proofs.Merging.{merge-ascending}
 use Rattle.flame_progress.proofs.Known.{outputs_kept, part_is}
 use Rattle.flame_progress.proofs.Written.{got_is, map-kept, on_err}
 use Rattle.flame_progress.proofs.handing.hand_over_piece.Goals as goal

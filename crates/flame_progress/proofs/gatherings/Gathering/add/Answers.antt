@@ -1,6 +1,6 @@
 use Rattle.std.proofs.Common.{ap, ◌∙◌, [], ◌∷◌}
 use Rattle.flame_rows.specs.Bags.{ascending}
-use Rattle.flame_progress.proofs.Gathered.{ascending-append}
+use Rattle.flame_rows.proofs.Merging.{ascending-append}
 use Rattle.flame_progress.proofs.gatherings.Gathering.add.Goals as goal
 
 pub returns-clause-ok : goal.returns-clause-ok

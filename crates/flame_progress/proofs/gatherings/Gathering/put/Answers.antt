@@ -1,7 +1,7 @@
 use Rattle.std.proofs.Common.{Bool, cond, ◌++◌, ap, sym, ◌∙◌}
 use Rattle.flame_rows.specs.Bags.{ascending}
 use Rattle.flame_progress.specs.RunPools.{bag_of}
-use Rattle.flame_progress.proofs.Gathered.{ascending-append, merge-ascending}
+use Rattle.flame_rows.proofs.Merging.{ascending-append, merge-ascending}
 use Rattle.flame_progress.proofs.gatherings.Gathering.put.Goals as goal
 
 pub returns : goal.returns
