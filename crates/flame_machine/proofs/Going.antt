@@ -1,10 +1,10 @@
 -- How runs go on, call helpers, begin and end.
-use Rattle.std.proofs.Common.{◌≡◌, ℕ, zero, suc, ◌-◌, ◌<◌, ◌≤◌, ◌==◌, Bool, true, List, [], ◌∷◌, ◌++◌, length, take, drop, Some, refl, sym, ap, ◌∙◌, subst, arith}
+use Rattle.std.proofs.Common.{◌≡◌, ℕ, zero, suc, ◌-◌, ◌<◌, ◌≤◌, ◌==◌, true, List, [], ◌∷◌, ◌++◌, length, take, drop, Some, refl, sym, ap, ◌∙◌, subst, arith}
 use Rattle.std.specs.Prelude.{ℤ, pos, slice_get, replicate, reverse}
-use Rattle.std.specs.List.{list_all}
-use Rattle.std.proofs.lemmas.Bool.{and_parts, eqb-true}
+use Rattle.std.proofs.lemmas.Bool.{eqb-true}
 use Rattle.std.proofs.lemmas.List.{length-map}
 use Rattle.std.proofs.lemmas.Option.{slice_get_within}
+use Rattle.flame_rows.proofs.Lists.{list_all-at}
 use Rattle.flame_spec.specs.declared.faults.Fault.{Fault}
 use Rattle.flame_code.specs.Feeds.{Fed}
 use Rattle.flame_code.specs.InputRows.{rows_of, HaveWidths}
@@ -28,18 +28,11 @@ use Rattle.flame_machine.proofs.Zeros.{first_locals-zeros, length-filled}
 
 -- ---- helpers
 
-every : (test : Routine → Bool) (rs : List Routine) (h : ℕ) (r : Routine) → list_all test rs ≡ true → slice_get rs h ≡ Some r → test r ≡ true
-every test [] h r all e = cc
-every test (x ∷ xs) zero r all e = let same : x ≡ r = cc in subst (λ y. test y ≡ true) same (and_parts _ _ all).0
-every test (x ∷ xs) (suc h) r all e = every test xs h r (and_parts _ _ all).1 e
-
 pub helper_suits : (helpers : HelperCodes) (g : Given) (h : ℕ) (r : Routine) → AreHelpers helpers → SeeConstants g helpers → slice_get helpers.routines h ≡ Some r → Suits helpers g r
 helper_suits helpers g h r are alike at = record {
   calls = are.fitting h r at;
-  constants = sym (eqb-true _ _ (every (λ helper. helper.widths.constants == length g.constants) helpers.routines h r alike at));
+  constants = sym (eqb-true _ _ (list_all-at (λ helper. helper.widths.constants == length g.constants) helpers.routines h r alike at));
   alike = alike;
-}
-
 }
 
 -- ---- begins

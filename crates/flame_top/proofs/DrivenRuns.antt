@@ -23,10 +23,6 @@ use Rattle.flame_top.specs.Standing.{Stands, Carries, IsOfInput, Keeps}
 use Rattle.flame_top.proofs.Standings.{carries_known, carries_given, read_is_of_input}
 use Rattle.flame_top.proofs.ReportLines.{sim_is_line}
 
--- ---- the line of a fault
-
-)
-
 -- ---- by the end of the run
 
 module _ (writing : Writing) (ran : Run) (next : ℤ) (files done : ℕ) (old new : Outside) (has : HasDone (acts_of writing ran.stages) done files old new) where
