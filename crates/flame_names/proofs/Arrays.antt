@@ -12,7 +12,7 @@ use Rattle.flame_spec.specs.KnownNames.{is_among, variable_names}
 use Rattle.flame_spec.specs.Leaves.{found_faults}
 use Rattle.flame_spec.specs.Refusals.{name_fault}
 use Rattle.flame_names.specs.VariableTables.{variables_in_table}
-use Rattle.flame_names.proofs.Among.{bytes_eq_comm}
+use Rattle.flame_name_sets.proofs.Places.{bytes_eq-comm}
 
 array_step : (b c : Bool) (variable : Variable) (from : ℕ) (rest : Option (ℕ × Variable)) (more : Option (Option ℕ))
     → b ≡ c
@@ -36,7 +36,7 @@ array_from from name (entry ∷ entries) =
     from
     _
     (lookup (λ key. bytes_eq name key.now) entries)
-    (bytes_eq_comm entry.0.now name)
+    (bytes_eq-comm entry.0.now name)
     (array_from (from + width_of (let v : Variable = record { name = entry.0.now; length = entry.1 } in v)) name entries)
 
 -- whether the variable of a name is an array

@@ -7,7 +7,7 @@ use Rattle.flame_spec.specs.KnownNames.{DeclaredNames}
 use Rattle.flame_spec.specs.FunctionFaults.{function_faults}
 use Rattle.flame_names.specs.NameLooks.{transition_of, is_same_transition}
 use Rattle.flame_names.specs.FunctionTitles.{function_at}
-use Rattle.flame_names.proofs.Among.{list_any-map}
+use Rattle.flame_name_sets.proofs.Among.{list_any-map}
 
 -- behind a table of the earlier functions, a function has the faults that it has behind those
 pub function-is : (declared : DeclaredNames) (memory : List Variable) (is_taken : List ℕ → Bool) (earlier : List Function)

@@ -12,10 +12,10 @@ use Rattle.flame_spec.specs.KnownNames.{is_among, unit_names}
 use Rattle.flame_spec.specs.Paths.{at_key}
 use Rattle.flame_spec.specs.Refusals.{fault_where}
 use Rattle.flame_spec.specs.UnitFaults.{is_long, length_after, unit_faults}
-use Rattle.flame_names.specs.NameLooks.{look, names_of}
+use Rattle.flame_name_sets.specs.NameTables.{look, names_of}
 use Rattle.flame_names.specs.UnitTables.{floored, measure_at, unit_at, length_of, with_unit}
-use Rattle.flame_names.proofs.Among.{bytes_eq_comm}
-use Rattle.flame_names.proofs.Looks.{none-is, is_some-look, look-push, names_of-push}
+use Rattle.flame_name_sets.proofs.Places.{bytes_eq-comm}
+use Rattle.flame_name_sets.proofs.Looks.{none-is, is_some-look, look-push, names_of-push}
 use Rattle.flame_names.proofs.Floors.{is_long-floored, floored-floored}
 
 -- the table has the names of the units, and their lengths
@@ -75,7 +75,7 @@ unit_length-push : (units : List TimeUnit) (unit : TimeUnit) (name : List ℕ)
     ≡ cond (bytes_eq name unit.name) (length_after units unit) (unit_length units name)
 unit_length-push units unit name =
     ap (λ l. length_back l name) (reverse-append units (unit ∷ []))
-    ∙ ap (λ b. cond b (length_after units unit) (unit_length units name)) (bytes_eq_comm unit.name name)
+    ∙ ap (λ b. cond b (length_after units unit) (unit_length units name)) (bytes_eq-comm unit.name name)
 
 choice : {A : Type 0} (b : Bool) (x y u v : A) → x ≡ u → y ≡ v → cond b x y ≡ cond b u v
 choice true x y u v p q = p

@@ -1,6 +1,6 @@
 use Rattle.std.proofs.Common.{◌∙◌, sym, ap}
 use Rattle.std.specs.Option.{is_some}
-use Rattle.flame_names.proofs.Looks.{is_some-look, is_some-copied}
+use Rattle.flame_name_sets.proofs.Looks.{is_some-look, is_some-copied}
 use Rattle.flame_names.proofs.messages.MessageTable.has.Goals as goal
 
 pub returns : goal.returns

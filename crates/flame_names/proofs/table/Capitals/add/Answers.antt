@@ -1,7 +1,7 @@
 use Rattle.std.proofs.Common.{◌∙◌, sym, ap, not, string_bytes}
 use Rattle.std.specs.Str.{bytes_eq}
 use Rattle.flame_spec.specs.KnownNames.{is_among}
-use Rattle.flame_names.proofs.Among.{list_any-map}
+use Rattle.flame_name_sets.proofs.Among.{list_any-map}
 use Rattle.flame_names.proofs.table.Capitals.add.Goals as goal
 
 pub returns-clause-added : goal.returns-clause-added

@@ -1,7 +1,7 @@
 use Rattle.std.proofs.Common.{◌≡◌, ◌∙◌, sym, ap, not, List, ℕ}
 use Rattle.std.specs.List.{list_any}
 use Rattle.flame_names.specs.NameLooks.{transition_of, is_same_transition}
-use Rattle.flame_names.proofs.Among.{list_any-map}
+use Rattle.flame_name_sets.proofs.Among.{list_any-map}
 use Rattle.flame_names.proofs.table.Transitions.add.Goals as goal
 
 pub returns-clause-added : goal.returns-clause-added

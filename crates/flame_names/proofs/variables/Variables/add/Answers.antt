@@ -9,7 +9,7 @@ use Rattle.flame_spec.specs.Columns.{width, width_of}
 use Rattle.flame_spec.specs.KnownNames.{is_among, variable_names}
 use Rattle.flame_names.specs.VariableTables.{variables_in_table, counted}
 use Rattle.flame_names.proofs.Arrays.{there-is}
-use Rattle.flame_names.proofs.Looks.{none-is}
+use Rattle.flame_name_sets.proofs.Looks.{none-is}
 use Rattle.flame_names.proofs.Widths.{width-push, counted-more}
 use Rattle.flame_names.proofs.variables.Variables.add.Goals as goal
 
@@ -44,7 +44,7 @@ invariant_of-self-2 c =
     let variable = c.args.variable.now in
     c.saturating_add-self-inside.ensures
     ∙ ap (λ w. min (w + c.from.result) 18446744073709551615) c.self.invariant
-    ∙ ap (λ w. min (counted (width variables) + w) 18446744073709551615) (c.from.ensures ∙ c.width_of.ensures)
+    ∙ ap (λ w. min (counted (width variables) + w) 18446744073709551615) (c.from.ensures ∙ c.width.ensures)
     ∙ counted-more (width variables) (width_of variable)
     ∙ ap counted (sym (width-push variables variable) ∙ ap width (sym (table_more c)))
 
