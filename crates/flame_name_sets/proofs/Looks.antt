@@ -1,11 +1,12 @@
 -- Looking up names in tables.
-use Rattle.std.proofs.Common.{◌≡◌, ℕ, List, [], ◌∷◌, ◌++◌, map, refl, sym, ap, ◌∙◌, Bool, true, false, cond, Option, Some, None, true≢false, Bor}
+use Rattle.std.proofs.Common.{◌≡◌, ℕ, List, [], ◌∷◌, ◌++◌, map, refl, sym, ap, ◌∙◌, Bool, true, false, cond, Option, Some, None, Bor}
 use Rattle.std.specs.Prelude.{◌||◌}
-use Rattle.std.specs.Option.{is_some, option_copied}
+use Rattle.std.specs.Option.{is_some}
 use Rattle.std.specs.Map.{lookup}
 use Rattle.std.specs.Str.{bytes_eq}
 use Rattle.std.proofs.lemmas.Slice.Eq.{bytes_eq-Decides}
 use Rattle.std.proofs.lemmas.List.{map_push}
+use Rattle.flame_rows.proofs.Truths.{is_some-false, cond-cond}
 use Rattle.flame_spec.specs.KnownNames.{is_among}
 use Rattle.flame_name_sets.specs.NameTables.{look, names_of}
 
@@ -14,11 +15,6 @@ pub look-map : {X : Type 0} (name : List ℕ) (entries : List (Bor (List ℕ) ×
     → look name (map (λ entry. (entry.0.now, entry.1)) entries) ≡ lookup (λ key. bytes_eq name key.now) entries
 look-map name [] = refl
 look-map name (entry ∷ entries) = ap (cond (bytes_eq name entry.0.now) (Some entry.1)) (look-map name entries)
-
--- what is not there
-pub none-is : {X : Type 0} (o : Option X) → is_some o ≡ false → o ≡ None
-none-is None e = refl
-none-is (Some x) e = absurd (true≢false e)
 
 some_step : {X : Type 0} (b c : Bool) (x : X) (o : Option X)
     → is_some o ≡ c → is_some (cond b (Some x) o) ≡ (b || c)
@@ -40,14 +36,7 @@ is_some-look name (entry ∷ table) =
 -- a name that is not among those of the entries is not found
 pub look-none : {X : Type 0} (name : List ℕ) (table : List (List ℕ × X))
     → is_among name (names_of table) ≡ false → look name table ≡ None
-look-none name table h = none-is (look name table) (is_some-look name table ∙ h)
-
-pub push_step : {X : Type 0} (same front : Bool) (x y : X) (o : Option X)
-    → (same ≡ true → front ≡ false)
-    → cond front (Some y) (cond same (Some x) o) ≡ cond same (Some x) (cond front (Some y) o)
-push_step true true x y o h = absurd (true≢false (h refl))
-push_step true false x y o h = refl
-push_step false front x y o h = refl
+look-none name table h = is_some-false (look name table) (is_some-look name table ∙ h)
 
 push_cases : {X : Type 0} (name other key : List ℕ) (x y : X) (table more : List (List ℕ × X)) (same : Bool)
     → bytes_eq name key ≡ same
@@ -58,7 +47,7 @@ push_cases : {X : Type 0} (name other key : List ℕ) (x y : X) (table more : Li
 push_cases name other key x y table more true e h rest = cc
 push_cases name other key x y table more false e h rest =
     ap (cond (bytes_eq other key) (Some y)) (rest (sym (ap (λ c. cond c (Some y) (look name table)) e) ∙ h))
-    ∙ push_step
+    ∙ cond-cond
     (bytes_eq other name)
     (bytes_eq other key)
     x
@@ -88,7 +77,3 @@ look-push name other x (entry ∷ table) h =
 pub names_of-push : {X : Type 0} (table : List (List ℕ × X)) (name : List ℕ) (x : X)
     → names_of (table ++ (name, x) ∷ []) ≡ names_of table ++ name ∷ []
 names_of-push table name x = map_push (λ entry. entry.0) table (name, x)
-
-pub is_some-copied : {X : Type 0} (o : Option (Bor X)) → is_some (option_copied o) ≡ is_some o
-is_some-copied None = refl
-is_some-copied (Some x) = refl

@@ -5,17 +5,7 @@ use Rattle.std.specs.List.{position_or_len}
 use Rattle.std.specs.Str.{bytes_eq}
 use Rattle.std.proofs.lemmas.Bool.Decides.{nat_tests}
 use Rattle.std.proofs.lemmas.List.Sums.{prefix_len-le-length}
-use Rattle.std.proofs.lemmas.Slice.Eq.{bytes_eq-Decides}
-
--- it does not matter which text comes first
-pub bytes_eq-comm : (xs ys : List ℕ) → bytes_eq xs ys ≡ bytes_eq ys xs
-bytes_eq-comm xs ys = by (bytes_eq xs ys) (bytes_eq ys xs) refl refl
-  where
-    by : (a b : Bool) → bytes_eq xs ys ≡ a → bytes_eq ys xs ≡ b → a ≡ b
-    by true true e f = refl
-    by false false e f = refl
-    by true false e f = sym ((bytes_eq-Decides ys xs).1 (sym ((bytes_eq-Decides xs ys).0 e))) ∙ f
-    by false true e f = sym e ∙ (bytes_eq-Decides xs ys).1 (sym ((bytes_eq-Decides ys xs).0 f))
+use Rattle.flame_rows.proofs.Bytes.{bytes_eq-sym}
 
 -- the place of a state among the texts of these keys
 place-of :
@@ -24,7 +14,7 @@ place-of :
     ≡ position_or_len (λ key. bytes_eq state (text key)) keys
 place-of text state [] = refl
 place-of text state (key ∷ keys) =
-    ap (λ b. cond (not b) (1 + position_or_len (λ other. bytes_eq other state) (map text keys)) 0) (bytes_eq-comm (text key) state)
+    ap (λ b. cond (not b) (1 + position_or_len (λ other. bytes_eq other state) (map text keys)) 0) (bytes_eq-sym (text key) state)
     ∙ ap (λ n. cond (not (bytes_eq state (text key))) (1 + n) 0) (place-of text state keys)
 
 at-some : {K : Type 0} (p : K → Bool) (keys : List K) (i : ℕ) → position p keys ≡ Some i → position_or_len p keys ≡ i

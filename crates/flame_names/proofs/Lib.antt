@@ -1,6 +1,6 @@
 pub mod Among
 pub mod Firsts
-pub mod Looks
+pub mod MessageNames
 pub mod Widths
 pub mod Arrays
 pub mod Rests

@@ -10,8 +10,9 @@ use Rattle.flame_spec.specs.KnownNames.{unit_names, variables_in, DeclaredNames,
 use Rattle.flame_spec.specs.Paths.{at_key}
 use Rattle.flame_spec.specs.MessageFaults.{messages_faults}
 use Rattle.flame_spec.specs.NameFaults.{agents_faults, environment_faults, model_faults}
-use Rattle.flame_names.specs.NameLooks.{look, names_of, message_entry}
-use Rattle.flame_names.proofs.Looks.{names_of-messages}
+use Rattle.flame_names.specs.NameLooks.{message_entry}
+use Rattle.flame_name_sets.specs.NameTables.{look, names_of}
+use Rattle.flame_names.proofs.MessageNames.{names_of-messages}
 
 unwrap_choice : {X : Type 0} (b : Bool) (x d : X) (o : Option X)
     → unwrap_or (cond b (Some x) o) d ≡ cond b x (unwrap_or o d)

@@ -4,7 +4,7 @@ use Rattle.flame_spec.specs.KnownNames.{DeclaredNames}
 use Rattle.flame_spec.specs.Leaves.{LeafScope}
 use Rattle.flame_names.specs.declared.leaves.Scope.{Scope}
 use Rattle.flame_names.specs.declared.functions.Tables.{Tables}
-use Rattle.flame_names.specs.NameLooks.{look, names_of}
+use Rattle.flame_name_sets.specs.NameTables.{look, names_of}
 
 -- what the names in a condition may stand for, by its tables [own]
 abbrev pub scope_of : Scope → LeafScope

@@ -8,7 +8,7 @@ use Rattle.flame_spec.specs.declared.models.TimeUnit.{TimeUnit}
 use Rattle.flame_spec.specs.Paths.{at_key}
 use Rattle.flame_spec.specs.Refusals.{fault_where}
 use Rattle.flame_spec.specs.UnitFaults.{is_long}
-use Rattle.flame_names.specs.NameLooks.{look}
+use Rattle.flame_name_sets.specs.NameTables.{look}
 
 -- the length, or the least number of 32 bits where it is below that [own]
 abbrev pub floored : ℤ → ℤ

@@ -8,7 +8,7 @@ ghost use Rattle.flame_names.specs.PlacePaths.{text_of};
 ghost use Rattle.flame_spec.specs.FirstFaults.{FailsBy, FailsFirst};
 
 use crate::path::Place;
-use crate::table::Names;
+use flame_name_sets::Names;
 use flame_rows::{Fail, NoMemory, Text};
 use flame_spec::{NameFault, NameKind};
 use std::alloc::Global;

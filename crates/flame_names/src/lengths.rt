@@ -4,7 +4,7 @@ ghost use Rattle.std.specs.Prelude.{◌≡◌, ◌++◌, ◌*ℤ◌, ◌≤ℤ�
 ghost use Rattle.flame_spec.specs.UnitFaults.{units_faults};
 ghost use Rattle.flame_names.specs.PlacePaths.{text_of};
 ghost use Rattle.flame_spec.specs.FirstFaults.{FailsFirst};
-ghost use Rattle.flame_names.specs.NameLooks.{look, names_of};
+ghost use Rattle.flame_name_sets.specs.NameTables.{look, names_of};
 ghost use Rattle.flame_names.specs.UnitTables.{started, unit_at, with_unit, floored};
 ghost use Rattle.flame_spec.specs.KnownNames.{is_among, unit_names};
 

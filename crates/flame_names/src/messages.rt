@@ -8,12 +8,14 @@ ghost use Rattle.flame_spec.specs.MessageFaults.{apart_faults, constant_faults, 
 ghost use Rattle.flame_spec.specs.MessageFaults.{message_faults, messages_faults};
 ghost use Rattle.flame_names.specs.PlacePaths.{text_of};
 ghost use Rattle.flame_spec.specs.FirstFaults.{FailsFirst};
-ghost use Rattle.flame_names.specs.NameLooks.{look, names_of, message_entry};
+ghost use Rattle.flame_names.specs.NameLooks.{message_entry};
+ghost use Rattle.flame_name_sets.specs.NameTables.{look, names_of};
 
 use crate::faults::fault;
 use crate::path::Place;
-use crate::table::{Capitals, Names};
+use crate::table::Capitals;
 use crate::variables::{Variables, add_variable, refuse_wide};
+use flame_name_sets::Names;
 use flame_rows::{Fail, NoMemory, Text};
 use flame_spec::{MessageType, NameFault, NameKind, Variable};
 use indexmap::IndexMap;

@@ -5,7 +5,7 @@ ghost use Rattle.flame_ops.specs.Ascii.{capitals};
 ghost use Rattle.flame_spec.specs.KnownNames.{unit_names};
 ghost use Rattle.flame_spec.specs.NameFaults.{environment_faults, model_faults, name_faults};
 ghost use Rattle.flame_names.specs.PlacePaths.{text_of};
-ghost use Rattle.flame_names.specs.NameLooks.{names_of};
+ghost use Rattle.flame_name_sets.specs.NameTables.{names_of};
 ghost use Rattle.flame_spec.specs.FirstFaults.{FailsFirst};
 
 use crate::agents::agents;

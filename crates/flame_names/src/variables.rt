@@ -2,7 +2,7 @@
 
 ghost use Rattle.std.specs.Prelude.{◌≡◌, ◌++◌, [], ◌∷◌, OnOk, IfErr, codes, false, nat_lt, option_map, ◌&&◌};
 ghost use Rattle.flame_spec.specs.declared.faults.NameKind.TheVariants.{Duplicate, TooWide};
-ghost use Rattle.flame_spec.specs.Columns.{width, width_of, is_array, variable_named};
+ghost use Rattle.flame_spec.specs.Columns.{width, is_array, variable_named};
 ghost use Rattle.flame_spec.specs.KnownNames.{is_among, variable_names};
 ghost use Rattle.flame_spec.specs.Leaves.{single_faults};
 ghost use Rattle.flame_spec.specs.Paths.{at_key};
@@ -80,18 +80,8 @@ impl<'a> Variables<'a> {
     {
         self.lengths
             .insert(variable.name.as_str(), variable.length)?;
-        self.width = self.width.saturating_add(u64::from(width_of(variable)));
+        self.width = self.width.saturating_add(u64::from(variable.width()));
         Ok(())
-    }
-}
-
-/// How many numbers of a row the variable takes.
-fn width_of(variable: &Variable) -> u32
-    ensures { result ≡ width_of variable.now }
-{
-    match variable.length {
-        Some(length) => length,
-        None => 1,
     }
 }
 

@@ -6,7 +6,8 @@ use Rattle.flame_ops.specs.Ascii.{capitals}
 use Rattle.flame_spec.specs.Paths.{at_key}
 use Rattle.flame_spec.specs.Refusals.{fault_where, name_fault}
 use Rattle.flame_names.specs.PlacePaths.{text_of}
-use Rattle.flame_names.proofs.Among.{was_there, was_new, looked_up}
+use Rattle.flame_names.proofs.Among.{looked_up}
+use Rattle.flame_name_sets.proofs.Among.{was_there, was_new}
 use Rattle.flame_names.proofs.Firsts.{fails_first, memory_name_faults-clash, memory_name_faults-new}
 use Rattle.flame_names.proofs.Rests.{fails-same}
 use Rattle.flame_names.proofs.agents.add_memory_name.Goals as goal

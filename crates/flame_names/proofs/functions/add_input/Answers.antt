@@ -8,9 +8,9 @@ use Rattle.flame_spec.specs.Refusals.{fault_where, name_fault}
 use Rattle.flame_spec.specs.FunctionFaults.{reading_faults}
 use Rattle.flame_names.specs.PlacePaths.{text_of}
 use Rattle.flame_names.specs.TableScopes.{declared_of}
-use Rattle.flame_names.specs.NameLooks.{look}
+use Rattle.flame_name_sets.specs.NameTables.{look}
 use Rattle.flame_names.proofs.Firsts.{fails_first}
-use Rattle.flame_names.proofs.Looks.{is_some-look}
+use Rattle.flame_name_sets.proofs.Looks.{is_some-look}
 use Rattle.flame_names.proofs.Rests.{fails-append, fails-same}
 use Rattle.flame_names.proofs.Readings.{read_scope, input_faults-known, input_faults-unknown, rest_is}
 use Rattle.flame_names.proofs.functions.add_input.Goals as goal

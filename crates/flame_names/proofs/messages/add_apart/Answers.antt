@@ -1,6 +1,7 @@
 use Rattle.std.proofs.Common.{◌∙◌}
 use Rattle.flame_names.specs.PlacePaths.{text_of}
-use Rattle.flame_names.proofs.Among.{was_there, was_new, looked_up}
+use Rattle.flame_names.proofs.Among.{looked_up}
+use Rattle.flame_name_sets.proofs.Among.{was_there, was_new}
 use Rattle.flame_names.proofs.Firsts.{fails_first, apart_faults-none, apart_faults-clash}
 use Rattle.flame_names.proofs.messages.add_apart.Goals as goal
 

@@ -4,9 +4,11 @@ use Rattle.flame_spec.specs.KnownNames.{is_among, message_names}
 use Rattle.flame_spec.specs.Paths.{at_number}
 use Rattle.flame_spec.specs.MessageFaults.{message_faults}
 use Rattle.flame_names.specs.PlacePaths.{text_of}
-use Rattle.flame_names.specs.NameLooks.{look, message_entry}
+use Rattle.flame_names.specs.NameLooks.{message_entry}
+use Rattle.flame_name_sets.specs.NameTables.{look}
 use Rattle.flame_names.proofs.Rests.{fails-member}
-use Rattle.flame_names.proofs.Looks.{look-none, names_of-messages}
+use Rattle.flame_names.proofs.MessageNames.{names_of-messages}
+use Rattle.flame_name_sets.proofs.Looks.{look-none}
 use Rattle.flame_names.proofs.messages.messages.Goals as goal
 
 pub returns-in_err-variables-clause-first : goal.returns-in_err-variables-clause-first

@@ -44,7 +44,7 @@ invariant_of-self-2 c =
     let variable = c.args.variable.now in
     c.saturating_add-self-inside.ensures
     ∙ ap (λ w. min (w + c.from.result) 18446744073709551615) c.self.invariant
-    ∙ ap (λ w. min (counted (width variables) + w) 18446744073709551615) (c.from.ensures ∙ c.width_of.ensures)
+    ∙ ap (λ w. min (counted (width variables) + w) 18446744073709551615) (c.from.ensures ∙ c.width.ensures)
     ∙ counted-more (width variables) (width_of variable)
     ∙ ap counted (sym (width-push variables variable) ∙ ap width (sym (table_more c)))
 
