@@ -6,7 +6,7 @@ ghost use Rattle.flame_agent.specs.FunctionFits.{FitsFunction};
 
 use crate::codes::code_of;
 use crate::views::views_of;
-use flame_machine::run;
+use flame_machine::Room;
 use flame_program::Program;
 use flame_program::laws::programs_mean;
 use flame_rows::{NoMemory, Row};
@@ -17,10 +17,11 @@ use std::alloc::Global;
 /// What the function of this number does for an agent with this memory, under this setting of the program (FLAME User
 /// Manual). Its code runs over the views of the boards, each of which is made once, before the run; a board that is read
 /// without a filter and a sort is read where it lies, and no row of a board is copied. The memory, the constants and the
-/// messages of the boards are as wide as the model declares. `NoMemory` comes where none is found, and where 32 bits cannot
-/// number the function's inputs.
+/// messages of the boards are as wide as the model declares. The room's lists are used and kept: whoever runs many agents
+/// keeps one room for all. `NoMemory` comes where none is found, and where 32 bits cannot number the function's inputs.
 pub fn run_agent(
     alloc: Global,
+    room: &mut Room,
     program: &Program,
     setting: &Setting<'_>,
     function: u32,
@@ -34,8 +35,7 @@ pub fn run_agent(
     let _source = program.source();
     let code = code_of(program, setting, function, memory);
     let mut views = views_of(alloc, program, setting, function, memory)?;
-    let outcome = run(
-        alloc,
+    let outcome = room.run(
         code,
         program.helpers(),
         memory,

@@ -6,3 +6,4 @@ mod codes;
 mod views;
 
 pub use agents::run_agent;
+pub use flame_machine::Room;

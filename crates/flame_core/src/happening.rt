@@ -22,7 +22,7 @@ use crate::parting::part;
 use crate::rounds::Round;
 use crate::steps::route_of;
 use crate::takers::fault_of;
-use flame_agent::run_agent;
+use flame_agent::{Room, run_agent};
 use flame_events::Event;
 use flame_index::Frozen;
 use flame_pieces::cut;
@@ -116,7 +116,8 @@ fn left_under(
         → IsLeft setting.now.iteration function memory.now (outcome program.now function memory.now all
         setting.now.constants.now setting.now.iteration setting.now.fuel) leaving) }
 {
-    match run_agent(alloc, program, setting, function, memory)? {
+    let mut room = Room::new(alloc);
+    match run_agent(alloc, &mut room, program, setting, function, memory)? {
         Outcome::Ended(effect) => ended(alloc, effect),
         Outcome::Faulted(fault) => faulted(alloc, setting, function, memory, fault),
     }
