@@ -3,7 +3,7 @@
 
 use flame_case_files::Case;
 use flame_rows::Fail;
-use flame_words::{How, Order, Usage, Way, order};
+use flame_words::{How, Order, RunOrder, TrialOrder, Usage, Way, order};
 use std::alloc::{AllocError, Global};
 
 fn print_how(out: &mut String, how: &How) -> Result<(), AllocError> {
@@ -16,22 +16,29 @@ fn print_how(out: &mut String, how: &How) -> Result<(), AllocError> {
     writeln!(out, "way={way}")
 }
 
+fn print_run(out: &mut String, run: &RunOrder) -> Result<(), AllocError> {
+    writeln!(out, "run\nmodel={}\npop={}", run.model, run.pop)?;
+    writeln!(
+        out,
+        "out={}\nturns={}\nformat={}",
+        run.out, run.turns, run.format
+    )?;
+    print_how(out, &run.how)
+}
+
+fn print_trial(out: &mut String, trial: &TrialOrder) -> Result<(), AllocError> {
+    writeln!(out, "trial\nseed={}", trial.seed)?;
+    writeln!(out, "size={}\nturns={}", trial.size, trial.turns)?;
+    print_how(out, &trial.how)
+}
+
 fn print_order(out: &mut String, order: &Order) -> Result<(), AllocError> {
     match order {
-        Order::Run(run) => {
-            writeln!(out, "run\nmodel={}", run.model)?;
-            writeln!(out, "pop={}\nout={}\nturns={}", run.pop, run.out, run.turns)?;
-            writeln!(out, "format={}", run.format)?;
-            print_how(out, &run.how)
-        }
+        Order::Run(run) => print_run(out, run),
         Order::Check(model) => writeln!(out, "check\nmodel={model}"),
         Order::Graph(model) => writeln!(out, "graph\nmodel={model}"),
         Order::Code(model) => writeln!(out, "code\nmodel={model}"),
-        Order::Trial(trial) => {
-            writeln!(out, "trial\nseed={}", trial.seed)?;
-            writeln!(out, "size={}\nturns={}", trial.size, trial.turns)?;
-            print_how(out, &trial.how)
-        }
+        Order::Trial(trial) => print_trial(out, trial),
         Order::Migrate(model, pop, written) => {
             writeln!(out, "migrate\nmodel={model}\npop={pop}\nout={written}")
         }
@@ -49,14 +56,19 @@ fn print_usage(out: &mut String, usage: &Usage) -> Result<(), AllocError> {
     writeln!(out)
 }
 
+/// The order that the words give, or the fault of usage.
+fn ordered(alloc: Global, words: &[String]) -> Result<String, AllocError> {
+    let mut out = String::new(alloc);
+    match order(alloc, words) {
+        Ok(order) => print_order(&mut out, &order)?,
+        Err(Fail::Fault(usage)) => print_usage(&mut out, &usage)?,
+        Err(Fail::NoMemory) => out.push_str("no memory\n")?,
+    }
+    Ok(out)
+}
+
 /// The answer to a case of the kind `words`: the order, or the fault of usage.
 pub fn answer_order(alloc: Global, case: &Case) -> Result<String, AllocError> {
     let words = case.lines(alloc, "words")?;
-    let mut out = String::new(alloc);
-    match order(alloc, words.as_slice()) {
-        Ok(order) => print_order(&mut out, &order)?,
-        Err(Fail::Fault(usage)) => print_usage(&mut out, &usage)?,
-        Err(Fail::NoMemory) => writeln!(out, "no memory")?,
-    }
-    Ok(out)
+    ordered(alloc, words.as_slice())
 }

@@ -3,6 +3,7 @@
 //! without it, and behind its tree stands the token at which it ends, as `to 3`. Where the section `print` has the word
 //! `names`, only the names of the functions are printed.
 
+use crate::lexing::fail_text;
 use crate::sources::LONGEST;
 use crate::trees::{print_definitions, print_expression, print_names};
 use flame_case_files::Case;
@@ -23,18 +24,14 @@ enum Found {
 
 /// The tokens of a case.
 fn tokens_in(alloc: Global, case: &Case) -> Result<Found, AllocError> {
-    let mut out = String::new(alloc);
     let bytes = case.bytes("text");
     if bytes.len() > LONGEST {
-        writeln!(out, "too large")?;
-        return Ok(Found::Told(out));
+        return Ok(Found::Told(String::from_str(alloc, "too large\n")?));
     }
     match lex(alloc, bytes) {
-        Ok(tokens) => return Ok(Found::Tokens(tokens)),
-        Err(Fail::Fault(fault)) => writeln!(out, "{} at byte {}", fault.name(), fault.offset())?,
-        Err(Fail::NoMemory) => writeln!(out, "no memory")?,
+        Ok(tokens) => Ok(Found::Tokens(tokens)),
+        Err(fail) => Ok(Found::Told(fail_text(alloc, &fail)?)),
     }
-    Ok(Found::Told(out))
 }
 
 fn print_fail(out: &mut String, fail: &Fail<ParseFault>) -> Result<(), AllocError> {
@@ -66,16 +63,20 @@ fn print_place(
     }
 }
 
+/// The expression from the case's place of the tokens.
+fn expression_text(alloc: Global, case: &Case, tokens: &[Token]) -> Result<String, AllocError> {
+    let from = case.text("from").trim().parse::<usize>().unwrap_or(0);
+    let mut out = String::new(alloc);
+    print_place(alloc, &mut out, tokens, from)?;
+    Ok(out)
+}
+
 /// The answer to a case of the kind `expression`.
 pub fn answer_expression(alloc: Global, case: &Case) -> Result<String, AllocError> {
-    let tokens = match tokens_in(alloc, case)? {
-        Found::Told(told) => return Ok(told),
-        Found::Tokens(tokens) => tokens,
-    };
-    let mut out = String::new(alloc);
-    let from = case.text("from").trim().parse::<usize>().unwrap_or(0);
-    print_place(alloc, &mut out, tokens.items(), from)?;
-    Ok(out)
+    match tokens_in(alloc, case)? {
+        Found::Told(told) => Ok(told),
+        Found::Tokens(tokens) => expression_text(alloc, case, tokens.items()),
+    }
 }
 
 /// The function file of the tokens.
@@ -100,14 +101,18 @@ fn print_file(
     }
 }
 
+/// The function file of the tokens, as the case wants it printed.
+fn file_text(alloc: Global, case: &Case, tokens: &[Token]) -> Result<String, AllocError> {
+    let whole = case.text("print").trim() != "names";
+    let mut out = String::new(alloc);
+    print_file(alloc, &mut out, tokens, whole)?;
+    Ok(out)
+}
+
 /// The answer to a case of the kind `parse`.
 pub fn answer_trees(alloc: Global, case: &Case) -> Result<String, AllocError> {
-    let tokens = match tokens_in(alloc, case)? {
-        Found::Told(told) => return Ok(told),
-        Found::Tokens(tokens) => tokens,
-    };
-    let mut out = String::new(alloc);
-    let whole = case.text("print").trim() != "names";
-    print_file(alloc, &mut out, tokens.items(), whole)?;
-    Ok(out)
+    match tokens_in(alloc, case)? {
+        Found::Told(told) => Ok(told),
+        Found::Tokens(tokens) => file_text(alloc, case, tokens.items()),
+    }
 }

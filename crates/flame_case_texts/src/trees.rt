@@ -1,6 +1,8 @@
 //! Trees as texts: a node a line, with two blanks before it for each node that it stands in. `line` and a number behind
 //! what they belong to are its line.
 
+use flame_ops::Op;
+use flame_rows::Text;
 use flame_spec::{
     Arm, Assign, Def, Expr, Head, Item, Link, Parameter, Sign, Stmt, Subscript, Value,
 };
@@ -20,6 +22,42 @@ fn print_word(out: &mut String, depth: usize, word: &str) -> Result<(), AllocErr
     writeln!(out, "{word}")
 }
 
+/// A line that has this word, and behind it the node's line.
+fn print_lined(out: &mut String, depth: usize, word: &str, line: u32) -> Result<(), AllocError> {
+    begin(out, depth)?;
+    writeln!(out, "{word} line {line}")
+}
+
+/// A line that has this word and a name, and behind them the node's line.
+fn print_named(
+    out: &mut String,
+    depth: usize,
+    word: &str,
+    name: &Text,
+    line: u32,
+) -> Result<(), AllocError> {
+    begin(out, depth)?;
+    writeln!(out, "{word} {name} line {line}")
+}
+
+/// The same with the name of a variable of a message too.
+fn print_field(
+    out: &mut String,
+    depth: usize,
+    word: &str,
+    names: (&Text, &Text),
+    line: u32,
+) -> Result<(), AllocError> {
+    let (message, variable) = names;
+    begin(out, depth)?;
+    writeln!(out, "{word} {message} {variable} line {line}")
+}
+
+fn print_number(out: &mut String, depth: usize, number: i32) -> Result<(), AllocError> {
+    begin(out, depth)?;
+    writeln!(out, "number {number}")
+}
+
 /// An expression.
 #[cycle(expression)]
 pub(crate) fn print_expression(
@@ -27,44 +65,45 @@ pub(crate) fn print_expression(
     depth: usize,
     tree: &Expr,
 ) -> Result<(), AllocError> {
-    begin(out, depth)?;
+    let below = depth.saturating_add(1);
     match tree {
-        Expr::Number(number) => writeln!(out, "number {number}"),
-        Expr::Name(line, word) => writeln!(out, "name {word} line {line}"),
+        Expr::Number(number) => print_number(out, depth, *number),
+        Expr::Name(line, word) => print_named(out, depth, "name", word, *line),
         Expr::Field(line, word, variable) => {
-            writeln!(out, "field {word} {variable} line {line}")
+            print_field(out, depth, "field", (word, variable), *line)
         }
-        Expr::Get(line, word) => writeln!(out, "get {word} line {line}"),
+        Expr::Get(line, word) => print_named(out, depth, "get", word, *line),
         Expr::At(line, word, which) => {
-            writeln!(out, "at {word} line {line}")?;
-            print_subscript(out, depth.saturating_add(1), which)
+            print_named(out, depth, "at", word, *line)?;
+            print_subscript(out, below, which)
         }
         Expr::FieldAt(line, word, variable, which) => {
-            writeln!(out, "field_at {word} {variable} line {line}")?;
-            print_subscript(out, depth.saturating_add(1), which)
+            print_field(out, depth, "field_at", (word, variable), *line)?;
+            print_subscript(out, below, which)
         }
         Expr::Unary(signs, part) => {
-            print_signs(out, signs.items())?;
-            print_expression(out, depth.saturating_add(1), part.get())
+            print_signs(out, depth, signs.items())?;
+            print_expression(out, below, part.get())
         }
         Expr::Chain(first, links) => {
-            writeln!(out, "chain")?;
-            print_expression(out, depth.saturating_add(1), first.get())?;
-            print_links(out, depth.saturating_add(1), links.items())
+            print_word(out, depth, "chain")?;
+            print_expression(out, below, first.get())?;
+            print_links(out, below, links.items())
         }
         Expr::All(parts) => {
-            writeln!(out, "all")?;
-            print_expressions(out, depth.saturating_add(1), parts.items())
+            print_word(out, depth, "all")?;
+            print_expressions(out, below, parts.items())
         }
         Expr::Any(parts) => {
-            writeln!(out, "any")?;
-            print_expressions(out, depth.saturating_add(1), parts.items())
+            print_word(out, depth, "any")?;
+            print_expressions(out, below, parts.items())
         }
     }
 }
 
 /// The signs, on one line.
-fn print_signs(out: &mut String, signs: &[Sign]) -> Result<(), AllocError> {
+fn print_signs(out: &mut String, depth: usize, signs: &[Sign]) -> Result<(), AllocError> {
+    begin(out, depth)?;
     out.push_str("signs")?;
     for sign in signs {
         let kind = sign.kind;
@@ -83,14 +122,17 @@ fn print_expressions(out: &mut String, depth: usize, parts: &[Expr]) -> Result<(
     Ok(())
 }
 
+/// An operator.
+fn print_operator(out: &mut String, depth: usize, op: Op, line: u32) -> Result<(), AllocError> {
+    begin(out, depth)?;
+    writeln!(out, "link {op:?} line {line}")
+}
+
 /// Operators, each with the operand behind it.
 #[cycle(expression)]
 fn print_links(out: &mut String, depth: usize, links: &[Link]) -> Result<(), AllocError> {
     for link in links {
-        let op = link.op;
-        let line = link.line;
-        begin(out, depth)?;
-        writeln!(out, "link {op:?} line {line}")?;
+        print_operator(out, depth, link.op, link.line)?;
         print_expression(out, depth.saturating_add(1), &link.right)?;
     }
     Ok(())
@@ -99,9 +141,7 @@ fn print_links(out: &mut String, depth: usize, links: &[Link]) -> Result<(), All
 /// Which element.
 #[cycle(expression)]
 fn print_subscript(out: &mut String, depth: usize, which: &Subscript) -> Result<(), AllocError> {
-    let line = which.line;
-    begin(out, depth)?;
-    writeln!(out, "subscript line {line}")?;
+    print_lined(out, depth, "subscript", which.line)?;
     print_expression(out, depth.saturating_add(1), which.index.get())
 }
 
@@ -110,11 +150,10 @@ fn print_call(
     out: &mut String,
     depth: usize,
     line: u32,
-    word: &str,
+    word: &Text,
     arguments: &[Expr],
 ) -> Result<(), AllocError> {
-    begin(out, depth)?;
-    writeln!(out, "call {word} line {line}")?;
+    print_named(out, depth, "call", word, line)?;
     print_expressions(out, depth.saturating_add(1), arguments)
 }
 
@@ -123,34 +162,43 @@ fn print_value(out: &mut String, depth: usize, value: &Value) -> Result<(), Allo
     match value {
         Value::Plain(tree) => print_expression(out, depth, tree),
         Value::Call(line, word, arguments) => {
-            print_call(out, depth, *line, word.as_str(), arguments.items())
+            print_call(out, depth, *line, word, arguments.items())
         }
     }
 }
 
-/// The locals of a declaration, each with its value where it has one.
+/// A local of a declaration, with its value where it has one.
+fn print_item(out: &mut String, depth: usize, item: &Item) -> Result<(), AllocError> {
+    print_named(out, depth, "item", &item.name, item.line)?;
+    match &item.value {
+        Some(value) => print_value(out, depth.saturating_add(1), value),
+        None => Ok(()),
+    }
+}
+
+/// The locals of a declaration.
 fn print_items(out: &mut String, depth: usize, items: &[Item]) -> Result<(), AllocError> {
     for item in items {
-        let line = item.line;
-        begin(out, depth)?;
-        writeln!(out, "item {} line {line}", item.name)?;
-        if let Some(value) = &item.value {
-            print_value(out, depth.saturating_add(1), value)?;
-        }
+        print_item(out, depth, item)?;
     }
     Ok(())
 }
 
-/// An assignment: its operator, which element where it is one, and the value.
-fn print_assign(out: &mut String, depth: usize, tree: &Assign) -> Result<(), AllocError> {
+/// The line of an assignment: the name, and the operator, each with its line.
+fn print_assigned(out: &mut String, depth: usize, tree: &Assign) -> Result<(), AllocError> {
     let line = tree.line;
     let op_line = tree.op_line;
     begin(out, depth)?;
     write!(out, "assign {} line {line} operator ", tree.name)?;
     match tree.op {
-        Some(op) => writeln!(out, "{op:?} line {op_line}")?,
-        None => writeln!(out, "none line {op_line}")?,
+        Some(op) => writeln!(out, "{op:?} line {op_line}"),
+        None => writeln!(out, "none line {op_line}"),
     }
+}
+
+/// An assignment: its operator, which element where it is one, and the value.
+fn print_assign(out: &mut String, depth: usize, tree: &Assign) -> Result<(), AllocError> {
+    print_assigned(out, depth, tree)?;
     if let Some(which) = &tree.subscript {
         print_subscript(out, depth.saturating_add(1), which)?;
     }
@@ -217,7 +265,7 @@ fn print_statement(out: &mut String, depth: usize, tree: &Stmt) -> Result<(), Al
         }
         Stmt::Assign(assign) => print_assign(out, depth, assign),
         Stmt::Call(line, word, arguments) => {
-            print_call(out, depth, *line, word.as_str(), arguments.items())
+            print_call(out, depth, *line, word, arguments.items())
         }
         Stmt::Block(body) => print_body(out, depth, body.items(), "block"),
         Stmt::If(arms, last) => {
@@ -229,14 +277,8 @@ fn print_statement(out: &mut String, depth: usize, tree: &Stmt) -> Result<(), Al
             print_word(out, depth, "return")?;
             print_expression(out, below, value)
         }
-        Stmt::Break(line) => {
-            begin(out, depth)?;
-            writeln!(out, "break line {line}")
-        }
-        Stmt::Continue(line) => {
-            begin(out, depth)?;
-            writeln!(out, "continue line {line}")
-        }
+        Stmt::Break(line) => print_lined(out, depth, "break", *line),
+        Stmt::Continue(line) => print_lined(out, depth, "continue", *line),
         _ => print_loop(out, depth, tree),
     }
 }
@@ -247,29 +289,24 @@ fn print_loop(out: &mut String, depth: usize, tree: &Stmt) -> Result<(), AllocEr
     let below = depth.saturating_add(1);
     match tree {
         Stmt::While(line, test, body) => {
-            begin(out, depth)?;
-            writeln!(out, "while line {line}")?;
+            print_lined(out, depth, "while", *line)?;
             print_test(out, below, test)?;
             print_body(out, below, body.items(), "body")
         }
         Stmt::For(line, head, body) => {
-            begin(out, depth)?;
-            writeln!(out, "for line {line}")?;
+            print_lined(out, depth, "for", *line)?;
             print_head(out, below, head.get())?;
             print_body(out, below, body.items(), "body")
         }
         Stmt::Do(line, body, test) => {
-            begin(out, depth)?;
-            writeln!(out, "do line {line}")?;
+            print_lined(out, depth, "do", *line)?;
             print_body(out, below, body.items(), "body")?;
             print_test(out, below, test)
         }
         Stmt::Loop(line, name, body, end_line, end_name) => {
-            begin(out, depth)?;
-            writeln!(out, "loop {name} line {line}")?;
+            print_named(out, depth, "loop", name, *line)?;
             print_body(out, below, body.items(), "body")?;
-            begin(out, below)?;
-            writeln!(out, "finish {end_name} line {end_line}")
+            print_named(out, below, "finish", end_name, *end_line)
         }
         _ => Ok(()),
     }
@@ -278,8 +315,7 @@ fn print_loop(out: &mut String, depth: usize, tree: &Stmt) -> Result<(), AllocEr
 /// The parameters of a function.
 fn print_parameters(out: &mut String, parameters: &[Parameter]) -> Result<(), AllocError> {
     for parameter in parameters {
-        let line = parameter.line;
-        writeln!(out, "  parameter {} line {line}", parameter.name)?;
+        print_named(out, 1, "parameter", &parameter.name, parameter.line)?;
     }
     Ok(())
 }
@@ -287,8 +323,7 @@ fn print_parameters(out: &mut String, parameters: &[Parameter]) -> Result<(), Al
 /// The function definitions of a file.
 pub(crate) fn print_definitions(out: &mut String, functions: &[Def]) -> Result<(), AllocError> {
     for function in functions {
-        let line = function.line;
-        writeln!(out, "function {} line {line}", function.name)?;
+        print_named(out, 0, "function", &function.name, function.line)?;
         print_parameters(out, function.parameters.items())?;
         print_body(out, 1, function.body.items(), "body")?;
     }
@@ -298,8 +333,7 @@ pub(crate) fn print_definitions(out: &mut String, functions: &[Def]) -> Result<(
 /// The names of the functions of a file, without what they hold.
 pub(crate) fn print_names(out: &mut String, functions: &[Def]) -> Result<(), AllocError> {
     for function in functions {
-        let line = function.line;
-        writeln!(out, "function {} line {line}", function.name)?;
+        print_named(out, 0, "function", &function.name, function.line)?;
     }
     Ok(())
 }
