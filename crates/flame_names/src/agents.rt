@@ -81,6 +81,28 @@ fn add_memory<'a>(
     refuse_wide(alloc, place, variable, earlier)
 }
 
+/// Adds the memory variables of the list at this place to none, with their capitals.
+fn add_memories<'a, 'p>(
+    alloc: Global,
+    constants: &Capitals,
+    place: &'p Place<'p>,
+    variables: &'a [Variable],
+    earlier: &mut Variables<'a>,
+    own: &mut Capitals,
+) -> Result<(), Fail<NameFault>>
+    requires variables { earlier.old ≡ [] }
+    requires capitals { own.old ≡ [] }
+    ensures none { OnOk result (memory_faults constants.now (text_of place.now) variables.now ≡ []) }
+    ensures variables { OnOk result (earlier.new ≡ variables.now) }
+    ensures first { IfErr result (FailsFirst (memory_faults constants.now (text_of place.now) variables.now)) }
+{
+    for (i, variable) in variables.iter().enumerate() {
+        let place = Place::Member(place, i);
+        add_memory(alloc, constants, &place, variable, earlier, own)?;
+    }
+    Ok(())
+}
+
 /// The memory variables of the list at this place.
 fn memory<'a, 'p>(
     alloc: Global,
@@ -94,10 +116,7 @@ fn memory<'a, 'p>(
 {
     let mut earlier = Variables::new(alloc);
     let mut own = Capitals::new(alloc);
-    for (i, variable) in variables.iter().enumerate() {
-        let place = Place::Member(place, i);
-        add_memory(alloc, constants, &place, variable, &mut earlier, &mut own)?;
-    }
+    add_memories(alloc, constants, place, variables, &mut earlier, &mut own)?;
     Ok(earlier)
 }
 

@@ -102,6 +102,33 @@ fn add_apart<'a>(
     Ok(())
 }
 
+/// Adds the constants of the list at this place to none, with their capitals.
+fn add_constants<'a, 'p>(
+    alloc: Global,
+    place: &'p Place<'p>,
+    constants: &'a [Text],
+    earlier: &mut Names<'a>,
+    shouted: &mut Capitals,
+) -> Result<(), Fail<NameFault>>
+    requires names { earlier.old ≡ [] }
+    requires capitals { shouted.old ≡ [] }
+    ensures none { OnOk result (constant_faults (text_of place.now) constants.now ≡ []) }
+    ensures capitals { OnOk result (shouted.new ≡ map capitals constants.now) }
+    ensures first { IfErr result (FailsFirst (constant_faults (text_of place.now) constants.now)) }
+{
+    for (i, name) in constants.iter().enumerate() {
+        let member = Place::Member(place, i);
+        add_apart(
+            alloc,
+            &Place::Key(&member, "name"),
+            name.as_str(),
+            earlier,
+            shouted,
+        )?;
+    }
+    Ok(())
+}
+
 /// The constants of the list at this place, in capitals.
 pub fn constants<'p>(
     alloc: Global,
@@ -114,16 +141,7 @@ pub fn constants<'p>(
 {
     let mut earlier = Names::new(alloc);
     let mut shouted = Capitals::new(alloc);
-    for (i, name) in constants.iter().enumerate() {
-        let member = Place::Member(place, i);
-        add_apart(
-            alloc,
-            &Place::Key(&member, "name"),
-            name.as_str(),
-            &mut earlier,
-            &mut shouted,
-        )?;
-    }
+    add_constants(alloc, place, constants, &mut earlier, &mut shouted)?;
     Ok(shouted)
 }
 

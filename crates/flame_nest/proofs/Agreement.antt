@@ -14,9 +14,9 @@ use Rattle.std.proofs.lemmas.Bool.{and_parts}
 use Rattle.flame_spec.specs.declared.wide.WideVariable.{WideVariable}
 use Rattle.flame_spec.specs.KnownNames.{is_among}
 use Rattle.flame_nest.specs.NestFaults.{is_alike, Declaration, given_by, differs, is_given}
-use Rattle.flame_nest.specs.KindTables.{look}
+use Rattle.flame_name_sets.specs.NameTables.{look}
 use Rattle.flame_nest.specs.GivenTables.{Agreed, GivenTable, agreed_with, differs_from, given_in, with_entry, with_declaration}
-use Rattle.flame_nest.proofs.Looks.{look-with_entry}
+use Rattle.flame_nest.proofs.Entries.{look-with_entry}
 
 -- ---- alike is the same
 

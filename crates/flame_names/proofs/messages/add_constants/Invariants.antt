@@ -4,7 +4,7 @@ use Rattle.flame_ops.specs.Ascii.{capitals}
 use Rattle.flame_spec.specs.Paths.{at_key, at_number}
 use Rattle.flame_spec.specs.MessageFaults.{apart_faults, constant_faults}
 use Rattle.flame_names.specs.PlacePaths.{text_of}
-use Rattle.flame_names.proofs.messages.constants.Given as goal
+use Rattle.flame_names.proofs.messages.add_constants.Given as goal
 
 abbrev pub invariant-loop-i : goal.invariant-loop-i
 invariant-loop-i l = record {

@@ -4,7 +4,7 @@ use Rattle.flame_spec.specs.Paths.{at_key, at_number}
 use Rattle.flame_spec.specs.MessageFaults.{apart_faults}
 use Rattle.flame_names.specs.PlacePaths.{text_of}
 use Rattle.flame_names.proofs.Rests.{fails-member}
-use Rattle.flame_names.proofs.messages.constants.Goals as goal
+use Rattle.flame_names.proofs.messages.add_constants.Goals as goal
 
 pub returns-in_err-add_apart-clause-first : goal.returns-in_err-add_apart-clause-first
 returns-in_err-add_apart-clause-first c =
