@@ -9,7 +9,7 @@ use Rattle.flame_spec.specs.Definitions.{Definition, helpers}
 use Rattle.flame_spec.specs.HelperFaults.{statements_call, helper_context, caller_calls, is_called_by}
 use Rattle.flame_spec.specs.Seen.{statements}
 use Rattle.flame_lookup.specs.declared.found.CFunction.{CFunction}
-use Rattle.flame_lookup.specs.Sources.{Sources, Standing, context_at}
+use Rattle.flame_lookup.specs.Sources.{Sources, BodyPlace, context_at}
 use Rattle.flame_lookup.specs.WordsFound.{definition_found}
 use Rattle.flame_graph.specs.Graph.{AreSuccessors, follows, AreAscending}
 use Rattle.flame_graph.specs.Marks.{marked_where}
@@ -31,7 +31,7 @@ faults_are model hs ds lists read e a r =
     ∙ ap (faults_among hs) (follows_is (length hs) (is_called_by model hs) lists (uncalled model hs) a)
 
 -- a helper's words and body say what the definition says of it
-pub listed_more : (sources : Sources) (i : ℕ) (helper : CFunction) (words : Standing) (body : List Stmt) (f : ℕ) (old new : List ℕ)
+pub listed_more : (sources : Sources) (i : ℕ) (helper : CFunction) (words : BodyPlace) (body : List Stmt) (f : ℕ) (old new : List ℕ)
     → slice_get (helpers sources.model sources.units) i ≡ Some (definition_found helper)
     → words ≡ record { sources = sources; runs = None; file = helper.file }
     → body ≡ helper.def.now.body

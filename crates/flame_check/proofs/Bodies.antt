@@ -10,7 +10,7 @@ use Rattle.flame_spec.specs.Functions.{Place}
 use Rattle.flame_spec.specs.Scopes.{at_entry, after_parameters}
 use Rattle.flame_spec.specs.Trees.{Statements, no_more}
 use Rattle.std.specs.Prelude.{find}
-use Rattle.flame_lookup.specs.Sources.{Standing, context_at}
+use Rattle.flame_lookup.specs.Sources.{BodyPlace, context_at}
 use Rattle.flame_body.specs.declared.slots.SlotStmt.{SlotStmt}
 use Rattle.flame_body.specs.FunctionBodies.{NumberedBody, function_body, widths_in, words_of}
 use Rattle.flame_body.specs.NumberedTrees.{numbered_statements}
@@ -18,7 +18,7 @@ use Rattle.flame_numbering.specs.WordPlaces.{words_at}
 use Rattle.flame_check.proofs.Clean.{Runs, bare, clean_run}
 
 -- where its words stand
-abbrev pub standing_by : Model → List file.Unit → Place → Definition → Standing
+abbrev pub standing_by : Model → List file.Unit → Place → Definition → BodyPlace
 standing_by model units place d = record {
   sources = record { model = model; units = units };
   runs = Some place;
@@ -36,14 +36,14 @@ body_is model units number place d runs =
 
 -- its tree
 tree_is :
-    (model : Model) (units : List file.Unit) (number : ℕ) (place : Place) (d : Definition) (standing : Standing)
+    (model : Model) (units : List file.Unit) (number : ℕ) (place : Place) (d : Definition) (standing : BodyPlace)
     → check_faults model units ≡ []
     → Runs model units number place d
     → standing ≡ standing_by model units place d
     → numbered_statements (words_at standing) (after_parameters at_entry d.parameters) d.body
     ≡ numbered_statements (words_of model units (Some place)) at_entry (body_of units place.function)
 tree_is model units number place d standing clean runs is =
-    ap (λ (s : Standing). numbered_statements (words_at s) (after_parameters at_entry d.parameters) d.body) is
+    ap (λ (s : BodyPlace). numbered_statements (words_at s) (after_parameters at_entry d.parameters) d.body) is
     ∙ ap
     (λ (parameters : List Parameter).
     numbered_statements (words_of model units (Some place)) (after_parameters at_entry parameters) d.body)
@@ -54,7 +54,7 @@ tree_is model units number place d standing clean runs is =
 
 -- its body
 pub function_body_is :
-    (model : Model) (units : List file.Unit) (number : ℕ) (place : Place) (d : Definition) (standing : Standing)
+    (model : Model) (units : List file.Unit) (number : ℕ) (place : Place) (d : Definition) (standing : BodyPlace)
     (widths : Widths) (body : NumberedBody)
     → check_faults model units ≡ []
     → Runs model units number place d
@@ -75,10 +75,10 @@ function_body_is model units number place d standing widths body clean runs is w
 
 -- it has no faults
 pub function_clean :
-    (model : Model) (units : List file.Unit) (number : ℕ) (place : Place) (d : Definition) (standing : Standing)
+    (model : Model) (units : List file.Unit) (number : ℕ) (place : Place) (d : Definition) (standing : BodyPlace)
     → check_faults model units ≡ []
     → Runs model units number place d
     → standing ≡ standing_by model units place d
     → definition_faults (context_at standing) d ≡ []
 function_clean model units number place d standing clean runs is =
-    ap (λ (s : Standing). definition_faults (context_at s) d) is ∙ clean_run model units number place d clean runs
+    ap (λ (s : BodyPlace). definition_faults (context_at s) d) is ∙ clean_run model units number place d clean runs

@@ -18,9 +18,9 @@ use crate::rows::Rows;
 use flame_body::Body;
 use flame_body::laws::definitions_fit;
 use flame_lookup::{CFunction, Tables, Transition, Words, number};
+use flame_numbering::definition;
 use flame_rows::{Fail, Seq};
 use flame_spec::{CheckFault, Function, Widths};
-use flame_numbering::definition;
 use std::alloc::Global;
 
 /// The body of the C function with numbers in place of names, under this number; or its first fault.

@@ -9,9 +9,9 @@ ghost use Rattle.flame_spec.specs.Functions.{functions};
 ghost use Rattle.flame_lookup.specs.WordsFound.{definition_found};
 
 use flame_lookup::{CFunction, Tables};
+use flame_numbering::definition;
 use flame_rows::Fail;
 use flame_spec::CheckFault;
-use flame_numbering::definition;
 use std::alloc::Global;
 
 /// The body of the C function has no fault for any function of the model that it is one for.

@@ -15,15 +15,15 @@ use Rattle.flame_code.specs.InputRows.{rows_of, HaveWidths}
 use Rattle.flame_code.specs.Routines.{Routine, none_delivered}
 use Rattle.flame_code.specs.Validity.{starts, IsValid}
 use Rattle.flame_code.specs.HelperCodes.{HelperCodes, AreHelpers, calls_below, call_fits, calls_fit, sees_nothing}
-use Rattle.flame_code.specs.Machine.{Given, Config, End, returned, faulted, Turn, on, over, calls, stuck, step}
+use Rattle.flame_code.specs.Machine.{Given, Config, End, returned, faulted, StepEnd, on, over, calls, stuck, step}
 use Rattle.flame_code.specs.Meanings.{Runs, last, more, back, fall, entry, resumed, begun, Means, Entry, outcome_of, memory_after}
 use Rattle.flame_code.specs.CodeLaws.{IsReady}
-use Rattle.flame_code.specs.Stands.{Stands}
+use Rattle.flame_code.specs.OnPath.{IsOnPath}
 use Rattle.flame_code.proofs.Safety.{left, not_stuck, on_stands, on_falls, on_less, back_stands, back_falls, back_less, back_named, over_less}
 
 -- ---- where runs begin
 
-pub begun_stands : (r : Routine) (memory : List ℤ) (feeds : List Fed) (fuel : ℕ) → length memory ≡ r.widths.memory → HaveWidths r.widths.inputs (rows_of feeds) → Stands r (begun memory feeds fuel)
+pub begun_stands : (r : Routine) (memory : List ℤ) (feeds : List Fed) (fuel : ℕ) → length memory ≡ r.widths.memory → HaveWidths r.widths.inputs (rows_of feeds) → IsOnPath r (begun memory feeds fuel)
 begun_stands r memory feeds fuel m rows = record {
   delivered = none_delivered;
   path = starts;
@@ -41,7 +41,7 @@ blind_memory r b = eqb-true _ _ (and_parts _ _ b).0
 pub blind_inputs : (r : Routine) → sees_nothing r ≡ true → length r.widths.inputs ≡ 0
 blind_inputs r b = eqb-true _ _ (and_parts _ _ (and_parts _ _ b).1).0
 
-pub entry_stands : (r : Routine) (args : List ℤ) (fuel : ℕ) → sees_nothing r ≡ true → Stands r (entry args fuel)
+pub entry_stands : (r : Routine) (args : List ℤ) (fuel : ℕ) → sees_nothing r ≡ true → IsOnPath r (entry args fuel)
 entry_stands r args fuel blind = record {
   delivered = none_delivered;
   path = starts;
@@ -95,7 +95,7 @@ abbrev pub AreValid : HelperCodes → Type 0
 AreValid helpers = (h : ℕ) (r : Routine) → slice_get helpers.routines h ≡ Some r → IsValid r
 
 module _ (g : Given) (helpers : HelperCodes) (are : AreHelpers helpers) (all_valid : AreValid helpers) where
-  pub run_fell : (r : Routine) (c : Config) (e : End) → IsValid r → Stands r c → Runs g helpers.routines r c e → Fell e c.fuel
+  pub run_fell : (r : Routine) (c : Config) (e : End) → IsValid r → IsOnPath r c → Runs g helpers.routines r c e → Fell e c.fuel
   run_fell r c (returned v d) valid stands (last s) = over_less r valid g c d v stands s
   run_fell r c (faulted f) valid stands (last s) = tt
   run_fell r c e valid stands (more {d = d} s rest) =
@@ -113,14 +113,14 @@ module _ (g : Given) (helpers : HelperCodes) (are : AreHelpers helpers) (all_val
 
   -- each run of less fuel than this ends
   abbrev Ends : ℕ → Type 0
-  Ends fuel = (r : Routine) (c : Config) → IsValid r → calls_fit helpers.parameters r ≡ true → Stands r c → c.fuel < fuel → Finds r c
+  Ends fuel = (r : Routine) (c : Config) → IsValid r → calls_fit helpers.parameters r ≡ true → IsOnPath r c → c.fuel < fuel → Finds r c
 
   module _ (fuel : ℕ) (below : Ends fuel) (r : Routine) (valid : IsValid r) (fit : calls_fit helpers.parameters r ≡ true) where
     -- each run of which less than this is left ends
     abbrev EndsBelow : ℕ → Type 0
-    EndsBelow k = (c : Config) → Stands r c → left r c.place c.fuel < k → c.fuel < suc fuel → Finds r c
+    EndsBelow k = (c : Config) → IsOnPath r c → left r c.place c.fuel < k → c.fuel < suc fuel → Finds r c
 
-    back_ends : (k : ℕ) → EndsBelow k → (c d : Config) (h : ℕ) (args : List ℤ) (inner : Routine) → Stands r c → left r c.place c.fuel < suc k → c.fuel < suc fuel
+    back_ends : (k : ℕ) → EndsBelow k → (c d : Config) (h : ℕ) (args : List ℤ) (inner : Routine) → IsOnPath r c → left r c.place c.fuel < suc k → c.fuel < suc fuel
         → step g r c ≡ calls h args d → slice_get helpers.routines h ≡ Some inner → (e : End) → Runs g helpers.routines inner (entry args d.fuel) e → Finds r c
     back_ends k next c d h args inner stands lt less s named (returned v lft) runs =
         let inner_fell : lft.fuel ≤ d.fuel = run_fell inner (entry args d.fuel) (returned v lft) (all_valid h inner named) (entry_stands inner args d.fuel (are.blind h inner named)) runs in
@@ -131,7 +131,7 @@ module _ (g : Given) (helpers : HelperCodes) (are : AreHelpers helpers) (all_val
     back_ends k next c d h args inner stands lt less s named (faulted f) runs =
         record { end = faulted f; runs = fall h args d inner f s named runs }
 
-    turn_ends : (k : ℕ) → EndsBelow k → (c : Config) → Stands r c → left r c.place c.fuel < suc k → c.fuel < suc fuel → (t : Turn) → step g r c ≡ t → Finds r c
+    turn_ends : (k : ℕ) → EndsBelow k → (c : Config) → IsOnPath r c → left r c.place c.fuel < suc k → c.fuel < suc fuel → (t : StepEnd) → step g r c ≡ t → Finds r c
     turn_ends k next c stands lt less (on d) s =
         let falls = on_falls r valid g c d stands s in
         let lower = on_less r valid g c d stands s in
@@ -155,12 +155,12 @@ module _ (g : Given) (helpers : HelperCodes) (are : AreHelpers helpers) (all_val
   ends (suc fuel) r c valid fit stands less =
       ends_below fuel (ends fuel) r valid fit (suc (left r c.place c.fuel)) c stands (omega arith) less
 
-  pub some_end : (r : Routine) (c : Config) → IsValid r → calls_fit helpers.parameters r ≡ true → Stands r c → (e : End) × Runs g helpers.routines r c e
+  pub some_end : (r : Routine) (c : Config) → IsValid r → calls_fit helpers.parameters r ≡ true → IsOnPath r c → (e : End) × Runs g helpers.routines r c e
   some_end r c valid fit stands = let f = ends (suc c.fuel) r c valid fit stands (omega arith) in (f.end, f.runs)
 
 -- ---- meanings
 
-ready_stands : (helpers : HelperCodes) (r : Routine) (from : Entry) → IsReady helpers r from → Stands r (begun from.memory from.feeds from.fuel)
+ready_stands : (helpers : HelperCodes) (r : Routine) (from : Entry) → IsReady helpers r from → IsOnPath r (begun from.memory from.feeds from.fuel)
 ready_stands helpers r from ready = begun_stands r from.memory from.feeds from.fuel ready.entry.memory ready.entry.rows
 
 abbrev given : Entry → Given

@@ -8,7 +8,7 @@ use Rattle.flame_rows.proofs.Lists.{slice_get-slice_set}
 use Rattle.flame_code.specs.Feeds.{Fed, with_come, has_more, with_more, with_input, last_of, last_come, at_start, has_next, at_next, field}
 use Rattle.flame_code.specs.InputRows.{rows_of, HaveWidths}
 use Rattle.flame_code.specs.Routines.{Delivered, delivery}
-use Rattle.flame_code.specs.Stands.{AreCurrent}
+use Rattle.flame_code.specs.OnPath.{AreCurrent}
 
 get_other : (xs : List Fed) (i k : ℕ) (x : Fed) → k ≢ i → slice_get (slice_set xs i x) k ≡ slice_get xs k
 get_other [] i k x ne = refl

@@ -7,7 +7,7 @@ use Rattle.flame_code.specs.declared.instrs.Instr.TheVariants.{Push}
 use Rattle.flame_code.specs.Routines.{Routine, takes, leaves, Delivered}
 use Rattle.flame_code.specs.Validity.{Path, starts, goes, jumps, IsValid}
 use Rattle.flame_code.specs.Machine.{Config}
-use Rattle.flame_code.specs.Stands.{Stands}
+use Rattle.flame_code.specs.OnPath.{IsOnPath}
 use Rattle.flame_code.proofs.Safety.{path_within}
 
 -- ORDER INSTRUCTIONS
@@ -100,5 +100,5 @@ module _ (r : Routine) (valid : IsValid r) (p h : ℕ) (d : Delivered) (path : P
       }) in
       omega arith
 
-pub stack_within : (r : Routine) (c : Config) → IsValid r → Stands r c → length c.stack < length r.instrs
+pub stack_within : (r : Routine) (c : Config) → IsValid r → IsOnPath r c → length c.stack < length r.instrs
 stack_within r c valid stands = height_within r valid c.place (length c.stack) stands.delivered stands.path

@@ -22,10 +22,10 @@ use Rattle.flame_code.specs.Feeds.{with_come, with_more, at_start, has_next, at_
 use Rattle.flame_code.specs.InputRows.{rows_of, HaveWidths}
 use Rattle.flame_code.specs.Routines.{Routine, takes_and_leaves, takes, leaves, goes_on, target, Delivered, passed, jumped}
 use Rattle.flame_code.specs.Validity.{Moves, Path, starts, goes, jumps, SpendsFuel, GoesForward, IsValid}
-use Rattle.flame_code.specs.Machine.{Locals, set_local, Given, Config, returned, faulted, Turn, on, over, calls, stuck}
+use Rattle.flame_code.specs.Machine.{Locals, set_local, Given, Config, returned, faulted, StepEnd, on, over, calls, stuck}
 use Rattle.flame_code.specs.Machine.{next, goto, with_top, with_two, with_row, push_held, operate, element_of, with_element, push_found, pay_from, deliver, act, step}
 use Rattle.flame_code.specs.Meanings.{resumed}
-use Rattle.flame_code.specs.Stands.{AreCurrent, Stands}
+use Rattle.flame_code.specs.OnPath.{AreCurrent, IsOnPath}
 use Rattle.flame_code.proofs.InputMoves.{rows-at_start, rows-at_next, stays_current, left_current, comes_current, field_there}
 
 -- ---- what is left of a run
@@ -46,14 +46,14 @@ left r p fuel = fuel * span r + rank_at (length r.instrs) (slice_get r.instrs p)
 
 -- what a step leaves
 record Goes (r : Routine) (c d : Config) : Type 0 where
-  stands : Stands r d
+  stands : IsOnPath r d
   falls : left r d.place d.fuel < left r c.place c.fuel
   less : d.fuel ≤ c.fuel
   rows : rows_of d.feeds ≡ rows_of c.feeds
 
 -- what a call leaves, to go on from with the value on the stack
 record GoesBack (r : Routine) (c : Config) (helper : ℕ) (d : Config) : Type 0 where
-  stands : (v : ℤ) (f : ℕ) → Stands r (resumed v f d)
+  stands : (v : ℤ) (f : ℕ) → IsOnPath r (resumed v f d)
   falls : (f : ℕ) → f ≤ d.fuel → left r d.place f < left r c.place c.fuel
   less : d.fuel < c.fuel
   named : (line n : ℕ) × (slice_get r.instrs c.place ≡ Some (Call line helper n))
@@ -64,32 +64,32 @@ record Leaves (c d : Config) : Type 0 where
   less : d.fuel ≤ c.fuel
   rows : rows_of d.feeds ≡ rows_of c.feeds
 
-abbrev TurnsTo : Routine → Config → Turn → Type 0
-TurnsTo r c (on d) = Goes r c d
-TurnsTo r c (over (returned v d)) = Leaves c d
-TurnsTo r c (over (faulted f)) = Unit {0}
-TurnsTo r c (calls h args d) = GoesBack r c h d
-TurnsTo r c stuck = ⊥
+abbrev StepsTo : Routine → Config → StepEnd → Type 0
+StepsTo r c (on d) = Goes r c d
+StepsTo r c (over (returned v d)) = Leaves c d
+StepsTo r c (over (faulted f)) = Unit {0}
+StepsTo r c (calls h args d) = GoesBack r c h d
+StepsTo r c stuck = ⊥
 
-module _ (P : Turn → Type 0) where
-  top_of : (stack : List ℤ) (go : ℤ → List ℤ → Turn) → 1 ≤ length stack
+module _ (P : StepEnd → Type 0) where
+  top_of : (stack : List ℤ) (go : ℤ → List ℤ → StepEnd) → 1 ≤ length stack
       → ((v : ℤ) (rest : List ℤ) → length stack ≡ suc (length rest) → P (go v rest)) → P (with_top stack go)
   top_of [] go le all = absurd (omega arith)
   top_of (v ∷ rest) go le all = all v rest refl
 
-  two_of : (stack : List ℤ) (go : ℤ → ℤ → List ℤ → Turn) → 2 ≤ length stack
+  two_of : (stack : List ℤ) (go : ℤ → ℤ → List ℤ → StepEnd) → 2 ≤ length stack
       → ((v w : ℤ) (rest : List ℤ) → length stack ≡ suc (suc (length rest)) → P (go v w rest)) → P (with_two stack go)
   two_of [] go le all = absurd (omega arith)
   two_of (w ∷ []) go le all = absurd (omega arith)
   two_of (w ∷ v ∷ rest) go le all = all v w rest refl
 
-  row_of : (n : ℕ) (stack : List ℤ) (go : List ℤ → List ℤ → Turn) → n ≤ length stack
+  row_of : (n : ℕ) (stack : List ℤ) (go : List ℤ → List ℤ → StepEnd) → n ≤ length stack
       → ((row rest : List ℤ) → length stack ≡ length rest + n → P (go row rest)) → P (with_row n stack go)
   row_of n stack go le all =
       subst P (sym (cond-true (nat_le n (length stack)) (go (reverse (take n stack)) (drop n stack)) stuck (le-leb n (length stack) le)))
       (all (reverse (take n stack)) (drop n stack) (omega (arith, length-drop n stack)))
 
-  by_test : (b : Bool) (s t : Turn) → P s → P t → P (cond b s t)
+  by_test : (b : Bool) (s t : StepEnd) → P s → P t → P (cond b s t)
   by_test true s t p q = p
   by_test false s t p q = q
 
@@ -135,7 +135,7 @@ module _ (r : Routine) (valid : IsValid r) where
       let y : suc f * span r ≡ f * span r + span r = omega arith in
       omega arith
 
-  module _ (c : Config) (stands : Stands r c) (i : Instr) (at : slice_get r.instrs c.place ≡ Some i) where
+  module _ (c : Config) (stands : IsOnPath r c) (i : Instr) (at : slice_get r.instrs c.place ≡ Some i) where
     here : c.place < length r.instrs
     here = slice_get_within r.instrs c.place i at
 
@@ -221,34 +221,34 @@ module _ (r : Routine) (valid : IsValid r) where
     pushes : (stack : List ℤ) → goes_on i ≡ true
         → rank_at (length r.instrs) (Some i) c.place ≡ 2 * (length r.instrs - c.place) + 1
         → Moves r.widths i (length c.stack) (length stack) → AreCurrent (passed i stands.delivered) c.feeds
-        → TurnsTo r c (next stack c)
+        → StepsTo r c (next stack c)
     pushes stack on_ rank moves current = plain stack c.locals c.memory c.sent c.born on_ rank moves current refl
 
     held : (line : ℕ) (o : Result ℤ Cause) (stack : List ℤ) → goes_on i ≡ true
         → rank_at (length r.instrs) (Some i) c.place ≡ 2 * (length r.instrs - c.place) + 1
         → Moves r.widths i (length c.stack) (suc (length stack)) → AreCurrent (passed i stands.delivered) c.feeds
-        → TurnsTo r c (push_held line o stack c)
+        → StepsTo r c (push_held line o stack c)
     held line (Ok v) stack on_ rank moves current = pushes (v ∷ stack) on_ rank moves current
     held line (Err cause) stack on_ rank moves current = tt
 
-    element_ok : (line : ℕ) (o : Option ℕ) (go : ℕ → Turn) → ((v : ℕ) → o ≡ Some v → TurnsTo r c (go v)) → TurnsTo r c (with_element line o go)
+    element_ok : (line : ℕ) (o : Option ℕ) (go : ℕ → StepEnd) → ((v : ℕ) → o ≡ Some v → StepsTo r c (go v)) → StepsTo r c (with_element line o go)
     element_ok line None go all = tt
     element_ok line (Some v) go all = all v refl
 
     found : (o : Option ℤ) (stack : List ℤ) (x : ℤ) → o ≡ Some x → goes_on i ≡ true
         → rank_at (length r.instrs) (Some i) c.place ≡ 2 * (length r.instrs - c.place) + 1
         → Moves r.widths i (length c.stack) (suc (length stack)) → AreCurrent (passed i stands.delivered) c.feeds
-        → TurnsTo r c (push_found o stack c)
+        → StepsTo r c (push_found o stack c)
     found o stack x e on_ rank moves current =
-        subst (λ o. TurnsTo r c (push_found o stack c)) (sym e) (pushes (x ∷ stack) on_ rank moves current)
+        subst (λ o. StepsTo r c (push_found o stack c)) (sym e) (pushes (x ∷ stack) on_ rank moves current)
 
-    paid : (f line : ℕ) (e : Config) (go : Config → Turn) → f ≡ c.fuel → ((k : ℕ) → k < c.fuel → TurnsTo r c (go (record e { fuel = k }))) → TurnsTo r c (pay_from f line e go)
+    paid : (f line : ℕ) (e : Config) (go : Config → StepEnd) → f ≡ c.fuel → ((k : ℕ) → k < c.fuel → StepsTo r c (go (record e { fuel = k }))) → StepsTo r c (pay_from f line e go)
     paid zero line e go same all = tt
     paid (suc f) line e go same all = all f (omega arith)
 
     jumps_to : (t : ℕ) (stack : List ℤ) → target i ≡ Some t
         → rank_at (length r.instrs) (Some i) c.place ≡ 2 * (length r.instrs - c.place) + 1
-        → Moves r.widths i (length c.stack) (length stack) → AreCurrent (jumped i stands.delivered) c.feeds → TurnsTo r c (goto t stack c)
+        → Moves r.widths i (length c.stack) (length stack) → AreCurrent (jumped i stands.delivered) c.feeds → StepsTo r c (goto t stack c)
     jumps_to t stack aims rank moves current =
         to_target (record c { place = t; stack = stack }) aims (jump_rank t aims rank) refl moves current refl refl
 
@@ -262,46 +262,46 @@ module _ (r : Routine) (valid : IsValid r) where
   element_in b n (negsuc k) v e = cc
 
   -- ORDER INSTRUCTIONS
-  module _ (g : Given) (c : Config) (stands : Stands r c) where
+  module _ (g : Given) (c : Config) (stands : IsOnPath r c) where
     abbrev At : Instr → Type 0
     At i = slice_get r.instrs c.place ≡ Some i
 
     operates : (o : Op) (line : ℕ) (i : Instr) → At i → takes_and_leaves r.widths i ≡ (2, 1) → goes_on i ≡ true
         → rank_at (length r.instrs) (Some i) c.place ≡ 2 * (length r.instrs - c.place) + 1
-        → AreCurrent (passed i stands.delivered) c.feeds → TurnsTo r c (operate o line c)
+        → AreCurrent (passed i stands.delivered) c.feeds → StepsTo r c (operate o line c)
     operates o line i at moves on_ rank current =
         let pops : takes r.widths i ≤ length c.stack = valid.pops stands.path at in
         let t : takes r.widths i ≡ 2 = ap (λ (m : ℕ × ℕ). m.0) moves in
         let l : leaves r.widths i ≡ 1 = ap (λ (m : ℕ × ℕ). m.1) moves in
-        two_of (TurnsTo r c) c.stack _ (omega arith)
+        two_of (StepsTo r c) c.stack _ (omega arith)
         (λ v w rest e. held c stands i at line (applied o v w) rest on_ rank (omega arith) current)
 
-    moves : (i : Instr) → At i → TurnsTo r c (act g r.widths (Some i) c)
+    moves : (i : Instr) → At i → StepsTo r c (act g r.widths (Some i) c)
     moves (Push n) at = pushes c stands (Push n) at (n ∷ c.stack) refl refl (omega arith) stands.current
     moves Dup at =
         let pops = valid.pops stands.path at in
-        top_of (TurnsTo r c) c.stack _ pops (λ v rest e. pushes c stands Dup at (v ∷ v ∷ rest) refl refl (omega arith) stands.current)
+        top_of (StepsTo r c) c.stack _ pops (λ v rest e. pushes c stands Dup at (v ∷ v ∷ rest) refl refl (omega arith) stands.current)
     moves Drop at =
         let pops = valid.pops stands.path at in
-        top_of (TurnsTo r c) c.stack _ pops (λ v rest e. pushes c stands Drop at rest refl refl (omega arith) stands.current)
+        top_of (StepsTo r c) c.stack _ pops (λ v rest e. pushes c stands Drop at rest refl refl (omega arith) stands.current)
     moves (Loc s) at = pushes c stands (Loc s) at (c.locals s ∷ c.stack) refl refl (omega arith) stands.current
     moves (SetLoc s) at =
         let pops = valid.pops stands.path at in
-        top_of (TurnsTo r c) c.stack _ pops
+        top_of (StepsTo r c) c.stack _ pops
         (λ v rest e. plain c stands (SetLoc s) at rest (set_local s v c.locals) c.memory c.sent c.born refl refl (omega arith) stands.current refl)
     moves (Mem m) at = pushes c stands (Mem m) at (number_at c.memory m ∷ c.stack) refl refl (omega arith) stands.current
     moves (SetMem m) at =
         let pops = valid.pops stands.path at in
-        top_of (TurnsTo r c) c.stack _ pops
+        top_of (StepsTo r c) c.stack _ pops
         (λ v rest e. plain c stands (SetMem m) at rest c.locals (slice_set c.memory m v) c.sent c.born refl refl (omega arith) stands.current (length-set c.memory m v))
     moves (MemAt l b n) at =
         let pops = valid.pops stands.path at in
-        top_of (TurnsTo r c) c.stack _ pops
+        top_of (StepsTo r c) c.stack _ pops
         (λ k rest e. element_ok c stands (MemAt l b n) at l (element_of b n k) _
         (λ m _. pushes c stands (MemAt l b n) at (number_at c.memory m ∷ rest) refl refl (omega arith) stands.current))
     moves (SetMemAt l b n) at =
         let pops = valid.pops stands.path at in
-        two_of (TurnsTo r c) c.stack _ pops
+        two_of (StepsTo r c) c.stack _ pops
         (λ k v rest e. element_ok c stands (SetMemAt l b n) at l (element_of b n k) _
         (λ m _. plain c stands (SetMemAt l b n) at rest c.locals (slice_set c.memory m v) c.sent c.born refl refl (omega arith) stands.current (length-set c.memory m v)))
     moves (Const b) at = pushes c stands (Const b) at (number_at g.constants b ∷ c.stack) refl refl (omega arith) stands.current
@@ -312,7 +312,7 @@ module _ (r : Routine) (valid : IsValid r) where
     moves (FieldAt l i b n) at =
         let pops = valid.pops stands.path at in
         let within = (valid.within c.place (FieldAt l i b n) at).1 in
-        top_of (TurnsTo r c) c.stack _ pops
+        top_of (StepsTo r c) c.stack _ pops
         (λ k rest e. element_ok c stands (FieldAt l i b n) at l (element_of b n k) _
         (λ v here.
         let lt = element_in b n k v here in
@@ -320,10 +320,10 @@ module _ (r : Routine) (valid : IsValid r) where
         found c stands (FieldAt l i b n) at (field i v c.feeds) rest x.0 x.1 refl refl (omega arith) stands.current))
     moves (Neg l) at =
         let pops = valid.pops stands.path at in
-        top_of (TurnsTo r c) c.stack _ pops (λ v rest e. held c stands (Neg l) at l (negated v) rest refl refl (omega arith) stands.current)
+        top_of (StepsTo r c) c.stack _ pops (λ v rest e. held c stands (Neg l) at l (negated v) rest refl refl (omega arith) stands.current)
     moves Not at =
         let pops = valid.pops stands.path at in
-        top_of (TurnsTo r c) c.stack _ pops (λ v rest e. pushes c stands Not at (truth (int_eq v (pos 0)) ∷ rest) refl refl (omega arith) stands.current)
+        top_of (StepsTo r c) c.stack _ pops (λ v rest e. pushes c stands Not at (truth (int_eq v (pos 0)) ∷ rest) refl refl (omega arith) stands.current)
     moves (Add l) at = operates op.Add l (Add l) at refl refl refl stands.current
     moves (Sub l) at = operates op.Sub l (Sub l) at refl refl refl stands.current
     moves (Mul l) at = operates op.Mul l (Mul l) at refl refl refl stands.current
@@ -338,14 +338,14 @@ module _ (r : Routine) (valid : IsValid r) where
     moves (Jump t) at = jumps_to c stands (Jump t) at t c.stack refl refl (omega arith) stands.current
     moves (JumpZero t) at =
         let pops = valid.pops stands.path at in
-        top_of (TurnsTo r c) c.stack _ pops
-        (λ v rest e. by_test (TurnsTo r c) (int_eq v (pos 0)) _ _
+        top_of (StepsTo r c) c.stack _ pops
+        (λ v rest e. by_test (StepsTo r c) (int_eq v (pos 0)) _ _
         (jumps_to c stands (JumpZero t) at t rest refl refl (omega arith) stands.current)
         (pushes c stands (JumpZero t) at rest refl refl (omega arith) stands.current))
     moves (JumpNotZero t) at =
         let pops = valid.pops stands.path at in
-        top_of (TurnsTo r c) c.stack _ pops
-        (λ v rest e. by_test (TurnsTo r c) (int_eq v (pos 0)) _ _
+        top_of (StepsTo r c) c.stack _ pops
+        (λ v rest e. by_test (StepsTo r c) (int_eq v (pos 0)) _ _
         (pushes c stands (JumpNotZero t) at rest refl refl (omega arith) stands.current)
         (jumps_to c stands (JumpNotZero t) at t rest refl refl (omega arith) stands.current))
     moves (Pay l) at =
@@ -356,7 +356,7 @@ module _ (r : Routine) (valid : IsValid r) where
         (stays_current (with_come 0) i stands.delivered c.feeds stands.current) refl (rows-at_start i c.feeds)
     moves (Next l i t) at = delivered_by (has_next i c.feeds) refl
       where
-        delivered_by : (b : Bool) → has_next i c.feeds ≡ b → TurnsTo r c (deliver b l t (record c { feeds = at_next i c.feeds }))
+        delivered_by : (b : Bool) → has_next i c.feeds ≡ b → StepsTo r c (deliver b l t (record c { feeds = at_next i c.feeds }))
         delivered_by true came =
             paid c stands (Next l i t) at c.fuel l (record c { feeds = at_next i c.feeds }) _ refl
             (λ k less. later_paid c stands (Next l i t) at (record c { place = c.place + 1; feeds = at_next i c.feeds; fuel = k }) refl refl less (omega arith)
@@ -370,17 +370,17 @@ module _ (r : Routine) (valid : IsValid r) where
         (left_current i stands.delivered c.feeds stands.current) refl refl
     moves (Send m) at =
         let pops = valid.pops stands.path at in
-        row_of (TurnsTo r c) (slice_index r.widths.messages m) c.stack
+        row_of (StepsTo r c) (slice_index r.widths.messages m) c.stack
         (λ row rest. next rest (record c { sent = c.sent ++ record { message = m; row = row } ∷ [] })) pops
         (λ row rest e. plain c stands (Send m) at rest c.locals c.memory (c.sent ++ record { message = m; row = row } ∷ []) c.born refl refl (omega arith) stands.current refl)
     moves (Bear a) at =
         let pops = valid.pops stands.path at in
-        row_of (TurnsTo r c) (slice_index r.widths.agents a) c.stack
+        row_of (StepsTo r c) (slice_index r.widths.agents a) c.stack
         (λ row rest. next rest (record c { born = c.born ++ record { agent = a; row = row } ∷ [] })) pops
         (λ row rest e. plain c stands (Bear a) at rest c.locals c.memory c.sent (c.born ++ record { agent = a; row = row } ∷ []) refl refl (omega arith) stands.current refl)
     moves (Call l h n) at =
         let pops = valid.pops stands.path at in
-        row_of (TurnsTo r c) n c.stack _ pops
+        row_of (StepsTo r c) n c.stack _ pops
         (λ args rest e. paid c stands (Call l h n) at c.fuel l c (λ d. calls h args (record d { place = d.place + 1; stack = rest })) refl
         (λ k less. record {
           stands = λ v f. record {
@@ -397,7 +397,7 @@ module _ (r : Routine) (valid : IsValid r) where
         }))
     moves Return at =
         let pops = valid.pops stands.path at in
-        top_of (TurnsTo r c) c.stack _ pops (λ v rest e. record { less = omega arith; rows = refl })
+        top_of (StepsTo r c) c.stack _ pops (λ v rest e. record { less = omega arith; rows = refl })
 
   -- paths lead to places of the code
   pub path_within : (p h : ℕ) (d : Delivered) → Path r p h d → p < length r.instrs
@@ -405,21 +405,21 @@ module _ (r : Routine) (valid : IsValid r) where
   path_within p h d (goes {p = q} {i = i} path at on_ m) = more_code q i at on_
   path_within p h d (jumps {p = q} {t = t} {i = i} path at aims m) = valid.lands q t i at aims
 
-  turns_to : (g : Given) (c : Config) → Stands r c → TurnsTo r c (step g r c)
+  turns_to : (g : Given) (c : Config) → IsOnPath r c → StepsTo r c (step g r c)
   turns_to g c stands =
       let i = some_instr r.instrs c.place (path_within c.place (length c.stack) stands.delivered stands.path) in
-      subst (λ o. TurnsTo r c (act g r.widths o c)) (sym i.1) (moves g c stands i.0 i.1)
+      subst (λ o. StepsTo r c (act g r.widths o c)) (sym i.1) (moves g c stands i.0 i.1)
 
   -- ---- what steps keep
 
-  pub not_stuck : (g : Given) (c : Config) → Stands r c → step g r c ≢ stuck
-  not_stuck g c stands e = subst (TurnsTo r c) e (turns_to g c stands)
+  pub not_stuck : (g : Given) (c : Config) → IsOnPath r c → step g r c ≢ stuck
+  not_stuck g c stands e = subst (StepsTo r c) e (turns_to g c stands)
 
-  module _ (g : Given) (c d : Config) (stands : Stands r c) (e : step g r c ≡ on d) where
+  module _ (g : Given) (c d : Config) (stands : IsOnPath r c) (e : step g r c ≡ on d) where
     goes_to : Goes r c d
-    goes_to = subst (TurnsTo r c) e (turns_to g c stands)
+    goes_to = subst (StepsTo r c) e (turns_to g c stands)
 
-    pub on_stands : Stands r d
+    pub on_stands : IsOnPath r d
     on_stands = goes_to.stands
 
     pub on_falls : left r d.place d.fuel < left r c.place c.fuel
@@ -431,11 +431,11 @@ module _ (r : Routine) (valid : IsValid r) where
     pub on_rows : rows_of d.feeds ≡ rows_of c.feeds
     on_rows = goes_to.rows
 
-  module _ (g : Given) (c d : Config) (h : ℕ) (args : List ℤ) (stands : Stands r c) (e : step g r c ≡ calls h args d) where
+  module _ (g : Given) (c d : Config) (h : ℕ) (args : List ℤ) (stands : IsOnPath r c) (e : step g r c ≡ calls h args d) where
     goes_back : GoesBack r c h d
-    goes_back = subst (TurnsTo r c) e (turns_to g c stands)
+    goes_back = subst (StepsTo r c) e (turns_to g c stands)
 
-    pub back_stands : (v : ℤ) (f : ℕ) → Stands r (resumed v f d)
+    pub back_stands : (v : ℤ) (f : ℕ) → IsOnPath r (resumed v f d)
     back_stands = goes_back.stands
 
     pub back_falls : (f : ℕ) → f ≤ d.fuel → left r d.place f < left r c.place c.fuel
@@ -450,9 +450,9 @@ module _ (r : Routine) (valid : IsValid r) where
     pub back_named : (line n : ℕ) × (slice_get r.instrs c.place ≡ Some (Call line h n))
     back_named = goes_back.named
 
-  module _ (g : Given) (c d : Config) (v : ℤ) (stands : Stands r c) (e : step g r c ≡ over (returned v d)) where
+  module _ (g : Given) (c d : Config) (v : ℤ) (stands : IsOnPath r c) (e : step g r c ≡ over (returned v d)) where
     leaves_it : Leaves c d
-    leaves_it = subst (TurnsTo r c) e (turns_to g c stands)
+    leaves_it = subst (StepsTo r c) e (turns_to g c stands)
 
     pub over_less : d.fuel ≤ c.fuel
     over_less = leaves_it.less

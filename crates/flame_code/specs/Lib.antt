@@ -13,4 +13,4 @@ pub mod Labels
 pub mod CodeLaws
 pub mod InstrNames
 -- The words that only bodies and proofs use.
-pub mod Stands
+pub mod OnPath

@@ -59,56 +59,56 @@ pub data End : Type 0 where
 
 -- what a step comes to: it goes on, it is over, it calls a helper with arguments and goes on from there with what that
 -- returns, or no step is possible [own]
-pub data Turn : Type 0 where
-  on : Config → Turn
-  over : End → Turn
-  calls : ℕ → List ℤ → Config → Turn
-  stuck : Turn
+pub data StepEnd : Type 0 where
+  on : Config → StepEnd
+  over : End → StepEnd
+  calls : ℕ → List ℤ → Config → StepEnd
+  stuck : StepEnd
 
 -- ---- words for steps
 
 -- on to the next place, with this stack [own]
-abbrev pub next : List ℤ → Config → Turn
+abbrev pub next : List ℤ → Config → StepEnd
 next stack c = on (record c { place = c.place + 1; stack = stack })
 
 -- on to this place, with this stack [own]
-abbrev pub goto : ℕ → List ℤ → Config → Turn
+abbrev pub goto : ℕ → List ℤ → Config → StepEnd
 goto place stack c = on (record c { place = place; stack = stack })
 
 -- a fault with its line [own]
-abbrev pub fault : Cause → ℕ → Turn
+abbrev pub fault : Cause → ℕ → StepEnd
 fault cause line = over (faulted (record { cause = cause; line = line }))
 
 -- one value is popped [own]
-abbrev pub with_top : List ℤ → (ℤ → List ℤ → Turn) → Turn
+abbrev pub with_top : List ℤ → (ℤ → List ℤ → StepEnd) → StepEnd
 with_top [] go = stuck
 with_top (v ∷ stack) go = go v stack
 
 -- two values are popped, of which the second was on top [own]
-abbrev pub with_two : List ℤ → (ℤ → ℤ → List ℤ → Turn) → Turn
+abbrev pub with_two : List ℤ → (ℤ → ℤ → List ℤ → StepEnd) → StepEnd
 with_two [] go = stuck
 with_two (w ∷ []) go = stuck
 with_two (w ∷ v ∷ stack) go = go v w stack
 
 -- so many values are popped, of which the last was on top [own]
-abbrev pub with_row : ℕ → List ℤ → (List ℤ → List ℤ → Turn) → Turn
+abbrev pub with_row : ℕ → List ℤ → (List ℤ → List ℤ → StepEnd) → StepEnd
 with_row n stack go = if nat_le n (length stack) then go (reverse (take n stack)) (drop n stack) else stuck
 
 -- the value is pushed, or its cause is a fault of this line [own]
-abbrev pub push_held : ℕ → Result ℤ Cause → List ℤ → Config → Turn
+abbrev pub push_held : ℕ → Result ℤ Cause → List ℤ → Config → StepEnd
 push_held line (Ok v) stack c = next (v ∷ stack) c
 push_held line (Err cause) stack c = fault cause line
 
 -- the value of an operator is pushed in place of its operands [C, 6.5]
-abbrev pub operate : Op → ℕ → Config → Turn
+abbrev pub operate : Op → ℕ → Config → StepEnd
 operate o line c = with_two c.stack (λ v w stack. push_held line (applied o v w) stack c)
 
 -- the truth of a comparison is pushed in place of its operands [C, 6.5.8; C, 6.5.9]
-abbrev pub compare : Op → Config → Turn
+abbrev pub compare : Op → Config → StepEnd
 compare o c = operate o 0 c
 
 -- a jump for a value that is 0, and another for one that is not [own]
-abbrev pub by_zero : ℤ → Turn → Turn → Turn
+abbrev pub by_zero : ℤ → StepEnd → StepEnd → StepEnd
 by_zero v zero_turn other_turn = if int_eq v (pos 0) then zero_turn else other_turn
 
 -- the column of an element of the array of n columns from c on, where the index is one of its [C, 6.5.2.1]
@@ -117,31 +117,31 @@ element_of c n (pos k) = if nat_lt k n then Some (c + k) else None
 element_of c n (negsuc k) = None
 
 -- the element's column goes on; an index that is none of the array's is a fault [own]
-abbrev pub with_element : ℕ → Option ℕ → (ℕ → Turn) → Turn
+abbrev pub with_element : ℕ → Option ℕ → (ℕ → StepEnd) → StepEnd
 with_element line None go = fault BadIndex line
 with_element line (Some column) go = go column
 
 -- the number of a row that is there is pushed [own]
-abbrev pub push_found : Option ℤ → List ℤ → Config → Turn
+abbrev pub push_found : Option ℤ → List ℤ → Config → StepEnd
 push_found None stack c = stuck
 push_found (Some v) stack c = next (v ∷ stack) c
 
 -- the column of the memory has the value [FLAME User Manual]
-abbrev pub store : ℕ → ℤ → List ℤ → Config → Turn
+abbrev pub store : ℕ → ℤ → List ℤ → Config → StepEnd
 store column v stack c =
     on (record c { place = c.place + 1; stack = stack; memory = slice_set c.memory column v })
 
 -- one unit is paid before it goes on; without one it is a fault [own]
-abbrev pub pay_from : ℕ → ℕ → Config → (Config → Turn) → Turn
+abbrev pub pay_from : ℕ → ℕ → Config → (Config → StepEnd) → StepEnd
 pay_from zero line c go = fault Fuel line
 pay_from (suc f) line c go = go (record c { fuel = f })
 
 -- one unit is paid from the fuel that is left [own]
-abbrev pub pay : ℕ → Config → (Config → Turn) → Turn
+abbrev pub pay : ℕ → Config → (Config → StepEnd) → StepEnd
 pay line c go = pay_from c.fuel line c go
 
 -- a row that came is paid for; where none came the run goes on at the place behind the loop [libmboard; fuel: own]
-abbrev pub deliver : Bool → ℕ → ℕ → Config → Turn
+abbrev pub deliver : Bool → ℕ → ℕ → Config → StepEnd
 deliver true line to c = pay line c (λ d. next d.stack d)
 deliver false line to c = goto to c.stack c
 
@@ -149,7 +149,7 @@ deliver false line to c = goto to c.stack c
 
 -- one instruction; where there is none, no step is possible [own]
 -- ORDER INSTRUCTIONS
-abbrev pub act : Given → Widths → Option Instr → Config → Turn
+abbrev pub act : Given → Widths → Option Instr → Config → StepEnd
 act g w None c = stuck
 act g w (Some (Push n)) c = next (n ∷ c.stack) c
 act g w (Some Dup) c = with_top c.stack (λ v stack. next (v ∷ v ∷ stack) c)
@@ -200,5 +200,5 @@ act g w (Some (Call l h n)) c =
 act g w (Some Return) c = with_top c.stack (λ v stack. over (returned v (record c { stack = stack })))
 
 -- the step of this code from where its run stands [own]
-abbrev pub step : Given → Routine → Config → Turn
+abbrev pub step : Given → Routine → Config → StepEnd
 step g r c = act g r.widths (slice_get r.instrs c.place) c

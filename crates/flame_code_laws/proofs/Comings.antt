@@ -6,7 +6,7 @@ use Rattle.std.proofs.lemmas.List.{length-reverse, reverse-append, reverse-rever
 use Rattle.std.proofs.Math.Seq.{take-append_seam, drop-append_seam}
 use Rattle.flame_spec.specs.declared.faults.Fault.{Fault}
 use Rattle.flame_code.specs.Feeds.{last_come}
-use Rattle.flame_code.specs.Machine.{Config, Turn, with_row, stuck, returned as given_back, faulted as fell}
+use Rattle.flame_code.specs.Machine.{Config, StepEnd, with_row, stuck, returned as given_back, faulted as fell}
 use Rattle.flame_meaning.specs.Scenes.{Local, Progress}
 use Rattle.flame_meaning.specs.Ends.{End, went_on, broke, continued, returned, faulted, with_value, with_values}
 use Rattle.flame_number_laws.specs.NumberedScenes.{local_at, set_local_at}
@@ -30,7 +30,7 @@ pushed_reverse (v ∷ vs) stack =
 
 -- they are taken from the stack as they are
 pub row_taken :
-    (n : ℕ) (vs stack : List ℤ) (go : List ℤ → List ℤ → Turn)
+    (n : ℕ) (vs stack : List ℤ) (go : List ℤ → List ℤ → StepEnd)
     → length vs ≡ n → with_row n (pushed vs stack) go ≡ go vs stack
 row_taken n vs stack go long =
     ap (λ k. with_row k (pushed vs stack) go) (sym long ∙ sym (length-reverse vs))

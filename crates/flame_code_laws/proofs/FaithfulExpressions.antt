@@ -29,7 +29,7 @@ use Rattle.flame_code.specs.declared.instrs.Instr.{Instr}
 use Rattle.flame_code.specs.declared.instrs.Instr.TheVariants.{Push, Loc, Const, Iter, Mem, Neg, Not, Add, Sub, Mul, Div, Rem, Lt, Gt, Le, Ge, Eq, Ne, MemAt, Jump, JumpZero, JumpNotZero}
 use Rattle.flame_code.specs.declared.instrs.Instr.TheVariants as instr
 use Rattle.flame_code.specs.Feeds.{field}
-use Rattle.flame_code.specs.Machine.{Config, Turn, on, act, next, with_element, push_found}
+use Rattle.flame_code.specs.Machine.{Config, StepEnd, on, act, next, with_element, push_found}
 use Rattle.flame_compile.specs.Pieces.{Piece, row, one, both, in_order}
 use Rattle.flame_compile.specs.Emit.{operator, sign_code, signs_code, column_of, each_column, columns, load, tested_size, tested, expression, link, arguments}
 use Rattle.flame_compile.proofs.Forms.{expression-Number, expression-Name, expression-Field, expression-Get, expression-At, expression-FieldAt, expression-Unary, expression-Chain, expression-All, expression-Any, all_piece, any_piece}
@@ -193,7 +193,7 @@ module _ (run : Running) (around : Around) (before : NumberedScene) (s : Progres
 
   -- an element by its column, where the machine finds its number
   element_runs :
-      (i : Instr) (line : ℕ) (row : List ℤ) (v : ℤ) (p : ℕ) (stack : List ℤ) (o : Option ℕ) (found : ℕ → Turn)
+      (i : Instr) (line : ℕ) (row : List ℤ) (v : ℤ) (p : ℕ) (stack : List ℤ) (o : Option ℕ) (found : ℕ → StepEnd)
       → HasAt run p (i ∷ [])
       → act run.given run.routine.widths (Some i) (at p (v ∷ stack) c) ≡ with_element line o found
       → ((m : ℕ) → o ≡ Some m → found m ≡ on (at (p + 1) (number_at row m ∷ stack) c))
@@ -210,7 +210,7 @@ module _ (run : Running) (around : Around) (before : NumberedScene) (s : Progres
       → HasAt run p (MemAt line cells.column cells.length ∷ [])
       → Gives run (at p (v ∷ stack) c) (valued (p + 1) stack c) (element_value line (cell_column cells v) s.memory)
   cell_runs line cells v p stack has =
-      let found : ℕ → Turn = λ m. next (number_at c.memory m ∷ stack) (at p (v ∷ stack) c) in
+      let found : ℕ → StepEnd = λ m. next (number_at c.memory m ∷ stack) (at p (v ∷ stack) c) in
       element_runs (MemAt line cells.column cells.length) line s.memory v p stack (cell_column cells v) found has
       (ap (λ o. with_element line o found) (same_column cells v))
       (λ m is. ap (λ memory. on (at (p + 1) (number_at memory m ∷ stack) c)) a.memory)
@@ -226,7 +226,7 @@ module _ (run : Running) (around : Around) (before : NumberedScene) (s : Progres
       let width = width_of_input around input in
       let parts = and_parts (is_inside input around) (are_within width cells) fit_it in
       let top : cells.column + cells.length ≤ width = leb-true (cells.column + cells.length) width parts.1 in
-      let found : ℕ → Turn = λ m. push_found (field input m c.feeds) stack (at p (v ∷ stack) c) in
+      let found : ℕ → StepEnd = λ m. push_found (field input m c.feeds) stack (at p (v ∷ stack) c) in
       element_runs (instr.FieldAt line input cells.column cells.length) line (before.current_rows input) v p stack
       (cell_column cells v) found has
       (ap (λ o. with_element line o found) (same_column cells v))

@@ -22,7 +22,7 @@ use Rattle.flame_body.specs.declared.slots.SlotAssign.{SlotAssign}
 use Rattle.flame_body.specs.BodyFits.{Around, fit, fits, values_fit, numbers_of as count_of, together, stored_fits, initial_fits, target_fits, are_within, assignment_fits, deed_fits}
 use Rattle.flame_code.specs.declared.instrs.Instr.{Instr}
 use Rattle.flame_code.specs.declared.instrs.Instr.TheVariants.{Push, Dup, Drop, Loc, SetLoc, Mem, SetMem, MemAt, SetMemAt, Send, Bear, Call}
-use Rattle.flame_code.specs.Machine.{Config, Turn, calls, act, next, set_local, store as stores, with_element, pay_from}
+use Rattle.flame_code.specs.Machine.{Config, StepEnd, calls, act, next, set_local, store as stores, with_element, pay_from}
 use Rattle.flame_code.specs.Meanings.{back, fall}
 use Rattle.flame_compile.specs.Pieces.{in_order}
 use Rattle.flame_compile.specs.Emit.{operator, arguments, expression, value, initial, item, assign, assignment, deed}
@@ -82,7 +82,7 @@ declared_read v s c number k reads is within =
     go (length s.locals == k) refl
 
 -- the step of a call with these arguments
-abbrev called : ℕ → ℕ → Config → List ℤ → List ℤ → Turn
+abbrev called : ℕ → ℕ → Config → List ℤ → List ℤ → StepEnd
 called line h c args rest =
     pay_from c.fuel line c (λ d. calls h args (record d { place = d.place + 1; stack = rest }))
 
@@ -300,7 +300,7 @@ module _ (run : Running) (f : Frame) (sound : IsSound run f) where
       → Comes run f (at p (v ∷ i ∷ f.stack) c) (length s.locals) (p + 1) (went_on (set_column m v s))
   cell_set line cells i v m s c p follows is has =
       let d = record c { memory = slice_set c.memory m v } in
-      let there : ℕ → Turn = λ k. stores k v f.stack (at p (v ∷ i ∷ f.stack) c) in (
+      let there : ℕ → StepEnd = λ k. stores k v f.stack (at p (v ∷ i ∷ f.stack) c) in (
         record {
           there = d;
           follows = column_follows m v s c follows;
@@ -321,7 +321,7 @@ module _ (run : Running) (f : Frame) (sound : IsSound run f) where
       → Comes run f (at p (v ∷ i ∷ f.stack) c) (length s.locals) (p + 1)
       (with_column line o (λ m. went_on (set_column m v s)))
   element_set_by line cells i v s c p None follows is has =
-      let there : ℕ → Turn = λ k. stores k v f.stack (at p (v ∷ i ∷ f.stack) c) in
+      let there : ℕ → StepEnd = λ k. stores k v f.stack (at p (v ∷ i ∷ f.stack) c) in
       fails run (at p (v ∷ i ∷ f.stack) c) (SetMemAt line cells.column cells.length) (bad_index line)
       (has_first run p (SetMemAt line cells.column cells.length) [] has)
       (ap (λ o. with_element line o there) (same_column cells i ∙ is))

@@ -15,14 +15,14 @@ use Rattle.flame_events.specs.CoreFits.{FitsCore, FitsWork}
 use Rattle.flame_events.proofs.Spots.{get_there}
 use Rattle.flame_spec.specs.Functions.{functions}
 use Rattle.flame_pieces.specs.Waiting.{thing_at}
-use Rattle.flame_pieces.specs.RunStatuses.{status_of as kept_status}
+use Rattle.flame_pieces.specs.KeptStatuses.{status_of as kept_status}
 use Rattle.flame_progress.specs.declared.counts.Counts.{Counts}
 use Rattle.flame_progress.specs.declared.progress.Progress.{Progress}
-use Rattle.flame_progress.specs.RunCores.{core_of, kept_at}
-use Rattle.flame_progress.specs.RunWorkEvents.{OutputsOnce}
+use Rattle.flame_progress.specs.KeptCores.{core_of, kept_at}
+use Rattle.flame_progress.specs.KeptWorkEvents.{OutputsOnce}
 use Rattle.flame_progress.specs.Tallying.{Tallies}
 use Rattle.flame_progress.proofs.Known.{may_hand_in_is, may_shut_is, open_within, outputs_once}
-use Rattle.flame_core.specs.RunReady.{InOrder}
+use Rattle.flame_core.specs.KeptReady.{InOrder}
 use Rattle.flame_core.proofs.Openings.{output_below}
 use Rattle.flame_meaning.proofs.Eachs.{each_at}
 

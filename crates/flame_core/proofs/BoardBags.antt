@@ -4,7 +4,7 @@ use Rattle.flame_rows.specs.Bags.{ascending}
 use Rattle.flame_index.specs.FrozenBoards.{shared_messages}
 use Rattle.flame_core.specs.declared.boards.Board.{Board}
 use Rattle.flame_core.specs.declared.boards.Board.TheVariants as board
-use Rattle.flame_core.specs.RunFields.{board_bag}
+use Rattle.flame_core.specs.KeptFields.{board_bag}
 use Rattle.flame_rows.proofs.Merging.{ascending-ascending}
 
 pub board-in_order : (b : Board) → ascending (board_bag b) ≡ board_bag b

@@ -34,20 +34,20 @@ use Rattle.flame_route.proofs.Places.{zip-length}
 use Rattle.flame_pieces.specs.declared.works.Work as run
 use Rattle.flame_pieces.specs.declared.statuses.Status as kept
 use Rattle.flame_pieces.specs.declared.statuses.Status.TheVariants as is
-use Rattle.flame_pieces.specs.RunWorks.{outputs_in}
-use Rattle.flame_pieces.specs.RunStatuses.{HasOutputs}
+use Rattle.flame_pieces.specs.KeptWorks.{outputs_in}
+use Rattle.flame_pieces.specs.KeptStatuses.{HasOutputs}
 use Rattle.flame_progress.specs.declared.counts.Counts.{Counts}
 use Rattle.flame_progress.specs.declared.leavings.Leaving.{Leaving}
 use Rattle.flame_progress.specs.declared.progress.Progress.{Progress}
-use Rattle.flame_progress.specs.RunCores.{core_of}
-use Rattle.flame_progress.specs.RunPools.{bags_of}
-use Rattle.flame_progress.specs.RunCounts.{Counted}
-use Rattle.flame_progress.specs.RunWorkEvents.{added}
+use Rattle.flame_progress.specs.KeptCores.{core_of}
+use Rattle.flame_progress.specs.KeptPools.{bags_of}
+use Rattle.flame_progress.specs.KeptCounts.{Counted}
+use Rattle.flame_progress.specs.KeptWorkEvents.{added}
 use Rattle.flame_progress.specs.Tallying.{Came}
 use Rattle.flame_progress.proofs.Changed.{changed_pool-to}
 use Rattle.flame_progress.proofs.Tallied.{counted_kept, status_kept}
 use Rattle.flame_core.specs.AgentLeavings.{IsLeft}
-use Rattle.flame_core.specs.RunReady.{Stands}
+use Rattle.flame_core.specs.KeptReady.{IsKeptCore}
 use Rattle.flame_core.specs.SeenCores.{Seen, IsReached, round_in, start_in, when_came}
 
 -- ---- a function is opened
@@ -152,8 +152,8 @@ reached_on seen events core reached leads = record {
 
 -- these events came, each legal when it did
 pub stands_on : (seen : Seen) (earlier progress : Progress) (counted counts : Counts) (events : List Event) (core : Core)
-    → Stands seen earlier counted → Leads (round_in seen) seen.pieces seen.core events core → Came seen.source.model core progress counts
-    → Stands (record seen { core = core_of progress }) progress counts
+    → IsKeptCore seen earlier counted → Leads (round_in seen) seen.pieces seen.core events core → Came seen.source.model core progress counts
+    → IsKeptCore (record seen { core = core_of progress }) progress counts
 stands_on seen earlier progress counted counts events core stands leads came = record {
   reached =
       subst (λ (k : Core). IsReached (record seen { core = k })) (sym came.core)
@@ -168,8 +168,8 @@ one_leads round pieces core e legal = record { legal = and_from (is_legal round.
 
 -- nothing came
 pub stands_still : (seen : Seen) (earlier progress : Progress) (counted counts : Counts)
-    → Stands seen earlier counted → Came seen.source.model seen.core progress counts
-    → Stands (record seen { core = core_of progress }) progress counts
+    → IsKeptCore seen earlier counted → Came seen.source.model seen.core progress counts
+    → IsKeptCore (record seen { core = core_of progress }) progress counts
 stands_still seen earlier progress counted counts stands came = record {
   reached = subst (λ (k : Core). IsReached (record seen { core = k })) (sym came.core) stands.reached;
   numbered = stands.numbered;

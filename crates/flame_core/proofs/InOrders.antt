@@ -10,7 +10,7 @@ use Rattle.flame_events.proofs.KeptCores.{kept_core}
 use Rattle.flame_events.proofs.Legality.{in_writers}
 use Rattle.flame_events.proofs.Works.{all_of_list}
 use Rattle.flame_core.specs.SeenCores.{Seen, IsReached, round_in}
-use Rattle.flame_core.specs.RunReady.{InOrder}
+use Rattle.flame_core.specs.KeptReady.{InOrder}
 
 -- ---- at the beginning
 

@@ -5,9 +5,9 @@ use Rattle.flame_spec.specs.declared.outcomes.Source.{Source}
 use Rattle.flame_world.specs.declared.worlds.World.{World}
 use Rattle.flame_progress.specs.declared.counts.Counts.{Counts}
 use Rattle.flame_progress.specs.declared.progress.Progress.{Progress}
-use Rattle.flame_progress.specs.RunCores.{core_of}
+use Rattle.flame_progress.specs.KeptCores.{core_of}
 use Rattle.flame_core.specs.declared.rounds.Round as run
-use Rattle.flame_core.specs.RunReady.{Ready, Stands}
+use Rattle.flame_core.specs.KeptReady.{Ready, IsKeptCore}
 use Rattle.flame_core.specs.SeenCores.{Seen}
 use Rattle.flame_core.proofs.Comings.{reached_fits}
 use Rattle.flame_core.proofs.InOrders.{reached_in_order}
@@ -25,7 +25,7 @@ seen_of source world iteration fuel pieces progress = record {
 
 -- events may be looked for in it
 pub ready_in : (round : run.Round) (world : World) (iteration : ℤ) (fuel pieces : ℕ) (progress : Progress) (counts : Counts)
-    → Stands (seen_of round.program.now world iteration fuel pieces progress) progress counts
+    → IsKeptCore (seen_of round.program.now world iteration fuel pieces progress) progress counts
     → round.constants.now ≡ world.constants
     → Ready round pieces progress counts
 ready_in round world iteration fuel pieces progress counts stands constants =

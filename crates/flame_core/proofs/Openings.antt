@@ -21,7 +21,7 @@ use Rattle.flame_events.proofs.Spots.{get_there, output_named}
 use Rattle.flame_pieces.specs.FreeThings.{Tells}
 use Rattle.flame_pieces.specs.Waiting as waits
 use Rattle.flame_pieces.specs.declared.statuses.Status.TheVariants as is
-use Rattle.flame_pieces.specs.RunStatuses.{status_of, HasOutputs}
+use Rattle.flame_pieces.specs.KeptStatuses.{status_of, HasOutputs}
 use Rattle.flame_pieces.proofs.Freeing.{waiters_are_told}
 use Rattle.flame_progress.specs.ManyWait.{waited_for_by, waiting_for}
 use Rattle.flame_progress.proofs.Allowing.{all_in, inputs_below}

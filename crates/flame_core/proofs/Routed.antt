@@ -11,7 +11,7 @@ use Rattle.flame_route.specs.declared.routes.Route.{Route}
 use Rattle.flame_route.specs.declared.routes.Routes.{Routes}
 use Rattle.flame_route.specs.ModelRoutes.{AreRoutesOf, IsRouteOf}
 use Rattle.flame_route.proofs.Places.{zip-length}
-use Rattle.flame_core.specs.RunSteps.{GoesBy}
+use Rattle.flame_core.specs.KeptSteps.{GoesBy}
 use Rattle.flame_core.proofs.Gets.{has-at}
 
 pub routes_many : (model : Model) (routes : Routes) → AreRoutesOf model routes → function_count model ≡ length routes.routes
@@ -26,7 +26,7 @@ goes_at model routes are f route less at =
       place = found.item;
       there = found.there;
       routed = AllZip-at (IsRouteOf model) (functions model) routes.routes f found.item route are.each found.there there;
-      turn = are.turns f found.item route found.there there;
+      choice = are.choices f found.item route found.there there;
     }
 
 pub outputs_are : (model : Model) (f : ℕ) (route : Route) (goes : GoesBy model f route) → route.outputs ≡ outputs_of model f

@@ -12,18 +12,18 @@ use Rattle.flame_events.specs.CoreFits.{FitsCore, FitsWork}
 use Rattle.flame_events.specs.CoreStates.{Core, is_waiting, status_of, work_of, works_of, is_frozen}
 use Rattle.flame_events.specs.LegalEvents.{inputs_at, inputs_of, may_run}
 use Rattle.flame_events.proofs.Sound.{opens_with}
-use Rattle.flame_pieces.specs.RunStatuses.{status_of as kept_status}
+use Rattle.flame_pieces.specs.KeptStatuses.{status_of as kept_status}
 use Rattle.flame_progress.specs.declared.boards.Board.{Board}
 use Rattle.flame_progress.specs.declared.counts.Counts.{Counts}
 use Rattle.flame_progress.specs.declared.progress.Progress.{Progress}
-use Rattle.flame_progress.specs.RunBoards.{board_bag, is_board_frozen}
-use Rattle.flame_progress.specs.RunCores.{core_of}
+use Rattle.flame_progress.specs.KeptBoards.{board_bag, is_board_frozen}
+use Rattle.flame_progress.specs.KeptCores.{core_of}
 use Rattle.flame_progress.specs.Tallying.{Tallies}
 use Rattle.flame_progress.proofs.Known.{open_within}
 use Rattle.flame_route.specs.declared.routes.Route.{Route}
 use Rattle.flame_core.specs.AgentLeavings.{IsNext}
-use Rattle.flame_core.specs.RunShares.{IsFed}
-use Rattle.flame_core.specs.RunSteps.{GoesBy}
+use Rattle.flame_core.specs.KeptShares.{IsFed}
+use Rattle.flame_core.specs.KeptSteps.{GoesBy}
 use Rattle.flame_core.proofs.Leaving.{each_passes, has_next}
 use Rattle.flame_core.proofs.Openings.{all_found}
 use Rattle.flame_core.proofs.Shown.{marked_within}

@@ -22,9 +22,9 @@ use Rattle.flame_events.specs.EventSteps.{with_sent, with_work}
 use Rattle.flame_events.specs.LegalEvents.{outputs_of}
 use Rattle.flame_events.proofs.Holding.{messages_of-append}
 use Rattle.flame_progress.specs.declared.leavings.Leaving.{Leaving}
-use Rattle.flame_progress.specs.RunWorkEvents.{added}
+use Rattle.flame_progress.specs.KeptWorkEvents.{added}
 use Rattle.flame_rows.proofs.Merging.{merge-ascending}
-use Rattle.flame_core.specs.RunShares.{as_sent}
+use Rattle.flame_core.specs.KeptShares.{as_sent}
 
 -- ---- the messages of parts
 

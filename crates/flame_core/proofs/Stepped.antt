@@ -31,7 +31,7 @@ use Rattle.flame_pool.specs.Choosing.{choices_of}
 use Rattle.flame_rows.specs.Parted.{whose}
 use Rattle.flame_pool.proofs.AsChosen.{whose_are_takers}
 use Rattle.flame_core.specs.declared.takers.Left.{Left}
-use Rattle.flame_core.specs.RunSteps.{GoesBy, HasRoute}
+use Rattle.flame_core.specs.KeptSteps.{GoesBy, HasRoute}
 use Rattle.flame_core.specs.declared.takers.Ran.{Ran}
 use Rattle.flame_core.specs.TakerRuns.{Leaves}
 use Rattle.flame_core.proofs.Gets.{has-at, mapped-get, position-passes}

@@ -36,16 +36,16 @@ use Rattle.flame_route.specs.declared.routes.Route.{Route}
 use Rattle.flame_progress.specs.declared.counts.Counts.{Counts}
 use Rattle.flame_progress.specs.declared.leavings.Leaving.{Leaving}
 use Rattle.flame_progress.specs.declared.progress.Progress.{Progress}
-use Rattle.flame_progress.specs.RunCores.{core_of, HasOutputsAt}
-use Rattle.flame_progress.specs.RunWorkEvents.{added}
+use Rattle.flame_progress.specs.KeptCores.{core_of, HasOutputsAt}
+use Rattle.flame_progress.specs.KeptWorkEvents.{added}
 use Rattle.flame_progress.specs.Tallying.{Came}
 use Rattle.flame_progress.proofs.Known.{open_within}
 use Rattle.flame_progress.proofs.Tallied.{came, counted_kept, status_kept}
 use Rattle.flame_core.specs.declared.rounds.Round as run
 use Rattle.flame_core.specs.CoreCalls.{Absorbed, CanAbsorb}
-use Rattle.flame_core.specs.RunReady.{InOrder, Ready}
-use Rattle.flame_core.specs.RunShares.{as_sent, CanTakeIn, IsFed, IsSettingOf}
-use Rattle.flame_core.specs.RunSteps.{GoesBy, round_of}
+use Rattle.flame_core.specs.KeptReady.{InOrder, Ready}
+use Rattle.flame_core.specs.KeptShares.{as_sent, CanTakeIn, IsFed, IsSettingOf}
+use Rattle.flame_core.specs.KeptSteps.{GoesBy, round_of}
 use Rattle.flame_core.specs.SeenCores.{Seen, round_in, when_came}
 use Rattle.flame_core.proofs.SharedPieces.{absorbed_is, in_parts, parts_have}
 use Rattle.flame_meaning.proofs.Eachs.{each_at}

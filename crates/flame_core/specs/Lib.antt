@@ -5,10 +5,10 @@
 pub mod CoreCalls
 pub mod SeenCores
 -- ---- the words that only bodies and proofs use; what runners promise is said in flame_world's words
-pub mod RunFields
+pub mod KeptFields
 pub mod TakerRuns
-pub mod RunSteps
+pub mod KeptSteps
 pub mod AgentLeavings
-pub mod RunReady
-pub mod RunShares
-pub mod RunStarts
+pub mod KeptReady
+pub mod KeptShares
+pub mod KeptStarts

@@ -3,8 +3,8 @@
 ghost use Rattle.std.specs.Prelude.{◌≡◌, [], ◌∷◌, IfOk, OnOk};
 ghost use Rattle.flame_rows.specs.Bags.{ascending, merge};
 ghost use Rattle.flame_index.specs.FrozenBoards.{shared_messages};
-ghost use Rattle.flame_progress.specs.RunPools.{bag_of};
-ghost use Rattle.flame_core.specs.RunFields.{board_bag};
+ghost use Rattle.flame_progress.specs.KeptPools.{bag_of};
+ghost use Rattle.flame_core.specs.KeptFields.{board_bag};
 
 use flame_index::Frozen;
 use flame_progress::Gathering;

@@ -32,8 +32,8 @@ impl<'a> Model for Core<'a> {
 
     ghost coded = { Prim.hlevel (codes, e.the_row.coded) };
 
-    ghost use Rattle.flame_progress.specs.RunCores.{core_of};
-    ghost use Rattle.flame_core.specs.RunReady.{Stands};
+    ghost use Rattle.flame_progress.specs.KeptCores.{core_of};
+    ghost use Rattle.flame_core.specs.KeptReady.{IsKeptCore};
 
     ghost view = { λ c. record {
       source = c.program.now;
@@ -44,7 +44,7 @@ impl<'a> Model for Core<'a> {
       core = core_of c.progress;
     } };
 
-    ghost invariant = { λ c. Stands
+    ghost invariant = { λ c. IsKeptCore
         (record {
           source = c.program.now;
           world = c.world;

@@ -8,10 +8,10 @@ ghost use Rattle.flame_world.specs.AgentRuns.{births_of};
 ghost use Rattle.flame_world.specs.Fields.{changed, gathered, joined};
 ghost use Rattle.flame_events.specs.CoreEnds.{first_fault, is_complete, least_fault_rank};
 ghost use Rattle.flame_events.specs.CoreStates.{fault_of};
-ghost use Rattle.flame_pieces.specs.RunStatuses.{status_of};
-ghost use Rattle.flame_progress.specs.RunBoards.{board_bag};
-ghost use Rattle.flame_progress.specs.RunCores.{core_of};
-ghost use Rattle.flame_progress.specs.RunPools.{bags_of};
+ghost use Rattle.flame_pieces.specs.KeptStatuses.{status_of};
+ghost use Rattle.flame_progress.specs.KeptBoards.{board_bag};
+ghost use Rattle.flame_progress.specs.KeptCores.{core_of};
+ghost use Rattle.flame_progress.specs.KeptPools.{bags_of};
 
 use crate::iterations::{agents_of, no_births};
 use flame_pieces::Status;

@@ -6,8 +6,8 @@ ghost use Rattle.flame_rows.specs.Bags.{ascending, merge};
 ghost use Rattle.flame_index.specs.FrozenBoards.{shared_messages};
 ghost use Rattle.flame_world.specs.AgentRuns.{births_of, messages_of};
 ghost use Rattle.flame_world.specs.Fields.{changed, changed_pool, joined, pool_in};
-ghost use Rattle.flame_progress.specs.RunPools.{bag_of, bags_of, pools_of};
-ghost use Rattle.flame_core.specs.RunFields.{board_bag};
+ghost use Rattle.flame_progress.specs.KeptPools.{bag_of, bags_of, pools_of};
+ghost use Rattle.flame_core.specs.KeptFields.{board_bag};
 
 use crate::boards::Board;
 use flame_index::Frozen;

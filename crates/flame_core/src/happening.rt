@@ -10,10 +10,10 @@ ghost use Rattle.flame_world.specs.Settings.{boards_of};
 ghost use Rattle.flame_events.specs.declared.events.Event.TheVariants as kind;
 ghost use Rattle.flame_events.specs.EventSteps.{after};
 ghost use Rattle.flame_events.specs.LegalEvents.{is_legal};
-ghost use Rattle.flame_progress.specs.RunCores.{core_of};
+ghost use Rattle.flame_progress.specs.KeptCores.{core_of};
 ghost use Rattle.flame_progress.specs.Tallying.{Came};
-ghost use Rattle.flame_core.specs.RunReady.{Ready};
-ghost use Rattle.flame_core.specs.RunSteps.{round_of};
+ghost use Rattle.flame_core.specs.KeptReady.{Ready};
+ghost use Rattle.flame_core.specs.KeptSteps.{round_of};
 ghost use Rattle.flame_core.specs.AgentLeavings.{FitsAgent, HasNext, IsLeft, IsNext};
 ghost use Rattle.flame_core.specs.CoreCalls.{takes_memory};
 

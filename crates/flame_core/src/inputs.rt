@@ -9,10 +9,10 @@ ghost use Rattle.flame_world.specs.WorldFits.{FitMessages};
 ghost use Rattle.flame_agent.specs.FunctionFits.{AreBoardsFor};
 ghost use Rattle.flame_events.specs.CoreStates.{is_waiting, status_of};
 ghost use Rattle.flame_progress.specs.declared.counts.Counts.{Counts as Kept};
-ghost use Rattle.flame_progress.specs.RunBoards.{board_bag};
-ghost use Rattle.flame_progress.specs.RunCores.{core_of};
+ghost use Rattle.flame_progress.specs.KeptBoards.{board_bag};
+ghost use Rattle.flame_progress.specs.KeptCores.{core_of};
 ghost use Rattle.flame_progress.specs.Tallying.{Came, Tallies};
-ghost use Rattle.flame_core.specs.RunShares.{IsFed};
+ghost use Rattle.flame_core.specs.KeptShares.{IsFed};
 
 use crate::rounds::Round;
 use crate::steps::route_of;

@@ -7,9 +7,9 @@ ghost use Rattle.flame_spec.specs.ModelOrder.{model_order};
 ghost use Rattle.flame_world.specs.Fields.{changed, opening, gathered};
 ghost use Rattle.flame_world.specs.Iterations.{iteration as meant, steps};
 ghost use Rattle.flame_world.specs.WorldFits.{FitsField, FitsModel, FitTypes};
-ghost use Rattle.flame_progress.specs.RunPools.{bag_of, bags_of, pools_of};
-ghost use Rattle.flame_core.specs.RunFields.{board_bag, field_of};
-ghost use Rattle.flame_core.specs.RunSteps.{result_of, round_of};
+ghost use Rattle.flame_progress.specs.KeptPools.{bag_of, bags_of, pools_of};
+ghost use Rattle.flame_core.specs.KeptFields.{board_bag, field_of};
+ghost use Rattle.flame_core.specs.KeptSteps.{result_of, round_of};
 
 use crate::boards::Board;
 use crate::fields::{Field, exchanged};

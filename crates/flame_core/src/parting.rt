@@ -4,7 +4,7 @@ ghost use Rattle.std.specs.Prelude.{◌≡◌, Some, IfOk, slice_get};
 ghost use Rattle.flame_spec.specs.Choice.{functions_out, takers};
 ghost use Rattle.flame_spec.specs.Functions.{Place, functions};
 ghost use Rattle.flame_world.specs.Iterations.{staying};
-ghost use Rattle.flame_core.specs.RunSteps.{GoesBy, round_of};
+ghost use Rattle.flame_core.specs.KeptSteps.{GoesBy, round_of};
 
 use crate::rounds::Round;
 use crate::steps::out_of;
@@ -35,5 +35,5 @@ pub(crate) fn part(
     let _count = number(functions.len())?;
     let conditions = round.program.conditions();
     let choices = choose_here(alloc, &pool, conditions, functions, round.iteration)?;
-    take(pool, &choices, route.turn)
+    take(pool, &choices, route.choice)
 }

@@ -8,9 +8,9 @@ ghost use Rattle.flame_world.specs.WorldFits.{FitTypes};
 ghost use Rattle.flame_events.specs.CoreStates.{opening_core};
 ghost use Rattle.flame_events.specs.LegalEvents.{inputs_of, outputs_of};
 ghost use Rattle.flame_pieces.specs.FreeThings.{Tells};
-ghost use Rattle.flame_core.specs.RunStarts.{SameStart};
-ghost use Rattle.flame_progress.specs.RunBoards.{board_bag, is_board_frozen};
-ghost use Rattle.flame_progress.specs.RunCores.{core_of, HasOutputsAt};
+ghost use Rattle.flame_core.specs.KeptStarts.{SameStart};
+ghost use Rattle.flame_progress.specs.KeptBoards.{board_bag, is_board_frozen};
+ghost use Rattle.flame_progress.specs.KeptCores.{core_of, HasOutputsAt};
 
 use crate::iterations::pools_begun;
 use flame_depend::edges;

@@ -14,9 +14,9 @@ ghost use Rattle.flame_world.specs.AgentRuns.{births_of, messages_of};
 ghost use Rattle.flame_world.specs.InputBoards.{boards_named};
 ghost use Rattle.flame_world.specs.Iterations.{step as meant, taking, staying};
 ghost use Rattle.flame_world.specs.WorldFits.{FitsField};
-ghost use Rattle.flame_progress.specs.RunPools.{bags_of, pools_of};
-ghost use Rattle.flame_core.specs.RunFields.{board_bag, field_of};
-ghost use Rattle.flame_core.specs.RunSteps.{GoesBy, HasRoute, FitsRun, result_of, round_of};
+ghost use Rattle.flame_progress.specs.KeptPools.{bags_of, pools_of};
+ghost use Rattle.flame_core.specs.KeptFields.{board_bag, field_of};
+ghost use Rattle.flame_core.specs.KeptSteps.{GoesBy, HasRoute, FitsRun, result_of, round_of};
 ghost use Rattle.flame_core.specs.TakerRuns.{Leaves};
 
 use crate::fields::{Field, arrive, bear, exchange, freeze, send};

@@ -8,8 +8,8 @@ ghost use Rattle.flame_driver.specs.Runs.{run};
 ghost use Rattle.flame_driver.specs.RunScripts.{written_as};
 ghost use Rattle.flame_driver.specs.DriveAnswers.{Drives};
 
+use crate::iterations::iterate_once;
 use crate::plans::Plan;
-use crate::turns::turn;
 use flame_core::Runner;
 use flame_outside::{Depot, Sink};
 use flame_popfile::{Format, Start};
@@ -98,7 +98,7 @@ pub fn drive<Rt: Threads + Wait + Sync, R: Runner, D: Depot, S: Sink>(
     };
     let mut start = start;
     for done in 0..turns {
-        match turn(rt, alloc, runner, &plan, start, depot, out) {
+        match iterate_once(rt, alloc, runner, &plan, start, depot, out) {
             Ok(next) => start = next,
             Err(Driven { end, files }) => {
                 return Driven {

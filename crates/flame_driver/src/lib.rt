@@ -2,11 +2,11 @@
 #![tactic(auto)]
 
 mod drivers;
+mod iterations;
 pub mod laws;
 mod names;
 mod plans;
 mod stages;
-mod turns;
 
 pub use drivers::{DriveEnd, Driven, drive};
 pub use names::file_name;

@@ -2,10 +2,10 @@
 
 ghost use Rattle.flame_load.specs.LoadLaws.{ThereIsAReader, TextsAreReadOnce, LoadedAreAccepted, LoadedWriteInts, AcceptedAreLoaded, AllInputsAreRead, InputsAreAFront, OnlyInputsCount, PlainFilesAreRead};
 
-use flame_spec_laws::{start_states_of_types, trees_are_seen, trees_are_told};
 use flame_lex::laws::{one_reading, some_reading};
 use flame_nest::laws::{flat_models, formed_files, plain_files};
 use flame_parse::laws::{one_unit, read_files};
+use flame_spec_laws::{start_states_of_types, trees_are_seen, trees_are_told};
 use flame_xmml::laws::{plain_in_wide, well_formed_wide};
 
 /// A text is read as one thing: the C functions that it spells, or one fault.

@@ -12,13 +12,13 @@ pub record Sources : Type 0 where
   pub units : List file.Unit
 
 -- where a body stands: in these sources, for this function of the model or for none, in the file of this number [own]
-pub record Standing : Type 0 where
+pub record BodyPlace : Type 0 where
   pub sources : Sources
   pub runs : Option Place
   pub file : ℕ
 
 -- where a body is checked that stands there [own]
-abbrev pub context_at : Standing → Context
+abbrev pub context_at : BodyPlace → Context
 context_at standing = record {
   model = standing.sources.model;
   helpers = helpers standing.sources.model standing.sources.units;

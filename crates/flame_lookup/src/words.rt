@@ -31,9 +31,9 @@ impl<'t, 'a> Model for Words<'t, 'a> {
     ghost use Rattle.flame_spec.specs.contracts.models.Function as f;
     ghost use Rattle.flame_spec.specs.contracts.models.Model as m;
     ghost use Rattle.flame_spec.specs.contracts.trees.Unit as u;
-    ghost use Rattle.flame_lookup.specs.Sources.{Standing};
+    ghost use Rattle.flame_lookup.specs.Sources.{BodyPlace};
 
-    ghost Value = { Standing };
+    ghost Value = { BodyPlace };
 
     ghost coded = { Prim.hlevel (codes, m.the_row.coded, u.the_row.coded, a.the_row.coded, f.the_row.coded) };
 

@@ -6,13 +6,13 @@ use Rattle.flame_code.specs.declared.instrs.Instr.TheVariants.{Enter, Next, Fiel
 use Rattle.flame_code.specs.Feeds.{Fed, at_start, at_next, has_next}
 use Rattle.flame_code.specs.Routines.{IsWithin}
 use Rattle.flame_code.specs.Machine.{Given, on, deliver, act}
-use Rattle.flame_machine.specs.declared.turns.Turned.{Turned}
-use Rattle.flame_machine.specs.declared.turns.Turned.TheVariants as turned
+use Rattle.flame_machine.specs.declared.steps.MachineStep.{MachineStep}
+use Rattle.flame_machine.specs.declared.steps.MachineStep.TheVariants as turned
 use Rattle.flame_machine.specs.MachineFrames.{Framed, Additions, config}
-use Rattle.flame_machine.specs.MachineSteps.{seen, Stepped, TurnsBy}
+use Rattle.flame_machine.specs.MachineSteps.{seen, Stepped, StepsBy}
 use Rattle.flame_machine.proofs.Inputs.{first-at_start, first-at_next, has_next-first}
 
-pub in_arm : (given : Given) (w : Widths) (old : Framed) (added : Additions) (feeds : List Fed) (new : Framed) (more : Additions) (result : Turned) (instr i : Instr)
+pub in_arm : (given : Given) (w : Widths) (old : Framed) (added : Additions) (feeds : List Fed) (new : Framed) (more : Additions) (result : MachineStep) (instr i : Instr)
     → instr ≡ i → Stepped (act given w (Some i) (config old added feeds)) new more feeds result → Stepped (act given w (Some instr) (config old added feeds)) new more feeds result
 in_arm given w old added feeds new more result instr i e s = subst (λ x. Stepped (act given w (Some x) (config old added feeds)) new more feeds result) (sym e) s
 
@@ -28,17 +28,17 @@ field_within w e h = (subst (IsWithin w) e h).0
 pub field_at_within : (w : Widths) {l i c n : ℕ} {instr : Instr} → instr ≡ FieldAt l i c n → IsWithin w instr → i < length w.inputs
 field_at_within w e h = (subst (IsWithin w) e h).0
 
-module _ (given : Given) (w : Widths) (old new : Framed) (added : Additions) (feeds after : List Fed) (instr : Instr) (result : Turned) where
+module _ (given : Given) (w : Widths) (old new : Framed) (added : Additions) (feeds after : List Fed) (instr : Instr) (result : MachineStep) where
   pub entered : (i : ℕ) → instr ≡ Enter i → IsWithin w instr → after ≡ at_start i feeds → new ≡ record old { place = old.place + 1 } → result ≡ turned.On
       → Stepped (act given w (Some instr) (config old added (seen w feeds))) new added (seen w after) result
   entered i e within moved next done =
       let first : at_start i (seen w feeds) ≡ seen w after = sym (first-at_start (length w.inputs) i feeds (enter_within w e within)) ∙ ap (take (length w.inputs)) (sym moved) in
-      subst (λ (r : Turned). Stepped (act given w (Some instr) (config old added (seen w feeds))) new added (seen w after) r) (sym done)
+      subst (λ (r : MachineStep). Stepped (act given w (Some instr) (config old added (seen w feeds))) new added (seen w after) r) (sym done)
       (subst (λ x. act given w (Some x) (config old added (seen w feeds)) ≡ on (config new added (seen w after))) (sym e)
       (ap (λ (fs : List Fed). on (config (record old { place = old.place + 1 }) added fs)) first
       ∙ ap (λ (x : Framed). on (config x added (seen w after))) (sym next)))
 
-  pub delivered : (l i t : ℕ) → instr ≡ Next l i t → IsWithin w instr → after ≡ at_next i feeds → TurnsBy (deliver (has_next i feeds) l t) old new result
+  pub delivered : (l i t : ℕ) → instr ≡ Next l i t → IsWithin w instr → after ≡ at_next i feeds → StepsBy (deliver (has_next i feeds) l t) old new result
       → Stepped (act given w (Some instr) (config old added (seen w feeds))) new added (seen w after) result
   delivered l i t e within moved does =
       let lt = next_within w e within in

@@ -13,7 +13,7 @@ use Rattle.flame_code.specs.Routines.{Routine, locals_of}
 use Rattle.flame_code.specs.Validity.{IsValid}
 use Rattle.flame_code.specs.Machine.{Locals, first_locals, Given, Config, End, returned, faulted, on, calls, step}
 use Rattle.flame_code.specs.Meanings.{Runs, back, fall, entry, resumed, begun}
-use Rattle.flame_code.specs.Stands.{Stands}
+use Rattle.flame_code.specs.OnPath.{IsOnPath}
 use Rattle.flame_code.proofs.Endings.{call_named, blind_inputs, entry_stands, begun_stands}
 use Rattle.flame_code.proofs.Safety.{left, on_stands, back_stands, back_named, back_less, back_falls}
 use Rattle.flame_machine.specs.declared.endings.Finish.{Finish}
@@ -66,7 +66,7 @@ module _ (r : Routine) (frame : Framed) (args locals : List ℤ) (room fuel : �
 
   pub helper_ready : (memory : List ℤ) (feeds : List Fed) → At memory → Filled → memory ≡ [] → sees_nothing r ≡ true → length r.instrs ≤ room → Ready r frame nothing_added feeds
   helper_ready memory feeds at fill empty blind enough = record {
-    stands = subst (Stands r) (sym (helper_begins memory feeds at fill empty blind)) (entry_stands r args fuel blind);
+    stands = subst (IsOnPath r) (sym (helper_begins memory feeds at fill empty blind)) (entry_stands r args fuel blind);
     locals = let le = filled_at fill in let e = ap (λ (x : Framed). length x.locals) at in omega arith;
     room = let e = ap (λ (x : Framed). x.room) at in omega arith;
     inputs = let e = blind_inputs r blind in omega arith;
@@ -90,7 +90,7 @@ module _ (r : Routine) (frame : Framed) (locals : List ℤ) (room fuel : ℕ) (m
 
   pub code_ready : At r frame [] locals room fuel memory → Filled r frame [] locals room fuel → length memory ≡ r.widths.memory → length r.instrs ≤ room → Ready r frame nothing_added feeds
   code_ready at fill wide enough = record {
-    stands = subst (Stands r) (sym (code_begins at fill)) (begun_stands r memory feeds fuel wide rows);
+    stands = subst (IsOnPath r) (sym (code_begins at fill)) (begun_stands r memory feeds fuel wide rows);
     locals = let le = filled_at r frame [] locals room fuel fill in let e = ap (λ (x : Framed). length x.locals) at in omega arith;
     room = let e = ap (λ (x : Framed). x.room) at in omega arith;
     inputs = let e = input_count r feeds rows in omega arith;
@@ -131,7 +131,7 @@ call_ends g helpers r inner h args fuel c (finish.Faulted fault) more after give
     (subst (λ (x : Config). Runs g helpers r x (faulted fault)) begins runs))
 
 module _ (g : Given) (helpers : HelperCodes) (are : AreHelpers helpers) (r : Routine) (valid : IsValid r) (fit : calls_fit helpers.parameters r ≡ true)
-    (c d : Config) (h : ℕ) (args : List ℤ) (stands : Stands r c) (e : step g r c ≡ calls h args d) where
+    (c d : Config) (h : ℕ) (args : List ℤ) (stands : IsOnPath r c) (e : step g r c ≡ calls h args d) where
   named : (helper : Routine) × (slice_get helpers.routines h ≡ Some helper)
   named = let n = back_named r valid g c d h args stands e in call_named helpers r c.place n.0 h n.1 are fit n.2
 
@@ -151,7 +151,7 @@ module _ (g : Given) (helpers : HelperCodes) (are : AreHelpers helpers) (r : Rou
   pub ready_back : (frame : Framed) (added : Additions) (feeds : List Fed) (v : ℤ) (left : ℕ) → config frame added (seen r.widths feeds) ≡ resumed v left d
       → locals_of r.instrs ≤ length frame.locals → length r.instrs ≤ frame.room → length r.widths.inputs ≤ length feeds → Ready r frame added feeds
   ready_back frame added feeds v left same locals room inputs = record {
-    stands = subst (Stands r) (sym same) (back_stands r valid g c d h args stands e v left);
+    stands = subst (IsOnPath r) (sym same) (back_stands r valid g c d h args stands e v left);
     locals = locals;
     room = room;
     inputs = inputs;

@@ -4,9 +4,9 @@ use Rattle.flame_spec.specs.declared.outcomes.Widths.{Widths}
 use Rattle.flame_code.specs.declared.instrs.Instr.{Instr}
 use Rattle.flame_code.specs.declared.instrs.Instr.TheVariants.{Field, FieldAt}
 use Rattle.flame_code.specs.Feeds.{Fed, field}
-use Rattle.flame_code.specs.Machine.{Config, returned, faulted, Turn, on, over, calls}
-use Rattle.flame_machine.specs.declared.turns.Turned.{Turned}
-use Rattle.flame_machine.specs.declared.turns.Turned.TheVariants as turned
+use Rattle.flame_code.specs.Machine.{Config, returned, faulted, StepEnd, on, over, calls}
+use Rattle.flame_machine.specs.declared.steps.MachineStep.{MachineStep}
+use Rattle.flame_machine.specs.declared.steps.MachineStep.TheVariants as turned
 use Rattle.flame_machine.specs.MachineFrames.{Framed, Additions, config}
 
 -- the inputs that a code with these widths sees: a helper sees none, also where the code that calls it has some [own]
@@ -14,7 +14,7 @@ abbrev pub seen : Widths → List Fed → List Fed
 seen w feeds = take (length w.inputs) feeds
 
 -- the program's step came to this turn; at a call the arguments still lie on the stack, and there is room on it [own]
-abbrev pub Stepped : Turn → Framed → Additions → List Fed → Turned → Type 0
+abbrev pub Stepped : StepEnd → Framed → Additions → List Fed → MachineStep → Type 0
 Stepped turn new added feeds turned.On = turn ≡ on (config new added feeds)
 Stepped turn new added feeds (turned.Ended v) = turn ≡ over (returned v (config new added feeds))
 Stepped turn new added feeds (turned.Faulted fault) = turn ≡ over (faulted fault)
@@ -24,8 +24,8 @@ Stepped turn new added feeds (turned.Calls h n) =
 Stepped turn new added feeds turned.Full = Unit {0}
 
 -- the step came to this turn, which changes neither messages and births nor inputs [own]
-abbrev pub TurnsBy : (Config → Turn) → Framed → Framed → Turned → Type 0
-TurnsBy turn old new result =
+abbrev pub StepsBy : (Config → StepEnd) → Framed → Framed → MachineStep → Type 0
+StepsBy turn old new result =
     (added : Additions) (feeds : List Fed) → Stepped (turn (config old added feeds)) new added feeds result
 
 -- the numbers that the instruction may read of a current row are there [own]

@@ -6,7 +6,7 @@ use Rattle.flame_code.specs.HelperCodes.{HelperCodes, calls_fit}
 use Rattle.flame_code.specs.Routines.{Routine, locals_of}
 use Rattle.flame_code.specs.Machine.{Given, Config, End, returned, faulted}
 use Rattle.flame_code.specs.Meanings.{Runs, entry}
-use Rattle.flame_code.specs.Stands.{Stands}
+use Rattle.flame_code.specs.OnPath.{IsOnPath}
 use Rattle.flame_machine.specs.declared.endings.Finish.{Finish}
 use Rattle.flame_machine.specs.declared.endings.Finish.TheVariants as finish
 use Rattle.flame_machine.specs.declared.endings.Called.{Called}
@@ -26,7 +26,7 @@ pub record Suits (helpers : HelperCodes) (g : Given) (r : Routine) : Type 0 wher
 
 -- the run stands where a path leads, and has all locals, room for its stack, and its inputs [own]
 pub record Ready (r : Routine) (frame : Framed) (added : Additions) (feeds : List Fed) : Type 0 where
-  pub stands : Stands r (config frame added (seen r.widths feeds))
+  pub stands : IsOnPath r (config frame added (seen r.widths feeds))
   pub locals : locals_of r.instrs ≤ length frame.locals
   pub room : length r.instrs ≤ frame.room
   pub inputs : length r.widths.inputs ≤ length feeds

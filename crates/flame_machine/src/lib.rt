@@ -10,7 +10,7 @@ mod lists;
 mod pools;
 mod rooms;
 mod running;
-mod turns;
+mod steps;
 
 pub use fitting::{fits_entry, helpers_of};
 pub use lists::Lists;

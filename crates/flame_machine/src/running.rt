@@ -17,7 +17,7 @@ use crate::endings::{Called, Finish};
 use crate::frames::Frame;
 use crate::givens::Given;
 use crate::pools::{Pool, filled};
-use crate::turns::{Turned, apply};
+use crate::steps::{MachineStep, apply};
 use flame_code::{Code, Feed, Helpers, Instr};
 use flame_rows::NoMemory;
 
@@ -38,7 +38,7 @@ fn turn<F: Feed>(
     added: &mut Added,
     feed: &mut F,
     given: &Given,
-) -> Turned
+) -> MachineStep
     requires same { instrs.now ≡ code.now.instrs }
     requires valid { IsValid code.now }
     requires few { length code.now.instrs < 2 ^ 32 }
@@ -100,10 +100,10 @@ pub fn go<F: Feed>(
     let mut frame = frame;
     'steps: loop {
         match turn(code, instrs, &mut frame, added, feed, given) {
-            Turned::On => {}
-            Turned::Ended(value) => return Ok(Finish::Returned(value, frame)),
-            Turned::Faulted(fault) => return Ok(Finish::Faulted(fault)),
-            Turned::Calls(helper, count) => {
+            MachineStep::On => {}
+            MachineStep::Ended(value) => return Ok(Finish::Returned(value, frame)),
+            MachineStep::Faulted(fault) => return Ok(Finish::Faulted(fault)),
+            MachineStep::Calls(helper, count) => {
                 let mut args = pool.empty();
                 frame.copy_row(count as usize, &mut args)?;
                 frame.drop_row(count as usize);
@@ -115,7 +115,7 @@ pub fn go<F: Feed>(
                     Called::Faulted(fault) => return Ok(Finish::Faulted(fault)),
                 }
             }
-            Turned::Full => return Err(NoMemory),
+            MachineStep::Full => return Err(NoMemory),
         }
     }
 }

@@ -12,7 +12,7 @@ use crate::name::{array, field, field_array, got, input_read, single};
 use crate::spot::Spot;
 use flame_body::{SlotExpr, SlotLink, SlotSubscript};
 use flame_lookup::Words;
-use flame_rows::{Fail, NoMemory, Boxed, Seq};
+use flame_rows::{Boxed, Fail, NoMemory, Seq};
 use flame_spec::{CheckFault, Expr, Link, Sign, Subscript};
 use std::alloc::Global;
 

@@ -21,7 +21,7 @@ use crate::spot::Spot;
 use crate::stored::{assignment, items, optional_assignment};
 use flame_body::{SlotArm, SlotHead, SlotStmt};
 use flame_lookup::Words;
-use flame_rows::{Fail, Boxed, Seq};
+use flame_rows::{Boxed, Fail, Seq};
 use flame_spec::{Arm, CheckFault, Expr, Head, Stmt};
 use std::alloc::Global;
 

@@ -14,7 +14,7 @@ use Rattle.flame_events.specs.CoreStates.{part_in}
 use Rattle.flame_events.specs.EventSteps.{with_sent}
 use Rattle.flame_events.proofs.Holding.{messages_of-append}
 use Rattle.flame_pieces.specs.declared.works.Output.{Output}
-use Rattle.flame_pieces.specs.RunWorks.{part_of, messages_in, handed}
+use Rattle.flame_pieces.specs.KeptWorks.{part_of, messages_in, handed}
 
 abbrev one : Bool → ℕ
 one here = cond here 1 0

@@ -4,5 +4,5 @@
 pub mod FreeThings
 pub mod Waiting
 -- ---- how far functions are kept to be
-pub mod RunWorks
-pub mod RunStatuses
+pub mod KeptWorks
+pub mod KeptStatuses

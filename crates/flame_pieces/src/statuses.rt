@@ -5,8 +5,8 @@ ghost use Rattle.flame_spec.specs.Below.{HasNoTwice};
 ghost use Rattle.flame_events.specs.CoreStates.{fault_in, fault_of, is_shut, is_waiting, works_of};
 ghost use Rattle.flame_events.specs.EventSteps.{done_with};
 ghost use Rattle.flame_events.specs.LegalEvents.{may_shut};
-ghost use Rattle.flame_pieces.specs.RunWorks.{work_of, outputs_in};
-ghost use Rattle.flame_pieces.specs.RunStatuses.{status_of, HasOutputs};
+ghost use Rattle.flame_pieces.specs.KeptWorks.{work_of, outputs_in};
+ghost use Rattle.flame_pieces.specs.KeptStatuses.{status_of, HasOutputs};
 
 use crate::works::{Work, all_over};
 use flame_world::SimFault;

@@ -10,7 +10,7 @@ ghost use Rattle.flame_world.specs.AgentRuns.{messages_of};
 ghost use Rattle.flame_events.specs.CoreStates.{has_left};
 ghost use Rattle.flame_events.specs.LegalEvents.{is_over, may_hand_in};
 ghost use Rattle.flame_events.specs.EventSteps.{fresh_work, with_sent};
-ghost use Rattle.flame_pieces.specs.RunWorks.{work_of, outputs_in, messages_in, handed, HasRoom};
+ghost use Rattle.flame_pieces.specs.KeptWorks.{work_of, outputs_in, messages_in, handed, HasRoom};
 
 use flame_rows::{Bag, NoMemory, Row};
 use flame_spec::Sent;

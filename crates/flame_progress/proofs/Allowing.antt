@@ -16,7 +16,7 @@ use Rattle.flame_pieces.specs.Waiting.{is_free}
 use Rattle.flame_pieces.proofs.Freeing.{free_where_all, free_where_these}
 use Rattle.flame_progress.specs.declared.counts.Counts.{Counts}
 use Rattle.flame_progress.specs.declared.progress.Progress.{Progress}
-use Rattle.flame_progress.specs.RunCores.{core_of}
+use Rattle.flame_progress.specs.KeptCores.{core_of}
 use Rattle.flame_progress.specs.Tallying.{Tallies}
 
 -- what holds of each number that stands in a list holds of all of them

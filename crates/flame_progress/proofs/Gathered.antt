@@ -3,7 +3,7 @@ use Rattle.std.proofs.Common.{◌≡◌, ◌+◌, List, [], ◌++◌, ap, ◌∙
 use Rattle.std.specs.Prelude.{ℤ}
 use Rattle.flame_rows.specs.Bags.{ascending, merge, weigh}
 use Rattle.flame_progress.specs.declared.gatherings.Gathering.{Gathering}
-use Rattle.flame_progress.specs.RunPools.{bag_of}
+use Rattle.flame_progress.specs.KeptPools.{bag_of}
 use Rattle.flame_rows.proofs.BagLaws.{weigh-ascending, weigh-append}
 use Rattle.flame_rows.proofs.Merging.{same_bag, ascending-ascending}
 

@@ -17,9 +17,9 @@ use Rattle.flame_pieces.specs.declared.works.Output.{Output}
 use Rattle.flame_pieces.specs.declared.works.Work as run
 use Rattle.flame_pieces.specs.declared.statuses.Status as kept
 use Rattle.flame_pieces.specs.declared.statuses.Status.TheVariants as is
-use Rattle.flame_pieces.specs.RunWorks.{part_of, outputs_in, messages_in}
-use Rattle.flame_pieces.specs.RunStatuses.{status_of, HasOutputs}
-use Rattle.flame_progress.specs.RunWorkEvents.{are_left, OutputsOnce}
+use Rattle.flame_pieces.specs.KeptWorks.{part_of, outputs_in, messages_in}
+use Rattle.flame_pieces.specs.KeptStatuses.{status_of, HasOutputs}
+use Rattle.flame_progress.specs.KeptWorkEvents.{are_left, OutputsOnce}
 
 -- ---- what is there
 

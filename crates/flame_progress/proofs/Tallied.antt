@@ -11,13 +11,13 @@ use Rattle.flame_events.specs.LegalEvents.{inputs_of, outputs_of}
 use Rattle.flame_pieces.specs.FreeThings.{Tells}
 use Rattle.flame_pieces.specs.Waiting as kinds
 use Rattle.flame_pieces.specs.Waiting.{thing_at, with_done}
-use Rattle.flame_pieces.specs.RunStatuses.{status_of as kept_status}
+use Rattle.flame_pieces.specs.KeptStatuses.{status_of as kept_status}
 use Rattle.flame_pieces.proofs.Freeing.{what_is_done_is_told}
 use Rattle.flame_progress.specs.declared.counts.Counts.{Counts}
 use Rattle.flame_progress.specs.declared.progress.Progress.{Progress}
-use Rattle.flame_progress.specs.RunBoards.{is_board_frozen}
-use Rattle.flame_progress.specs.RunCores.{core_of, HasOutputsAt}
-use Rattle.flame_progress.specs.RunCounts.{Counted}
+use Rattle.flame_progress.specs.KeptBoards.{is_board_frozen}
+use Rattle.flame_progress.specs.KeptCores.{core_of, HasOutputsAt}
+use Rattle.flame_progress.specs.KeptCounts.{Counted}
 use Rattle.flame_progress.specs.Tallying.{Tallies, Came}
 
 -- ---- what is told of others

@@ -2,12 +2,12 @@
 -- libmboard: boards
 -- own: a choice of this project, or a word that a definition is made of
 -- ---- how an iteration is kept
-pub mod RunCores
-pub mod RunPools
-pub mod RunBoards
+pub mod KeptCores
+pub mod KeptPools
+pub mod KeptBoards
 -- ---- what waits for what
-pub mod RunCounts
+pub mod KeptCounts
 pub mod Tallying
 pub mod ManyWait
 -- ---- the words that only bodies and proofs use
-pub mod RunWorkEvents
+pub mod KeptWorkEvents

@@ -7,8 +7,8 @@ use Rattle.flame_events.specs.CoreStates.{Core}
 use Rattle.flame_events.specs.LegalEvents.{outputs_of}
 use Rattle.flame_progress.specs.declared.counts.Counts.{Counts}
 use Rattle.flame_progress.specs.declared.progress.Progress.{Progress}
-use Rattle.flame_progress.specs.RunCores.{core_of, HasOutputsAt}
-use Rattle.flame_progress.specs.RunCounts.{Counted}
+use Rattle.flame_progress.specs.KeptCores.{core_of, HasOutputsAt}
+use Rattle.flame_progress.specs.KeptCounts.{Counted}
 
 -- there is a status for each function, whose pieces have its outputs, none of them twice, and a board for each message, and
 -- what waits for what is counted [own]

@@ -3,7 +3,7 @@
 ghost use Rattle.std.specs.Prelude.{◌≡◌, [], true, false, Some, None, IfOk, OnOk, OnErr, option_map, if◌then◌else◌};
 ghost use Rattle.std.specs.Arc.{arc_value};
 ghost use Rattle.flame_index.specs.FrozenBoards.{messages_on, shared_messages};
-ghost use Rattle.flame_progress.specs.RunBoards.{board_bag, is_board_frozen, is_board_shared};
+ghost use Rattle.flame_progress.specs.KeptBoards.{board_bag, is_board_frozen, is_board_shared};
 
 use flame_index::Frozen;
 use flame_rows::{Bag, NoMemory, Row};

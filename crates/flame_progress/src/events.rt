@@ -8,8 +8,8 @@ ghost use Rattle.flame_events.specs.EventSteps.{after};
 ghost use Rattle.flame_events.specs.LegalEvents.{is_legal};
 ghost use Rattle.flame_pieces.specs.Waiting.{thing_at};
 ghost use Rattle.flame_progress.specs.declared.counts.Counts.{Counts as Kept};
-ghost use Rattle.flame_progress.specs.RunCores.{core_of, kept_at};
-ghost use Rattle.flame_progress.specs.RunWorkEvents.{OutputsOnce};
+ghost use Rattle.flame_progress.specs.KeptCores.{core_of, kept_at};
+ghost use Rattle.flame_progress.specs.KeptWorkEvents.{OutputsOnce};
 ghost use Rattle.flame_progress.specs.Tallying.{Came, Tallies};
 
 use crate::counts::Counts;

@@ -3,7 +3,7 @@
 ghost use Rattle.std.specs.Prelude.{◌≡◌, ◌+◌, ◌≤◌, [], ◌∷◌, IfOk, OnOk, OnErr};
 ghost use Rattle.std.specs.Vec.{vec_len, vec_capacity};
 ghost use Rattle.flame_rows.specs.Bags.{ascending, merge};
-ghost use Rattle.flame_progress.specs.RunPools.{bag_of};
+ghost use Rattle.flame_progress.specs.KeptPools.{bag_of};
 
 use flame_rows::{Bag, NoMemory, Row};
 use std::alloc::Global;

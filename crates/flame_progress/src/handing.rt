@@ -8,10 +8,10 @@ ghost use Rattle.flame_spec.specs.Below.{HasNoTwice};
 ghost use Rattle.flame_world.specs.AgentRuns.{messages_of};
 ghost use Rattle.flame_world.specs.Fields.{changed};
 ghost use Rattle.flame_events.specs.CoreStates.{Work as Meant, Open, part_in, works_of};
-ghost use Rattle.flame_pieces.specs.RunWorks.{work_of, outputs_in};
-ghost use Rattle.flame_pieces.specs.RunStatuses.{status_of, HasOutputs};
-ghost use Rattle.flame_progress.specs.RunBoards.{board_bag, is_board_frozen};
-ghost use Rattle.flame_progress.specs.RunWorkEvents.{without, OutputsOnce};
+ghost use Rattle.flame_pieces.specs.KeptWorks.{work_of, outputs_in};
+ghost use Rattle.flame_pieces.specs.KeptStatuses.{status_of, HasOutputs};
+ghost use Rattle.flame_progress.specs.KeptBoards.{board_bag, is_board_frozen};
+ghost use Rattle.flame_progress.specs.KeptWorkEvents.{without, OutputsOnce};
 
 use crate::boards::Board;
 use flame_pieces::{Status, Work};

@@ -5,7 +5,7 @@ ghost use Rattle.flame_spec.specs.declared.models.Model.{Model as Kind};
 ghost use Rattle.flame_events.specs.CoreStates.{status_of, work_of};
 ghost use Rattle.flame_events.specs.LegalEvents.{is_legal, may_freeze, may_hand_in, may_open, may_run, may_shut, outputs_of};
 ghost use Rattle.flame_progress.specs.declared.counts.Counts.{Counts as Kept};
-ghost use Rattle.flame_progress.specs.RunCores.{core_of};
+ghost use Rattle.flame_progress.specs.KeptCores.{core_of};
 ghost use Rattle.flame_progress.specs.Tallying.{Sizes, Tallies};
 
 use crate::counts::Counts;

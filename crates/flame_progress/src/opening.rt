@@ -3,7 +3,7 @@
 ghost use Rattle.std.specs.Prelude.{◌≡◌, IfOk, map};
 ghost use Rattle.std.specs.List.{All};
 ghost use Rattle.flame_events.specs.EventSteps.{fresh_work};
-ghost use Rattle.flame_pieces.specs.RunWorks.{work_of, outputs_in};
+ghost use Rattle.flame_pieces.specs.KeptWorks.{work_of, outputs_in};
 
 use flame_pieces::Work;
 use flame_rows::{Bag, NoMemory};

@@ -2,7 +2,7 @@
 
 ghost use Rattle.std.specs.Prelude.{◌≡◌, ◌<◌, [], length, map, slice_index_or};
 ghost use Rattle.flame_world.specs.Fields.{changed, changed_pool, pool_in};
-ghost use Rattle.flame_progress.specs.RunPools.{bag_of, bags_of, pools_of};
+ghost use Rattle.flame_progress.specs.KeptPools.{bag_of, bags_of, pools_of};
 
 use crate::gatherings::Gathering;
 use std::mem;

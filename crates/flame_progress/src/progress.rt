@@ -12,12 +12,12 @@ ghost use Rattle.flame_events.specs.CoreStates.{is_frozen, part_in};
 ghost use Rattle.flame_events.specs.CoreStates.{status_of, work_of, works_of};
 ghost use Rattle.flame_events.specs.EventSteps.{done_with, with_work};
 ghost use Rattle.flame_events.specs.LegalEvents.{may_run, may_hand_in, may_shut};
-ghost use Rattle.flame_pieces.specs.RunWorks.{work_of as kept_work, outputs_in};
-ghost use Rattle.flame_pieces.specs.RunStatuses.{status_of as kept_status, HasOutputs};
-ghost use Rattle.flame_progress.specs.RunPools.{bag_of};
-ghost use Rattle.flame_progress.specs.RunBoards.{board_bag, is_board_frozen};
-ghost use Rattle.flame_progress.specs.RunCores.{core_of, kept_at, HasOutputsAt};
-ghost use Rattle.flame_progress.specs.RunWorkEvents.{added, are_left, without, OutputsOnce};
+ghost use Rattle.flame_pieces.specs.KeptWorks.{work_of as kept_work, outputs_in};
+ghost use Rattle.flame_pieces.specs.KeptStatuses.{status_of as kept_status, HasOutputs};
+ghost use Rattle.flame_progress.specs.KeptPools.{bag_of};
+ghost use Rattle.flame_progress.specs.KeptBoards.{board_bag, is_board_frozen};
+ghost use Rattle.flame_progress.specs.KeptCores.{core_of, kept_at, HasOutputsAt};
+ghost use Rattle.flame_progress.specs.KeptWorkEvents.{added, are_left, without, OutputsOnce};
 
 use crate::boards::Board;
 use crate::gatherings::Gathering;

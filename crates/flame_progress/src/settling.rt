@@ -6,10 +6,10 @@ ghost use Rattle.std.specs.List.{All};
 ghost use Rattle.flame_rows.specs.Bags.{ascending, merge};
 ghost use Rattle.flame_world.specs.Fields.{changed, changed_pool};
 ghost use Rattle.flame_events.specs.CoreStates.{Work as Meant, Open, works_of};
-ghost use Rattle.flame_pieces.specs.RunWorks.{work_of, outputs_in};
-ghost use Rattle.flame_pieces.specs.RunStatuses.{status_of, HasOutputs};
-ghost use Rattle.flame_progress.specs.RunPools.{bag_of, bags_of, pools_of};
-ghost use Rattle.flame_progress.specs.RunWorkEvents.{added, are_left};
+ghost use Rattle.flame_pieces.specs.KeptWorks.{work_of, outputs_in};
+ghost use Rattle.flame_pieces.specs.KeptStatuses.{status_of, HasOutputs};
+ghost use Rattle.flame_progress.specs.KeptPools.{bag_of, bags_of, pools_of};
+ghost use Rattle.flame_progress.specs.KeptWorkEvents.{added, are_left};
 
 use crate::gatherings::Gathering;
 use crate::leavings::Leaving;

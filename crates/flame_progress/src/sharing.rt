@@ -3,7 +3,7 @@
 ghost use Rattle.std.specs.Prelude.{◌≡◌, ◌<◌, [], true, false, IfOk, length, map, slice_index_or};
 ghost use Rattle.std.specs.List.{All};
 ghost use Rattle.flame_index.specs.FrozenBoards.{shared_messages};
-ghost use Rattle.flame_progress.specs.RunBoards.{board_bag, is_board_frozen};
+ghost use Rattle.flame_progress.specs.KeptBoards.{board_bag, is_board_frozen};
 
 use crate::boards::Board;
 use flame_index::Frozen;

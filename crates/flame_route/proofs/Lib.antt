@@ -1,5 +1,5 @@
 pub mod Places
 pub mod Numbers
 pub mod SoFar
-pub mod Turns
+pub mod RouteChoices
 pub mod Found

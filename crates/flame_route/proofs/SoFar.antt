@@ -21,10 +21,10 @@ use Rattle.flame_route.proofs.Numbers.{numbers-of-type, functions-more}
 -- those of the first i types
 pub record AreSoFar (model : Model) (i : ℕ) (routes : List Route) (leaving : List (List (List ℕ))) : Type 0 where
   pub each : AllZip (IsRouteOf model) (functions_from 0 (take i model.agents)) routes
-  pub turns : (n : ℕ) (place : Place) (route : Route)
+  pub choices : (n : ℕ) (place : Place) (route : Route)
       → slice_get (functions_from 0 (take i model.agents)) n ≡ Some place
       → slice_get routes n ≡ Some route
-      → slice_get (functions_out model place.agent place.function.current) route.turn ≡ Some n
+      → slice_get (functions_out model place.agent place.function.current) route.choice ≡ Some n
   pub count : length leaving ≡ i
   pub lists : (agent : ℕ) (type : AgentType) (out : List (List ℕ))
       → slice_get model.agents agent ≡ Some type
@@ -57,35 +57,35 @@ module _ (model : Model) (i : ℕ) (type : AgentType) (routes : List Route) (lea
       let none : 0 + length before ≡ length routes = omega (arith, many) in
       sym (numbers-of-type i 0 i 0 model.agents type state same at ∙ ap (λ n. numbers_out n type.functions state) none)
 
-  -- the turn of a function of this type
-  own-turn :
+  -- the choice of a function of this type
+  own-choice :
       (n j k : ℕ) (place : Place) (route : Route)
       → n ≡ length before + j → n ≡ length routes + k
       → slice_get places j ≡ Some place
       → slice_get own k ≡ Some route
-      → slice_get (functions_out model place.agent place.function.current) route.turn ≡ Some n
-  own-turn n j k place route e f there given =
+      → slice_get (functions_out model place.agent place.function.current) route.choice ≡ Some n
+  own-choice n j k place route e f there given =
       let from : ComesFrom (at_type i type) type.functions j place = comes-from (at_type i type) type.functions j place there in
       let same : k ≡ j = omega (arith, e, f, many) in
-      let turn = mine.turns j from.item route from.there (ap (slice_get own) (sym same) ∙ given) in
+      let choice = mine.choices j from.item route from.there (ap (slice_get own) (sym same) ∙ given) in
       let number : length routes + j ≡ n = omega (arith, e, many) in
-      let here : slice_get (functions_out model i from.item.current) route.turn ≡ Some n =
-      ap (λ ns. slice_get ns route.turn) (sym (out-here from.item.current)) ∙ turn ∙ ap (λ m. Some m) number in
-      subst (λ (p : Place). slice_get (functions_out model p.agent p.function.current) route.turn ≡ Some n) from.same here
+      let here : slice_get (functions_out model i from.item.current) route.choice ≡ Some n =
+      ap (λ ns. slice_get ns route.choice) (sym (out-here from.item.current)) ∙ choice ∙ ap (λ m. Some m) number in
+      subst (λ (p : Place). slice_get (functions_out model p.agent p.function.current) route.choice ≡ Some n) from.same here
 
-  more-turns :
+  more-choices :
       (n : ℕ) (place : Place) (route : Route)
       → slice_get (before ++ places) n ≡ Some place
       → slice_get (routes ++ own) n ≡ Some route
-      → slice_get (functions_out model place.agent place.function.current) route.turn ≡ Some n
-  more-turns n place route there given =
+      → slice_get (functions_out model place.agent place.function.current) route.choice ≡ Some n
+  more-choices n place route there given =
       of-either _ before places n place there
       (λ early. of-either _ routes own n route given
-      (λ known. far.turns n place route early known)
+      (λ known. far.choices n place route early known)
       (λ k f late. absurd (omega (arith, f, many, slice_get_within before n place early))))
       (λ j e late. of-either _ routes own n route given
       (λ known. absurd (omega (arith, e, many, slice_get_within routes n route known)))
-      (λ k f own-there. own-turn n j k place route e f late own-there))
+      (λ k f own-there. own-choice n j k place route e f late own-there))
 
   same-lists : map (numbers_out (length routes) type.functions) (states type.functions) ≡ map (functions_out model i) (states type.functions)
   same-lists = ap (λ f. map f (states type.functions)) (λ k state. out-here state k)
@@ -118,7 +118,7 @@ module _ (model : Model) (i : ℕ) (type : AgentType) (routes : List Route) (lea
   one-type-more = record {
     each = subst (λ ps. AllZip (IsRouteOf model) ps (routes ++ own)) (sym grown)
         (AllZip-append (IsRouteOf model) before routes places own far.each mine.each);
-    turns = λ n place route there given. more-turns n place route (ap (λ ps. slice_get ps n) (sym grown) ∙ there) given;
+    choices = λ n place route there given. more-choices n place route (ap (λ ps. slice_get ps n) (sym grown) ∙ there) given;
     count = length-append leaving (out ∷ []) ∙ ap (λ n. n + 1) far.count;
     lists = more-leaving;
   }
@@ -133,7 +133,7 @@ all-types model routes far starts =
     let all = taken-whole model.agents in
     record {
       each = subst (λ types. AllZip (IsRouteOf model) (functions_from 0 types) routes.routes) all far.each;
-      turns = λ n place route there given. far.turns n place route (ap (λ types. slice_get (functions_from 0 types) n) all ∙ there) given;
+      choices = λ n place route there given. far.choices n place route (ap (λ types. slice_get (functions_from 0 types) n) all ∙ there) given;
       leaving = (far.count, far.lists);
       starts = starts;
     }
@@ -146,7 +146,7 @@ all-types model routes far starts =
 pub none-so-far : (model : Model) → AreSoFar model 0 [] []
 none-so-far model = record {
   each = tt;
-  turns = λ n place route there given. absurd (cc);
+  choices = λ n place route there given. absurd (cc);
   count = refl;
   lists = λ agent type out there given. absurd (cc);
 }

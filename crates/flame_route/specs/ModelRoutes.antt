@@ -27,7 +27,7 @@ abbrev pub ReadMessages : Model → Type 0
 ReadMessages model =
     (function : ℕ) (place : Place) → slice_get (functions model) function ≡ Some place → ReadsEach model place.function
 
--- the route of the function that stands in this place, but for its turn: its type, the states that it leaves and enters
+-- the route of the function that stands in this place, but for its choice: its type, the states that it leaves and enters
 -- among those of the type, the message that each input reads, and those that it adds [FLAME User Manual]
 pub record IsRouteOf (model : Model) (place : Place) (route : Route) : Type 0 where
   pub agent : route.agent ≡ place.agent
@@ -47,13 +47,13 @@ AreLeaving model leaving =
     → slice_get leaving agent ≡ Some out
     → out ≡ map (functions_out model agent) (states type.functions))
 
--- each function stands in its turn among those out of the state that it leaves [own]
-abbrev pub TakesTurns : Model → List Route → Type 0
-TakesTurns model routes =
+-- each function stands in its choice among those out of the state that it leaves [own]
+abbrev pub HaveChoices : Model → List Route → Type 0
+HaveChoices model routes =
     (function : ℕ) (place : Place) (route : Route)
     → slice_get (functions model) function ≡ Some place
     → slice_get routes function ≡ Some route
-    → slice_get (functions_out model place.agent place.function.current) route.turn ≡ Some function
+    → slice_get (functions_out model place.agent place.function.current) route.choice ≡ Some function
 
 -- the place of a type's start state among its states: the first that no function enters [own]
 abbrev pub start_place : AgentType → ℕ
@@ -63,6 +63,6 @@ start_place type = position_or_len (λ state. not (is_entered type.functions sta
 -- each type start [own]
 pub record AreRoutesOf (model : Model) (routes : Routes) : Type 0 where
   pub each : AllZip (IsRouteOf model) (functions model) routes.routes
-  pub turns : TakesTurns model routes.routes
+  pub choices : HaveChoices model routes.routes
   pub leaving : AreLeaving model routes.leaving
   pub starts : routes.starts ≡ map start_place model.agents

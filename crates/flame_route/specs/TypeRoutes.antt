@@ -26,8 +26,8 @@ pub record AreTypeRoutes
     (model : Model) (agent : ℕ) (type : AgentType) (first : ℕ) (routes : List Route) (leaving : List (List ℕ)) :
     Type 0 where
   pub each : AllZip (IsRouteOf model) (map (at_type agent type) type.functions) routes
-  pub turns : (i : ℕ) (function : Function) (route : Route)
+  pub choices : (i : ℕ) (function : Function) (route : Route)
       → slice_get type.functions i ≡ Some function
       → slice_get routes i ≡ Some route
-      → slice_get (numbers_out first type.functions function.current) route.turn ≡ Some (first + i)
+      → slice_get (numbers_out first type.functions function.current) route.choice ≡ Some (first + i)
   pub lists : leaving ≡ map (numbers_out first type.functions) (states type.functions)

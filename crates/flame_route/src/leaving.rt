@@ -33,20 +33,20 @@ fn under<'t>(table: &'t Table<Vec<u32>>, state: &str) -> &'t [u32]
     }
 }
 
-/// Notes the function under the state, and gives its turn: how many were noted there before.
-pub(crate) fn take_turn(
+/// Notes the function under the state, and gives its choice: how many were noted there before.
+pub(crate) fn next_choice(
     alloc: Global,
     table: &mut Table<Vec<u32>>,
     state: &str,
     function: u32,
 ) -> Result<u32, NoMemory>
-    ensures turn { IfOk result (λ turn. turn ≡ length (numbers_under table.old state.now)) }
+    ensures choice { IfOk result (λ choice. choice ≡ length (numbers_under table.old state.now)) }
     ensures noted { OnOk result ((q : List ℕ) → numbers_under table.new q
         ≡ (if bytes_eq state.now q then numbers_under table.old q ++ function ∷ [] else numbers_under table.old q)) }
 {
-    let turn = number(under(table, state).len())?;
+    let choice = number(under(table, state).len())?;
     note(alloc, table, state, function)?;
-    Ok(turn)
+    Ok(choice)
 }
 
 /// A copy of the numbers.

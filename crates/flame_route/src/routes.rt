@@ -22,7 +22,7 @@ pub struct Route {
     /// The state that it enters.
     pub to: u32,
     /// Its place among the functions out of the state that it leaves.
-    pub turn: u32,
+    pub choice: u32,
     /// The message that each of its inputs reads, by number.
     pub inputs: Seq<u32>,
     /// The messages that it adds, by number.

@@ -6,7 +6,7 @@ ghost use Rattle.flame_spec.specs.States.{states};
 ghost use Rattle.flame_route.specs.ModelRoutes.{ReadsEach, IsRouteOf};
 ghost use Rattle.flame_route.specs.TypeRoutes.{ReadsAll, AreTypeRoutes};
 
-use crate::leaving::{lists_of, take_turn};
+use crate::leaving::{lists_of, next_choice};
 use crate::messages::Messages;
 use crate::routes::Route;
 use crate::states::states_of;
@@ -24,7 +24,7 @@ pub(crate) struct TypeRoutes {
     pub leaving: Seq<Seq<u32>>,
 }
 
-/// The route of a function of the type of this number, which has these states; the function stands in this turn.
+/// The route of a function of the type of this number, which has these states; the function stands in this choice.
 fn route_of(
     alloc: Global,
     messages: &Messages<'_>,
@@ -32,12 +32,12 @@ fn route_of(
     at: u32,
     agent: &AgentType,
     function: &Function,
-    turn: u32,
+    choice: u32,
 ) -> Result<Route, NoMemory>
     requires states { own.now ≡ states agent.now.functions }
     requires reads { ReadsEach messages.now function.now }
     ensures route { IfOk result (IsRouteOf messages.now (at_type at agent.now function.now)) }
-    ensures turn { IfOk result (λ route. route.turn ≡ turn) }
+    ensures choice { IfOk result (λ route. route.choice ≡ choice) }
 {
     let from = number(own.place(function.current.as_str()))?;
     let to = number(own.place(function.next.as_str()))?;
@@ -47,7 +47,7 @@ fn route_of(
         agent: at,
         from,
         to,
-        turn,
+        choice,
         inputs: Seq::of(inputs),
         outputs: Seq::of(outputs),
     })
@@ -70,8 +70,8 @@ pub(crate) fn routes_of(
     let mut routes = Vec::new(alloc);
     for (i, function) in functions.iter().enumerate() {
         let here = number(first as usize + i)?;
-        let turn = take_turn(alloc, &mut table, function.current.as_str(), here)?;
-        let route = route_of(alloc, messages, &own, at, agent, function, turn)?;
+        let choice = next_choice(alloc, &mut table, function.current.as_str(), here)?;
+        let route = route_of(alloc, messages, &own, at, agent, function, choice)?;
         routes.push(route)?;
     }
     let leaving = lists_of(alloc, &table, own.items())?;

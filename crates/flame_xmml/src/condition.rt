@@ -18,7 +18,7 @@ use crate::parts::{fault, has, part, wanted};
 use crate::place::Place;
 use crate::words::{Connective, connective_of, name_of};
 use flame_ops::Op;
-use flame_rows::{Fail, Boxed, Text};
+use flame_rows::{Boxed, Fail, Text};
 use flame_spec::{Condition, Operand};
 use serde_json::Value;
 use std::alloc::Global;

@@ -8,7 +8,7 @@ use Rattle.flame_spec.specs.declared.models.Model.{Model}
 use Rattle.flame_spec.specs.Definitions.{definitions, is_for, is_idle}
 use Rattle.flame_spec.specs.FirstFaults.{FailsFirst}
 use Rattle.flame_spec.specs.Functions.{Place, functions}
-use Rattle.flame_lookup.specs.Sources.{Standing}
+use Rattle.flame_lookup.specs.Sources.{BodyPlace}
 use Rattle.flame_lookup.specs.WordsFound.{definition_found, place_found}
 use Rattle.flame_lookup.proofs.Places.{slice_get-type}
 use Rattle.flame_body.specs.FunctionBodies.{widths_in}
@@ -38,7 +38,7 @@ returns-in_ok-words-in-Some-clause-stands c =
       busy = where_false (is_idle place.function) found d c.in-Some.ensures;
       found = found_there (is_idle place.function) found d c.in-Some.ensures;
     } in
-    let standing : Option Place → Standing = λ runs. record { sources = sources; runs = runs; file = d.file } in
+    let standing : Option Place → BodyPlace = λ runs. record { sources = sources; runs = runs; file = d.file } in
     let words = c.in_ok-words-in-Some.ensures ∙ ap standing c.requires.place in
     let widths = c.in_ok-widths.ensures ∙ ap (λ (model : Model). widths_in model (Some place)) c.requires.rows in
     IfOk-weaker c.body.result _ _
@@ -57,7 +57,7 @@ returns-in_ok-words-in-Some-clause-none c =
       busy = where_false (is_idle place.function) found d c.in-Some.ensures;
       found = found_there (is_idle place.function) found d c.in-Some.ensures;
     } in
-    let standing : Option Place → Standing = λ runs. record { sources = sources; runs = runs; file = d.file } in
+    let standing : Option Place → BodyPlace = λ runs. record { sources = sources; runs = runs; file = d.file } in
     let words = c.in_ok-words-in-Some.ensures ∙ ap standing c.requires.place in
     let clean = function_clean sources.model sources.units c.args.number place d c.in_ok-words-in-Some.words
     c.requires.clean runs words in

@@ -5,7 +5,7 @@ use Rattle.flame_spec.specs.CheckFaults.{bodies_faults, body_faults, definition_
 use Rattle.flame_spec.specs.Definitions.{helpers}
 use Rattle.flame_spec.specs.Functions.{functions}
 use Rattle.flame_spec.specs.HelperFaults.{helper_context}
-use Rattle.flame_lookup.specs.Sources.{Standing, context_at}
+use Rattle.flame_lookup.specs.Sources.{BodyPlace, context_at}
 use Rattle.flame_lookup.specs.WordsFound.{definition_found}
 use Rattle.flame_check.proofs.Rests.{fails_same}
 use Rattle.flame_check.proofs.walking.clean_body.Goals as goal
@@ -21,7 +21,7 @@ returns-in_err-definition-clause-first c =
     (λ b.
     cond b (definition_faults (helper_context model hs d) d) (flat_map (body_faults model hs d) (functions model)))
     (sym c.is_helper.ensures ∙ c.if-is_helper.true)
-    ∙ ap (λ (s : Standing). definition_faults (context_at s) d) (sym c.for_helper-words.ensures) in
+    ∙ ap (λ (s : BodyPlace). definition_faults (context_at s) d) (sym c.for_helper-words.ensures) in
     rw (p.1, p.2)
     (fails_same _ (bodies_faults model hs d) (definition_faults (context_at c.for_helper-words.result) d) same
     c.in_err-definition.ensures.first)

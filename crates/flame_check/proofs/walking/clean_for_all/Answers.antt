@@ -7,7 +7,7 @@ use Rattle.std.proofs.lemmas.Result.{err_from_is_err_and}
 use Rattle.flame_spec.specs.CheckFaults.{body_faults, definition_faults, is_run_by}
 use Rattle.flame_spec.specs.Definitions.{helpers}
 use Rattle.flame_spec.specs.Functions.{functions}
-use Rattle.flame_lookup.specs.Sources.{Standing, context_at}
+use Rattle.flame_lookup.specs.Sources.{BodyPlace, context_at}
 use Rattle.flame_lookup.specs.WordsFound.{definition_found}
 use Rattle.flame_check.proofs.Members.{number_within}
 use Rattle.flame_check.proofs.Rests.{fails_same, item_more, item_fails}
@@ -37,7 +37,7 @@ returns-in_err-definition-clause-first c =
     let numbers = c.run_by-numbers.result.now in
     let i = c.loop-number.number-index in
     let same : faults_by sources d (get_or numbers i 0) ≡ definition_faults (context_at c.in_ok-words.words) d =
-    ap (λ (s : Standing). definition_faults (context_at s) d) (sym c.in_ok-words.ensures) in
+    ap (λ (s : BodyPlace). definition_faults (context_at s) d) (sym c.in_ok-words.ensures) in
     rw (p.1, p.2)
     (item_fails (faults_by sources d) numbers i 0
     (flat_map (body_faults sources.model (helpers sources.model sources.units) d) (functions sources.model)) _
@@ -52,7 +52,7 @@ loop-number-preserved c =
     let numbers = c.run_by-numbers.result.now in
     let i = c.loop-number.number-index in
     let none : faults_by sources d (get_or numbers i 0) ≡ [] =
-    ap (λ (s : Standing). definition_faults (context_at s) d) (sym c.in_ok-words.ensures)
+    ap (λ (s : BodyPlace). definition_faults (context_at s) d) (sym c.in_ok-words.ensures)
     ∙ c.in_ok-definition.ensures.clean in
     item_more (faults_by sources d) numbers i 0
     (flat_map (body_faults sources.model (helpers sources.model sources.units) d) (functions sources.model))

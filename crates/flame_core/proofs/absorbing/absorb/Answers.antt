@@ -14,14 +14,14 @@ use Rattle.flame_events.specs.EventSteps.{with_work}
 use Rattle.flame_events.specs.LegalEvents.{outputs_of}
 use Rattle.flame_progress.specs.declared.counts.Counts.{Counts}
 use Rattle.flame_progress.specs.declared.leavings.Leaving.{Leaving}
-use Rattle.flame_progress.specs.RunCores.{core_of, HasOutputsAt}
-use Rattle.flame_progress.specs.RunWorkEvents.{added}
+use Rattle.flame_progress.specs.KeptCores.{core_of, HasOutputsAt}
+use Rattle.flame_progress.specs.KeptWorkEvents.{added}
 use Rattle.flame_progress.specs.Tallying.{Came}
 use Rattle.flame_progress.proofs.Tallied.{came}
 use Rattle.flame_progress.proofs.Written.{on_err}
-use Rattle.flame_core.specs.RunReady.{Ready}
-use Rattle.flame_core.specs.RunShares.{as_sent}
-use Rattle.flame_core.specs.RunSteps.{GoesBy}
+use Rattle.flame_core.specs.KeptReady.{Ready}
+use Rattle.flame_core.specs.KeptShares.{as_sent}
+use Rattle.flame_core.specs.KeptSteps.{GoesBy}
 use Rattle.flame_core.proofs.Stepped.{has-route}
 use Rattle.flame_core.proofs.TakenIn.{piece_below, taken_in}
 use Rattle.flame_core.proofs.absorbing.absorb.Goals as goal

@@ -1,6 +1,6 @@
 use Rattle.std.proofs.Common.{◌≡◌, ◌++◌, length}
 use Rattle.std.specs.Vec.Iter.{into_iter_items, into_iter_len}
-use Rattle.flame_core.specs.RunShares.{as_sent}
+use Rattle.flame_core.specs.KeptShares.{as_sent}
 use Rattle.flame_core.proofs.absorbing.add_messages.Given as goal
 
 abbrev pub invariant-loop-row : goal.invariant-loop-row

@@ -1,6 +1,6 @@
 use Rattle.std.proofs.Common.{◌≡◌, ◌++◌, length, map}
 use Rattle.std.specs.Vec.Iter.{into_iter_items, into_iter_len}
-use Rattle.flame_progress.specs.RunBoards.{board_bag}
+use Rattle.flame_progress.specs.KeptBoards.{board_bag}
 use Rattle.flame_core.proofs.ending.bags_of_boards.Given as goal
 
 abbrev pub invariant-loop-board : goal.invariant-loop-board

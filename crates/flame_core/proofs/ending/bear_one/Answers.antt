@@ -1,6 +1,6 @@
 use Rattle.std.proofs.Common.{[], ◌∷◌, sym, arith}
 use Rattle.flame_rows.specs.Bags.{merge}
-use Rattle.flame_progress.specs.RunPools.{bag_of}
+use Rattle.flame_progress.specs.KeptPools.{bag_of}
 use Rattle.flame_progress.proofs.Changed.{map-written}
 use Rattle.flame_core.proofs.Past.{changed-past}
 use Rattle.flame_core.proofs.ending.bear_one.Goals as goal

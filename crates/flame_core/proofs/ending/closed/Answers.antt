@@ -4,7 +4,7 @@ use Rattle.std.specs.List.{flat_map, zip}
 use Rattle.flame_rows.specs.Bags.{merge}
 use Rattle.flame_world.specs.AgentRuns.{births_of}
 use Rattle.flame_world.specs.Fields.{joined}
-use Rattle.flame_progress.specs.RunPools.{pools_of}
+use Rattle.flame_progress.specs.KeptPools.{pools_of}
 use Rattle.flame_progress.proofs.Cores.{same_for_all}
 use Rattle.flame_core.proofs.ending.closed.Goals as goal
 

@@ -3,7 +3,7 @@ use Rattle.flame_spec.specs.declared.outcomes.Source.{Source}
 use Rattle.flame_world.specs.Fields.{Field, gathered}
 use Rattle.flame_world.specs.Iterations.{turn_of, unless_faulted}
 use Rattle.flame_events.specs.CoreEnds.{first_fault}
-use Rattle.flame_progress.specs.RunCores.{core_of}
+use Rattle.flame_progress.specs.KeptCores.{core_of}
 use Rattle.flame_core.proofs.Finished.{done_is}
 use Rattle.flame_core.proofs.ending.ended.Goals as goal
 

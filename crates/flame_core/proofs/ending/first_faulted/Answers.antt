@@ -2,7 +2,7 @@
 use Rattle.std.proofs.Common.{◌≡◌, ◌∙◌, Some, false, ap, get_or, length, sym, arith}
 use Rattle.std.specs.Prelude.{ℕ, position}
 use Rattle.flame_events.specs.CoreEnds.{is_faulted}
-use Rattle.flame_progress.specs.RunCores.{core_of}
+use Rattle.flame_progress.specs.KeptCores.{core_of}
 use Rattle.flame_core.proofs.Ranks.{found_rank, none_ranked}
 use Rattle.flame_core.proofs.ending.first_faulted.Goals as goal
 use borrow.Author.Count.{below_more}

@@ -1,6 +1,6 @@
 use Rattle.std.proofs.Common.{◌≡◌, ◌<◌, ℕ, false, get_or}
 use Rattle.flame_events.specs.CoreEnds.{is_faulted}
-use Rattle.flame_progress.specs.RunCores.{core_of}
+use Rattle.flame_progress.specs.KeptCores.{core_of}
 use Rattle.flame_core.proofs.ending.first_faulted.Given as goal
 
 abbrev pub invariant-loop-function : goal.invariant-loop-function

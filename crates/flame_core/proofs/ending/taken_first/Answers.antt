@@ -5,9 +5,9 @@ use Rattle.std.proofs.lemmas.List.{drop_all, length-map}
 use Rattle.flame_events.specs.CoreEnds.{first_fault, is_faulted}
 use Rattle.flame_events.specs.CoreStates.{Core, fault_of, status_of}
 use Rattle.flame_events.proofs.Ends.{first_fault-cons}
-use Rattle.flame_pieces.specs.RunStatuses.{status_of as kept_status}
+use Rattle.flame_pieces.specs.KeptStatuses.{status_of as kept_status}
 use Rattle.flame_progress.specs.declared.progress.Progress.{Progress}
-use Rattle.flame_progress.specs.RunCores.{core_of}
+use Rattle.flame_progress.specs.KeptCores.{core_of}
 use Rattle.flame_progress.proofs.Cores.{status_at}
 use Rattle.flame_core.proofs.Gets.{drop-next}
 use Rattle.flame_core.proofs.Faulting.{faulted_within, or_here, or_later}

@@ -1,6 +1,6 @@
 use Rattle.std.proofs.Common.{◌≡◌, drop}
 use Rattle.flame_events.specs.CoreEnds.{first_fault}
-use Rattle.flame_progress.specs.RunCores.{core_of}
+use Rattle.flame_progress.specs.KeptCores.{core_of}
 use Rattle.flame_core.proofs.ending.taken_first.Given as goal
 
 abbrev pub invariant-loop-function : goal.invariant-loop-function

@@ -1,7 +1,7 @@
 use Rattle.std.proofs.Common.{◌∙◌, sym}
 use Rattle.flame_rows.specs.Bags.{ascending, merge}
 use Rattle.flame_world.specs.Fields.{changed}
-use Rattle.flame_progress.specs.RunPools.{bags_of}
+use Rattle.flame_progress.specs.KeptPools.{bags_of}
 use Rattle.flame_progress.proofs.Changed.{map-written, within_list, changed-same_change}
 use Rattle.flame_rows.proofs.Merging.{merge-ascending}
 use Rattle.flame_core.proofs.fields.arrive.Goals as goal

@@ -6,7 +6,7 @@ use Rattle.flame_rows.specs.Bags.{merge}
 use Rattle.flame_spec.specs.declared.outcomes.Born.{Born}
 use Rattle.flame_world.specs.AgentRuns.{births_of}
 use Rattle.flame_world.specs.Fields.{joined}
-use Rattle.flame_progress.specs.RunPools.{bag_of, bags_of}
+use Rattle.flame_progress.specs.KeptPools.{bag_of, bags_of}
 use Rattle.flame_progress.proofs.Changed.{map-written}
 use Rattle.flame_progress.proofs.Gathered.{bag-in_order}
 use Rattle.flame_progress.proofs.Joining.{joined-birth, joined-nothing}

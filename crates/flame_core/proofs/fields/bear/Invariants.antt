@@ -4,7 +4,7 @@ use Rattle.std.specs.Vec.Iter.{into_iter_items, into_iter_len}
 use Rattle.flame_spec.specs.declared.outcomes.Born.{Born}
 use Rattle.flame_world.specs.AgentRuns.{births_of}
 use Rattle.flame_world.specs.Fields.{joined}
-use Rattle.flame_progress.specs.RunPools.{bags_of}
+use Rattle.flame_progress.specs.KeptPools.{bags_of}
 use Rattle.flame_core.proofs.fields.bear.Given as goal
 
 abbrev pub invariant-loop-birth : goal.invariant-loop-birth

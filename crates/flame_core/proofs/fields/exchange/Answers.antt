@@ -1,5 +1,5 @@
 use Rattle.flame_world.specs.Fields.{changed}
-use Rattle.flame_progress.specs.RunPools.{bag_of, bags_of}
+use Rattle.flame_progress.specs.KeptPools.{bag_of, bags_of}
 use Rattle.flame_progress.proofs.Changed.{map-written, within_list}
 use Rattle.flame_core.proofs.fields.exchange.Goals as goal
 

@@ -1,5 +1,5 @@
 use Rattle.std.proofs.Common.{ap}
-use Rattle.flame_progress.specs.RunPools.{bag_of}
+use Rattle.flame_progress.specs.KeptPools.{bag_of}
 use Rattle.flame_progress.proofs.Changed.{map-written}
 use Rattle.flame_core.proofs.fields.exchanged.Goals as goal
 

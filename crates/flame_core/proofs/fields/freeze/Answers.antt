@@ -3,7 +3,7 @@ use Rattle.std.specs.Prelude.{ℤ}
 use Rattle.std.proofs.lemmas.List.{length-set, map-append, take_more}
 use Rattle.flame_rows.proofs.Lists.{slice_index_or-map}
 use Rattle.flame_index.specs.FrozenBoards.{shared_messages}
-use Rattle.flame_core.specs.RunFields.{board_bag}
+use Rattle.flame_core.specs.KeptFields.{board_bag}
 use Rattle.flame_progress.proofs.Changed.{map-written, changed-not}
 use Rattle.flame_core.proofs.fields.freeze.Goals as goal
 

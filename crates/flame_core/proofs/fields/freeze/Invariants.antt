@@ -1,6 +1,6 @@
 use Rattle.std.proofs.Common.{◌≡◌, [], length, map, take, slice_index_or}
 use Rattle.flame_index.specs.FrozenBoards.{shared_messages}
-use Rattle.flame_core.specs.RunFields.{board_bag}
+use Rattle.flame_core.specs.KeptFields.{board_bag}
 use Rattle.flame_core.proofs.fields.freeze.Given as goal
 
 abbrev pub invariant-loop-message : goal.invariant-loop-message

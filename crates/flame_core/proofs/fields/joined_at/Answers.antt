@@ -1,5 +1,5 @@
 use Rattle.flame_rows.specs.Bags.{merge}
-use Rattle.flame_progress.specs.RunPools.{bag_of}
+use Rattle.flame_progress.specs.KeptPools.{bag_of}
 use Rattle.flame_progress.proofs.Changed.{map-written}
 use Rattle.flame_core.proofs.fields.joined_at.Goals as goal
 

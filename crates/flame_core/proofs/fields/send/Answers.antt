@@ -6,7 +6,7 @@ use Rattle.flame_rows.specs.Bags.{merge}
 use Rattle.flame_spec.specs.declared.outcomes.Sent.{Sent}
 use Rattle.flame_world.specs.AgentRuns.{messages_of}
 use Rattle.flame_world.specs.Fields.{joined}
-use Rattle.flame_core.specs.RunFields.{board_bag}
+use Rattle.flame_core.specs.KeptFields.{board_bag}
 use Rattle.flame_progress.proofs.Changed.{map-written}
 use Rattle.flame_core.proofs.BoardBags.{board-in_order}
 use Rattle.flame_progress.proofs.Joining.{joined-message, joined-nothing}

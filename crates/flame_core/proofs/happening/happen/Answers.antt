@@ -3,9 +3,9 @@ use Rattle.std.proofs.Common.{sym, ap, ◌∙◌, subst}
 use Rattle.flame_events.specs.declared.events.Event.{Event}
 use Rattle.flame_events.specs.LegalEvents.{is_legal}
 use Rattle.flame_events.specs.EventSteps.{after}
-use Rattle.flame_progress.specs.RunCores.{core_of}
+use Rattle.flame_progress.specs.KeptCores.{core_of}
 use Rattle.flame_progress.specs.Tallying.{Came}
-use Rattle.flame_core.specs.RunSteps.{round_of}
+use Rattle.flame_core.specs.KeptSteps.{round_of}
 use Rattle.flame_progress.proofs.Written.{on_err}
 use Rattle.flame_core.proofs.Allowed.{can_freeze, can_hand_in, can_shut}
 use Rattle.flame_core.proofs.happening.happen.Goals as goal

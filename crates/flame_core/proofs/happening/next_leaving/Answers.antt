@@ -2,8 +2,8 @@ use Rattle.std.proofs.Common.{List, sym, subst}
 use Rattle.std.specs.Prelude.{ℤ}
 use Rattle.std.proofs.lemmas.Result.{IfOk-weaker}
 use Rattle.flame_meaning.specs.Outcomes.{outcome}
-use Rattle.flame_pieces.specs.RunWorks.{work_of as kept_work}
-use Rattle.flame_progress.specs.RunCores.{core_of}
+use Rattle.flame_pieces.specs.KeptWorks.{work_of as kept_work}
+use Rattle.flame_progress.specs.KeptCores.{core_of}
 use Rattle.flame_core.specs.AgentLeavings.{IsLeft, IsNext}
 use Rattle.flame_core.proofs.Leaving.{one_next}
 use Rattle.flame_core.proofs.happening.next_leaving.Goals as goal

@@ -13,11 +13,11 @@ use Rattle.flame_events.specs.LegalEvents.{outputs_of}
 use Rattle.flame_events.proofs.Sound.{can_open}
 use Rattle.flame_pieces.specs.declared.statuses.Status as kept
 use Rattle.flame_pieces.specs.declared.statuses.Status.TheVariants as is
-use Rattle.flame_pieces.specs.RunWorks.{work_of, outputs_in}
-use Rattle.flame_pieces.specs.RunStatuses.{status_of as kept_status, HasOutputs}
-use Rattle.flame_progress.specs.RunCores.{core_of}
+use Rattle.flame_pieces.specs.KeptWorks.{work_of, outputs_in}
+use Rattle.flame_pieces.specs.KeptStatuses.{status_of as kept_status, HasOutputs}
+use Rattle.flame_progress.specs.KeptCores.{core_of}
 use Rattle.flame_progress.proofs.Tallied.{came_as}
-use Rattle.flame_core.specs.RunSteps.{round_of}
+use Rattle.flame_core.specs.KeptSteps.{round_of}
 use Rattle.flame_core.proofs.Comings.{open_is, opened_counted, opened_has}
 use Rattle.flame_core.proofs.Stepped.{has-route}
 use Rattle.flame_core.proofs.happening.open_function.Goals as goal

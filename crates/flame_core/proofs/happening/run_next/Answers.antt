@@ -9,14 +9,14 @@ use Rattle.flame_events.specs.CoreStates.{Status, Open, Core, is_shut, status_of
 use Rattle.flame_events.specs.EventSteps.{with_work}
 use Rattle.flame_events.specs.LegalEvents.{outputs_of}
 use Rattle.flame_events.proofs.Sound.{opens_with}
-use Rattle.flame_progress.specs.RunCores.{core_of}
-use Rattle.flame_progress.specs.RunWorkEvents.{added, are_left}
+use Rattle.flame_progress.specs.KeptCores.{core_of}
+use Rattle.flame_progress.specs.KeptWorkEvents.{added, are_left}
 use Rattle.flame_progress.specs.Tallying.{Came}
 use Rattle.flame_progress.proofs.Written.{on_err}
 use Rattle.flame_progress.proofs.Known.{open_within}
 use Rattle.flame_progress.proofs.Tallied.{came, counted_kept, status_kept}
 use Rattle.flame_core.specs.AgentLeavings.{HasNext, IsNext}
-use Rattle.flame_core.specs.RunSteps.{round_of}
+use Rattle.flame_core.specs.KeptSteps.{round_of}
 use Rattle.flame_core.proofs.Comings.{agent_is}
 use Rattle.flame_core.proofs.Leaving.{has_next, left_of_it}
 use Rattle.flame_core.proofs.Running.{next_wide, running_below}

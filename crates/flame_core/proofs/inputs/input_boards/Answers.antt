@@ -6,8 +6,8 @@ use Rattle.flame_spec.specs.Functions.{Place}
 use Rattle.flame_index.specs.FrozenBoards.{shared_messages}
 use Rattle.flame_agent.specs.FunctionFits.{AreBoardsFor}
 use Rattle.flame_events.specs.CoreStates.{is_frozen}
-use Rattle.flame_progress.specs.RunBoards.{board_bag}
-use Rattle.flame_progress.specs.RunCores.{core_of}
+use Rattle.flame_progress.specs.KeptBoards.{board_bag}
+use Rattle.flame_progress.specs.KeptCores.{core_of}
 use Rattle.flame_progress.proofs.Tallied.{came}
 use Rattle.flame_core.proofs.Running.{fed_frozen, fed_known, same_core}
 use Rattle.flame_core.proofs.Stepped.{frozen-named, frozen-wide}

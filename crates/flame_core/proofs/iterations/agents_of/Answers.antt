@@ -5,7 +5,7 @@ use Rattle.std.specs.Vec.Iter.{into_iter_items}
 use Rattle.std.specs.Iterator.Adapters.{zip_first, zip_second}
 use Rattle.std.proofs.lemmas.List.{length-map}
 use Rattle.flame_rows.specs.Bags.{merge}
-use Rattle.flame_progress.specs.RunPools.{bag_of, bags_of}
+use Rattle.flame_progress.specs.KeptPools.{bag_of, bags_of}
 use Rattle.flame_core.proofs.iterations.agents_of.Goals as goal
 
 none-left : {X Y Z : Type 0} (f : X × Y → Z) (xs : List X) (ys : List Y) → (length xs ≡ 0) ⊎ (length ys ≡ 0) → map f (zip xs ys) ≡ []

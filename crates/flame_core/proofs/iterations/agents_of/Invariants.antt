@@ -3,7 +3,7 @@ use Rattle.std.specs.List.{flat_map, zip}
 use Rattle.std.specs.Vec.Iter.{into_iter_items, into_iter_len}
 use Rattle.std.specs.Iterator.Adapters.{zip_first, zip_second}
 use Rattle.flame_rows.specs.Bags.{merge}
-use Rattle.flame_progress.specs.RunPools.{bag_of, bags_of, pools_of}
+use Rattle.flame_progress.specs.KeptPools.{bag_of, bags_of, pools_of}
 use Rattle.flame_core.proofs.iterations.agents_of.Given as goal
 
 abbrev pub invariant-loop-pools : goal.invariant-loop-pools

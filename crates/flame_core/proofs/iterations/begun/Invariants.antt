@@ -1,5 +1,5 @@
 use Rattle.std.proofs.Common.{◌≡◌, [], length, map, take}
-use Rattle.flame_progress.specs.RunPools.{bags_of}
+use Rattle.flame_progress.specs.KeptPools.{bags_of}
 use Rattle.flame_core.proofs.iterations.begun.Given as goal
 
 abbrev pub invariant-loop-state : goal.invariant-loop-state

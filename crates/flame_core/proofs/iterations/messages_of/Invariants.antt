@@ -1,6 +1,6 @@
 use Rattle.std.proofs.Common.{◌≡◌, ◌++◌, length, map}
 use Rattle.std.specs.Vec.Iter.{into_iter_items, into_iter_len}
-use Rattle.flame_core.specs.RunFields.{board_bag}
+use Rattle.flame_core.specs.KeptFields.{board_bag}
 use Rattle.flame_core.proofs.iterations.messages_of.Given as goal
 
 abbrev pub invariant-loop-board : goal.invariant-loop-board

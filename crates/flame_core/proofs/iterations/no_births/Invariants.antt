@@ -1,5 +1,5 @@
 use Rattle.std.proofs.Common.{◌≡◌, [], map, take}
-use Rattle.flame_progress.specs.RunPools.{bags_of}
+use Rattle.flame_progress.specs.KeptPools.{bags_of}
 use Rattle.flame_core.proofs.iterations.no_births.Given as goal
 
 abbrev pub invariant-loop-agent : goal.invariant-loop-agent

@@ -1,5 +1,5 @@
 use Rattle.std.proofs.Common.{◌≡◌, [], map, take}
-use Rattle.flame_core.specs.RunFields.{board_bag}
+use Rattle.flame_core.specs.KeptFields.{board_bag}
 use Rattle.flame_core.proofs.iterations.no_messages.Given as goal
 
 abbrev pub invariant-loop-message : goal.invariant-loop-message

@@ -13,7 +13,7 @@ use Rattle.flame_spec.specs.States.{is_entered, states}
 use Rattle.flame_route.specs.ModelRoutes.{start_place}
 use Rattle.flame_program.proofs.Acceptances.{accepted-are-runnable}
 use Rattle.flame_world.specs.Fields.{begun, changed}
-use Rattle.flame_progress.specs.RunPools.{bags_of, pools_of}
+use Rattle.flame_progress.specs.KeptPools.{bags_of, pools_of}
 use Rattle.flame_core.proofs.Beginnings.{next-type, nones, some-left, stands-alone}
 use Rattle.flame_route.proofs.Places.{zip-length}
 use Rattle.flame_core.proofs.iterations.pools_begun.Goals as goal

@@ -5,7 +5,7 @@ use Rattle.std.specs.Iterator.Adapters.{zip_first, zip_second}
 use Rattle.std.specs.Slice.Iter.{iter_rest}
 use Rattle.flame_route.specs.ModelRoutes.{start_place}
 use Rattle.flame_world.specs.Fields.{begun}
-use Rattle.flame_progress.specs.RunPools.{pools_of}
+use Rattle.flame_progress.specs.KeptPools.{pools_of}
 use Rattle.flame_core.proofs.iterations.pools_begun.Given as goal
 
 abbrev pub invariant-loop-bag : goal.invariant-loop-bag

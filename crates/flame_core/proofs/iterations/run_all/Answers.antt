@@ -4,8 +4,8 @@ use Rattle.flame_spec.specs.Before.{before, function_count}
 use Rattle.flame_spec.specs.ModelOrder.{model_order}
 use Rattle.flame_world.specs.Iterations.{and_on, step, steps}
 use Rattle.flame_world.proofs.WidthsKept.{fitting_fields_stay}
-use Rattle.flame_core.specs.RunFields.{field_of}
-use Rattle.flame_core.specs.RunSteps.{result_of, round_of}
+use Rattle.flame_core.specs.KeptFields.{field_of}
+use Rattle.flame_core.specs.KeptSteps.{result_of, round_of}
 use Rattle.flame_core.proofs.Gets.{drop-next}
 use Rattle.flame_core.proofs.iterations.run_all.Goals as goal
 

@@ -1,8 +1,8 @@
 use Rattle.std.proofs.Common.{◌≡◌, drop}
 use Rattle.flame_world.specs.Iterations.{steps}
 use Rattle.flame_world.specs.WorldFits.{FitsField}
-use Rattle.flame_core.specs.RunFields.{field_of}
-use Rattle.flame_core.specs.RunSteps.{round_of}
+use Rattle.flame_core.specs.KeptFields.{field_of}
+use Rattle.flame_core.specs.KeptSteps.{round_of}
 use Rattle.flame_core.proofs.iterations.run_all.Given as goal
 
 abbrev pub invariant-loop-function : goal.invariant-loop-function

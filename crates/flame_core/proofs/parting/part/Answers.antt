@@ -5,7 +5,7 @@ use Rattle.std.proofs.lemmas.Result.{IfOk-weaker}
 use Rattle.flame_spec.specs.Choice.{functions_out, leaves, takers}
 use Rattle.flame_spec.specs.Functions.{Place, functions}
 use Rattle.flame_world.specs.Iterations.{staying}
-use Rattle.flame_core.specs.RunSteps.{round_of}
+use Rattle.flame_core.specs.KeptSteps.{round_of}
 use Rattle.flame_core.proofs.Gets.{numbers-in}
 use Rattle.flame_route.proofs.Places.{zip-length}
 use Rattle.flame_core.proofs.Stepped.{chosen-takers, one-place}

@@ -1,5 +1,5 @@
 use Rattle.std.proofs.Common.{◌≡◌, [], false, map, take}
-use Rattle.flame_progress.specs.RunBoards.{board_bag, is_board_frozen}
+use Rattle.flame_progress.specs.KeptBoards.{board_bag, is_board_frozen}
 use Rattle.flame_core.proofs.starting.all_gathering.Given as goal
 
 abbrev pub invariant-loop-message : goal.invariant-loop-message

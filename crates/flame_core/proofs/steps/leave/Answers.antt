@@ -5,8 +5,8 @@ use Rattle.flame_spec.specs.Functions.{Place}
 use Rattle.flame_spec.specs.States.{state_place}
 use Rattle.flame_world.specs.Fields.{changed_pool, pool_in}
 use Rattle.flame_world.specs.Iterations.{staying, taking}
-use Rattle.flame_progress.specs.RunPools.{bag_of, pools_of}
-use Rattle.flame_core.specs.RunSteps.{round_of}
+use Rattle.flame_progress.specs.KeptPools.{bag_of, pools_of}
+use Rattle.flame_core.specs.KeptSteps.{round_of}
 use Rattle.flame_progress.proofs.Changed.{changed_pool-again, changed_pool-length, changed_pool-to}
 use Rattle.flame_core.proofs.Stepped.{one-place}
 use Rattle.flame_core.proofs.steps.leave.Goals as goal

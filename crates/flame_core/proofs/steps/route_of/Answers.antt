@@ -26,5 +26,5 @@ returns c =
       place = found.item;
       there = found.there;
       routed = AllZip-at (IsRouteOf model) (functions model) routes function found.item route c.routes.ensures.each found.there there;
-      turn = c.routes.ensures.turns function found.item route found.there there;
+      choice = c.routes.ensures.choices function found.item route found.there there;
     }

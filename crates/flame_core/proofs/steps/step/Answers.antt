@@ -14,9 +14,9 @@ use Rattle.flame_world.specs.Iterations.{outcome_in, staying, taking}
 use Rattle.flame_world.specs.WorldFits.{AreWide}
 use Rattle.flame_core.specs.declared.takers.Ran.{Ran}
 use Rattle.flame_core.specs.declared.takers.Ran.TheVariants.{Left, Faulted}
-use Rattle.flame_progress.specs.RunPools.{bag_of, bags_of, pools_of}
-use Rattle.flame_core.specs.RunFields.{board_bag, field_of}
-use Rattle.flame_core.specs.RunSteps.{round_of}
+use Rattle.flame_progress.specs.KeptPools.{bag_of, bags_of, pools_of}
+use Rattle.flame_core.specs.KeptFields.{board_bag, field_of}
+use Rattle.flame_core.specs.KeptSteps.{round_of}
 use Rattle.flame_core.specs.TakerRuns.{Leaves}
 use Rattle.flame_progress.proofs.Changed.{changed_pool-length}
 use Rattle.flame_core.proofs.LeftRows.{born-within, sent-within}

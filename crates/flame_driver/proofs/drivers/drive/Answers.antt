@@ -32,8 +32,8 @@ loop-done-preserved g c =
     let sink = g.S.Sink.seen c.args.out.now in
     let depot' = g.D.Depot.seen l.depot in
     let sink' = g.S.Sink.seen l.out in
-    let depot'' = g.D.Depot.seen c.turn.new.depot in
-    let sink'' = g.S.Sink.seen c.turn.new.out in
+    let depot'' = g.D.Depot.seen c.iterate_once.new.depot in
+    let sink'' = g.S.Sink.seen c.iterate_once.new.out in
     record {
       number = number_after c.args.start.itno l.start.itno c.in-Ok.next.itno l.done i.number e.number;
       fits = e.fits;
@@ -57,7 +57,7 @@ returns-in-Err-clause-drives g c =
     c.in-Err.field-0.end c.in-Err.field-0.files l.done l.start
     (outside (g.D.Depot.seen c.args.depot.now) (g.S.Sink.seen c.args.out.now))
     (outside (g.D.Depot.seen l.depot) (g.S.Sink.seen l.out))
-    (outside (g.D.Depot.seen c.turn.new.depot) (g.S.Sink.seen c.turn.new.out))
+    (outside (g.D.Depot.seen c.iterate_once.new.depot) (g.S.Sink.seen c.iterate_once.new.out))
     (omega arith) l.invariant.number l.invariant.reaches c.in-Err.ensures.stops
 
 pub returns-clause-drives : goal.returns-clause-drives
@@ -72,10 +72,10 @@ returns-clause-drives g c =
 
 pub returns-in-Err-clause-grows : goal.returns-in-Err-clause-grows
 returns-in-Err-clause-grows g c =
-    grows_join (g.S.Sink.seen c.args.out.now) (g.S.Sink.seen c.loop-done.out) (g.S.Sink.seen c.turn.new.out)
+    grows_join (g.S.Sink.seen c.args.out.now) (g.S.Sink.seen c.loop-done.out) (g.S.Sink.seen c.iterate_once.new.out)
     c.loop-done.invariant.grows c.in-Err.ensures.grows
 
 pub returns-in-Err-clause-puts : goal.returns-in-Err-clause-puts
 returns-in-Err-clause-puts g c =
-    puts_join (g.D.Depot.seen c.args.depot.now) (g.D.Depot.seen c.loop-done.depot) (g.D.Depot.seen c.turn.new.depot)
+    puts_join (g.D.Depot.seen c.args.depot.now) (g.D.Depot.seen c.loop-done.depot) (g.D.Depot.seen c.iterate_once.new.depot)
     c.loop-done.invariant.puts c.in-Err.ensures.puts

@@ -2,7 +2,7 @@ use Rattle.std.proofs.Common.{[], ◌∷◌, map, ap, sym, ◌∙◌}
 use Rattle.std.specs.Option.{option_or}
 use Rattle.std.proofs.lemmas.List.{map-append}
 use Rattle.flame_events.specs.CoreStates.{fault_in}
-use Rattle.flame_pieces.specs.RunWorks.{work_of}
+use Rattle.flame_pieces.specs.KeptWorks.{work_of}
 use Rattle.flame_pieces.proofs.Faults.{fault_more}
 use Rattle.flame_pieces.proofs.statuses.fault_among.Goals as goal
 

@@ -7,7 +7,7 @@ use Rattle.std.proofs.lemmas.List.Folds.{list_all_at, list_all_more, list_all-ma
 use Rattle.flame_spec.specs.Below.{HasNoTwice}
 use Rattle.flame_events.specs.LegalEvents.{is_over}
 use Rattle.flame_pieces.specs.declared.works.Work.{Work}
-use Rattle.flame_pieces.specs.RunWorks.{work_of, outputs_in}
+use Rattle.flame_pieces.specs.KeptWorks.{work_of, outputs_in}
 use Rattle.flame_pieces.proofs.works.all_over.Goals as goal
 
 -- what is known of the piece at hand

@@ -2,7 +2,7 @@ use Rattle.std.proofs.Common.{◌≡◌, ℕ, List, true, map, take}
 use Rattle.std.specs.List.{All, list_all}
 use Rattle.flame_spec.specs.Below.{HasNoTwice}
 use Rattle.flame_events.specs.LegalEvents.{is_over}
-use Rattle.flame_pieces.specs.RunWorks.{work_of, outputs_in}
+use Rattle.flame_pieces.specs.KeptWorks.{work_of, outputs_in}
 use Rattle.flame_pieces.proofs.works.all_over.Given as goal
 
 abbrev pub invariant-loop-work : goal.invariant-loop-work

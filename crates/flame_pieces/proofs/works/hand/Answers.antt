@@ -2,7 +2,7 @@
 use Rattle.std.proofs.Common.{◌≡◌, ◌<◌, List, length, true, false, sym, ap, ◌∙◌, subst, arith}
 use Rattle.std.specs.Prelude.{slice_index_or, slice_set}
 use Rattle.flame_pieces.specs.declared.works.Output.{Output}
-use Rattle.flame_pieces.specs.RunWorks.{handed}
+use Rattle.flame_pieces.specs.KeptWorks.{handed}
 use Rattle.flame_pieces.proofs.KeptParts.{place_of, place_later, set_back, hand_here}
 use Rattle.flame_pieces.proofs.works.hand.Goals as goal
 

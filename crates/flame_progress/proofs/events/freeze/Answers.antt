@@ -6,12 +6,12 @@ use Rattle.flame_events.specs.CoreStates.{Core}
 use Rattle.flame_events.specs.LegalEvents.{outputs_of}
 use Rattle.flame_pieces.specs.declared.statuses.Status.{Status}
 use Rattle.flame_pieces.specs.declared.statuses.Status.TheVariants.{Waiting}
-use Rattle.flame_pieces.specs.RunStatuses.{HasOutputs}
+use Rattle.flame_pieces.specs.KeptStatuses.{HasOutputs}
 use Rattle.flame_progress.specs.declared.counts.Counts.{Counts}
 use Rattle.flame_progress.specs.declared.progress.Progress.{Progress}
-use Rattle.flame_progress.specs.RunBoards.{is_board_frozen}
-use Rattle.flame_progress.specs.RunCores.{core_of, HasOutputsAt}
-use Rattle.flame_progress.specs.RunCounts.{Counted}
+use Rattle.flame_progress.specs.KeptBoards.{is_board_frozen}
+use Rattle.flame_progress.specs.KeptCores.{core_of, HasOutputsAt}
+use Rattle.flame_progress.specs.KeptCounts.{Counted}
 use Rattle.flame_progress.proofs.Tallied.{came, counted_frozen, mark_set}
 use Rattle.flame_progress.proofs.events.freeze.Goals as goal
 

@@ -9,9 +9,9 @@ use Rattle.flame_events.specs.CoreStates.{Status, Open, Core, is_shut, status_of
 use Rattle.flame_events.specs.EventSteps.{handed_in, joined_board}
 use Rattle.flame_events.specs.LegalEvents.{outputs_of}
 use Rattle.flame_events.proofs.Sound.{opens_with}
-use Rattle.flame_pieces.specs.RunStatuses.{status_of as kept_status}
-use Rattle.flame_progress.specs.RunCores.{core_of}
-use Rattle.flame_progress.specs.RunWorkEvents.{without}
+use Rattle.flame_pieces.specs.KeptStatuses.{status_of as kept_status}
+use Rattle.flame_progress.specs.KeptCores.{core_of}
+use Rattle.flame_progress.specs.KeptWorkEvents.{without}
 use Rattle.flame_progress.proofs.Known.{may_hand_in_is}
 use Rattle.flame_progress.specs.declared.counts.Counts.{Counts}
 use Rattle.flame_progress.specs.Tallying.{Came, Tallies}

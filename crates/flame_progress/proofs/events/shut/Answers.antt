@@ -5,10 +5,10 @@ use Rattle.std.proofs.lemmas.List.{length-map}
 use Rattle.flame_events.specs.CoreStates.{Status, Waiting, Core, is_shut, fault_in, status_of, works_of}
 use Rattle.flame_events.specs.EventSteps.{done_with}
 use Rattle.flame_events.specs.LegalEvents.{outputs_of}
-use Rattle.flame_pieces.specs.RunStatuses.{status_of as kept_status}
+use Rattle.flame_pieces.specs.KeptStatuses.{status_of as kept_status}
 use Rattle.flame_progress.specs.declared.counts.Counts.{Counts}
-use Rattle.flame_progress.specs.RunCores.{core_of}
-use Rattle.flame_progress.specs.RunCounts.{Counted}
+use Rattle.flame_progress.specs.KeptCores.{core_of}
+use Rattle.flame_progress.specs.KeptCounts.{Counted}
 use Rattle.flame_progress.proofs.Known.{may_shut_is}
 use Rattle.flame_progress.proofs.Tallied.{came, counted_kept, counted_shut, status_kept, status_shut}
 use Rattle.flame_progress.proofs.events.shut.Goals as goal

@@ -1,6 +1,6 @@
 use Rattle.std.proofs.Common.{◌≡◌, Some, ap, ◌∙◌}
 use Rattle.flame_events.specs.LegalEvents.{may_hand_in, outputs_of}
-use Rattle.flame_pieces.specs.RunWorks.{work_of, outputs_in}
+use Rattle.flame_pieces.specs.KeptWorks.{work_of, outputs_in}
 use Rattle.flame_progress.proofs.legal.may_hand_in.Goals as goal
 
 pub returns-in-Some : goal.returns-in-Some

@@ -3,8 +3,8 @@ use Rattle.flame_events.specs.CoreStates.{Waiting}
 use Rattle.flame_events.specs.LegalEvents.{may_shut, outputs_of}
 use Rattle.flame_pieces.specs.declared.statuses.Status as kept
 use Rattle.flame_pieces.specs.declared.statuses.Status.TheVariants as is
-use Rattle.flame_pieces.specs.RunStatuses.{status_of as kept_status, HasOutputs}
-use Rattle.flame_progress.specs.RunCores.{core_of}
+use Rattle.flame_pieces.specs.KeptStatuses.{status_of as kept_status, HasOutputs}
+use Rattle.flame_progress.specs.KeptCores.{core_of}
 use Rattle.flame_progress.proofs.Written.{or_else_is}
 use Rattle.flame_progress.proofs.legal.may_shut.Goals as goal
 

@@ -1,6 +1,6 @@
 use Rattle.std.proofs.Common.{[], sym}
 use Rattle.flame_rows.proofs.Lists.{slice_index_or-map}
-use Rattle.flame_progress.specs.RunPools.{bag_of}
+use Rattle.flame_progress.specs.KeptPools.{bag_of}
 use Rattle.flame_progress.proofs.pools.pool_in_type.Goals as goal
 
 pub returns : goal.returns

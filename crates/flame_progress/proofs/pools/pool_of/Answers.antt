@@ -2,7 +2,7 @@ use Rattle.std.proofs.Common.{[], length, map, sym, ap, ◌∙◌, arith}
 use Rattle.std.specs.Prelude.{slice_index_or}
 use Rattle.std.proofs.lemmas.List.{length-map}
 use Rattle.flame_rows.proofs.Lists.{slice_index_or-map}
-use Rattle.flame_progress.specs.RunPools.{bag_of, bags_of}
+use Rattle.flame_progress.specs.KeptPools.{bag_of, bags_of}
 use Rattle.flame_progress.proofs.Changed.{within_list}
 use Rattle.flame_progress.proofs.pools.pool_of.Goals as goal
 

@@ -1,7 +1,7 @@
 use Rattle.std.proofs.Common.{◌+◌, ◌≤◌, length, sym, ap, ◌∙◌, subst}
 use Rattle.flame_rows.specs.Bags.{ascending, merge}
 use Rattle.flame_events.specs.CoreStates.{Work}
-use Rattle.flame_progress.specs.RunWorkEvents.{added}
+use Rattle.flame_progress.specs.KeptWorkEvents.{added}
 use Rattle.flame_progress.proofs.settling.settle.Goals as goal
 
 pub add-requires-clause-left : goal.add-requires-clause-left

@@ -1,6 +1,6 @@
 use Rattle.flame_rows.specs.Bags.{ascending, merge}
 use Rattle.flame_world.specs.Fields.{changed}
-use Rattle.flame_progress.specs.RunPools.{bags_of}
+use Rattle.flame_progress.specs.KeptPools.{bags_of}
 use Rattle.flame_progress.proofs.Changed.{map-written, within_list}
 use Rattle.flame_progress.proofs.Written.{map-kept, on_err}
 use Rattle.flame_progress.proofs.settling.settle_at.Goals as goal

@@ -1,6 +1,6 @@
 use Rattle.std.proofs.Common.{subst}
 use Rattle.flame_pieces.specs.declared.statuses.Status.{Status}
-use Rattle.flame_pieces.specs.RunStatuses.{HasOutputs}
+use Rattle.flame_pieces.specs.KeptStatuses.{HasOutputs}
 use Rattle.flame_progress.proofs.settling.settle_function.Goals as goal
 
 pub returns-in_err-settle_piece-in-Open-clause-outputs : goal.returns-in_err-settle_piece-in-Open-clause-outputs

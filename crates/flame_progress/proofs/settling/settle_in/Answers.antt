@@ -1,5 +1,5 @@
 use Rattle.flame_rows.specs.Bags.{ascending, merge}
-use Rattle.flame_progress.specs.RunPools.{bag_of}
+use Rattle.flame_progress.specs.KeptPools.{bag_of}
 use Rattle.flame_progress.proofs.Changed.{map-written}
 use Rattle.flame_progress.proofs.Written.{map-kept, on_err}
 use Rattle.flame_progress.proofs.settling.settle_in.Goals as goal

@@ -2,8 +2,8 @@ use Rattle.std.proofs.Common.{◌≡◌, ◌+◌, ◌<◌, ◌≤◌, length, ma
 use Rattle.std.specs.Prelude.{slice_set}
 use Rattle.std.proofs.lemmas.List.{map-set}
 use Rattle.flame_events.specs.CoreStates.{Work}
-use Rattle.flame_pieces.specs.RunWorks.{work_of, outputs_in}
-use Rattle.flame_progress.specs.RunWorkEvents.{added}
+use Rattle.flame_pieces.specs.KeptWorks.{work_of, outputs_in}
+use Rattle.flame_progress.specs.KeptWorkEvents.{added}
 use Rattle.flame_progress.proofs.Known.{are_left_is, outputs_kept}
 use Rattle.flame_progress.proofs.Written.{got_is, got_within, map-kept, on_err}
 use Rattle.flame_progress.proofs.settling.settle_piece.Goals as goal

@@ -5,7 +5,7 @@ use Rattle.std.specs.Prelude.{ℤ}
 use Rattle.std.proofs.lemmas.List.{length-set, map-append, take_more}
 use Rattle.flame_rows.proofs.Lists.{slice_index_or-map}
 use Rattle.flame_index.specs.FrozenBoards.{shared_messages}
-use Rattle.flame_progress.specs.RunBoards.{board_bag, is_board_frozen}
+use Rattle.flame_progress.specs.KeptBoards.{board_bag, is_board_frozen}
 use Rattle.flame_progress.proofs.Written.{map-kept}
 use Rattle.flame_progress.proofs.sharing.share.Goals as goal
 

@@ -1,6 +1,6 @@
 use Rattle.std.proofs.Common.{◌≡◌, [], length, map, take, slice_index_or}
 use Rattle.flame_index.specs.FrozenBoards.{shared_messages}
-use Rattle.flame_progress.specs.RunBoards.{board_bag, is_board_frozen}
+use Rattle.flame_progress.specs.KeptBoards.{board_bag, is_board_frozen}
 use Rattle.flame_progress.proofs.sharing.share.Given as goal
 
 abbrev pub invariant-loop-message : goal.invariant-loop-message

@@ -8,7 +8,7 @@ use Rattle.flame_lookup.specs.WordTables.{numbers_under}
 use Rattle.std.proofs.lemmas.Simd.{map-map}
 use Rattle.flame_spec.specs.declared.models.Function.{Function}
 use Rattle.flame_spec.specs.States.{states}
-use Rattle.flame_route.proofs.Turns.{AreTaken, none-taken, one-function-more, all-functions}
+use Rattle.flame_route.proofs.RouteChoices.{AreTaken, none-taken, one-function-more, all-functions}
 use Rattle.flame_route.proofs.types.routes_of.Goals as goal
 
 pub route_of-requires-clause-reads : goal.route_of-requires-clause-reads
@@ -36,20 +36,20 @@ loop-i-preserved c =
     let i = c.loop-i.i in
     let function = c.index-functions-i.result in
     let under = numbers_under c.loop-i.table in
-    let after = numbers_under c.take_turn.new.table in
+    let after = numbers_under c.next_choice.new.table in
     let route = c.in_ok-route.route in
     let at : slice_get agent.functions i ≡ Some function =
     ap (λ fs. slice_get fs i) (sym c.items-functions.ensures)
     ∙ slice_get_read functions (length functions) i function refl c.loop-i-test.true c.index-functions-i.is in
-    let turn : route.turn ≡ length (under function.current) =
-    c.in_ok-route.ensures.turn ∙ c.in_ok-turn.ensures.turn ∙ ap (λ state. length (under state)) c.as_str.ensures in
+    let choice : route.choice ≡ length (under function.current) =
+    c.in_ok-route.ensures.choice ∙ c.in_ok-choice.ensures.choice ∙ ap (λ state. length (under state)) c.as_str.ensures in
     let noted : (state : List ℕ) → after state ≡ cond (bytes_eq function.current state) (under state ++ (first + i) ∷ []) (under state) =
-    λ state. c.in_ok-turn.ensures.noted state
+    λ state. c.in_ok-choice.ensures.noted state
     ∙ ap (λ text. cond (bytes_eq text state) (under state ++ c.in_ok-here.here ∷ []) (under state)) c.as_str.ensures
     ∙ ap (λ n. cond (bytes_eq function.current state) (under state ++ n ∷ []) (under state)) c.in_ok-here.ensures in
     subst (λ routes. AreTaken model c.args.at agent first (i + 1) routes after) (sym c.in_ok-push.ensures.items)
     (one-function-more model c.args.at agent first i c.loop-i.routes.items under function route after at c.loop-i.invariant
-    c.in_ok-route.ensures.route turn noted)
+    c.in_ok-route.ensures.route choice noted)
 
 pub returns : goal.returns
 returns c =

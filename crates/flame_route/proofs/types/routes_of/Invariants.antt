@@ -1,5 +1,5 @@
 use Rattle.flame_lookup.specs.WordTables.{numbers_under}
-use Rattle.flame_route.proofs.Turns.{AreTaken}
+use Rattle.flame_route.proofs.RouteChoices.{AreTaken}
 use Rattle.flame_route.proofs.types.routes_of.Given as goal
 
 abbrev pub invariant-loop-i : goal.invariant-loop-i

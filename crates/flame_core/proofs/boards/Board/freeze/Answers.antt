@@ -1,6 +1,6 @@
 use Rattle.std.proofs.Common.{ap, ◌∙◌}
 use Rattle.flame_rows.specs.Bags.{ascending}
-use Rattle.flame_core.specs.RunFields.{board_bag}
+use Rattle.flame_core.specs.KeptFields.{board_bag}
 use Rattle.flame_core.proofs.BoardBags.{board-in_order}
 use Rattle.flame_core.proofs.boards.Board.freeze.Goals as goal
 

@@ -4,7 +4,7 @@ use Rattle.flame_rows.specs.Order.{row_order}
 use Rattle.flame_rows.specs.Sorted.{IsAscending}
 use Rattle.flame_rows.proofs.BagLaws.{ascending-IsAscending}
 use Rattle.flame_index.specs.FrozenBoards.{messages_on}
-use Rattle.flame_core.specs.RunFields.{board_bag}
+use Rattle.flame_core.specs.KeptFields.{board_bag}
 use Rattle.flame_core.proofs.boards.Board.into_frozen.Goals as goal
 
 pub returns-in-Frozen : goal.returns-in-Frozen

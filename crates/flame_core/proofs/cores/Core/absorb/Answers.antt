@@ -5,7 +5,7 @@ use Rattle.std.proofs.lemmas.Int.{to_z-of_z}
 use Rattle.flame_world.specs.Shares.{piece_of}
 use Rattle.flame_events.specs.AbsorbedPieces.{agent_events}
 use Rattle.flame_events.specs.EventSteps.{replay}
-use Rattle.flame_progress.specs.RunCores.{core_of}
+use Rattle.flame_progress.specs.KeptCores.{core_of}
 use Rattle.flame_progress.specs.Tallying.{Came}
 use Rattle.flame_core.specs.CoreCalls.{CanAbsorb, NotAbsorbed}
 use Rattle.flame_core.specs.SeenCores.{Seen, round_in}

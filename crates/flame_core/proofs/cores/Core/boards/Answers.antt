@@ -6,7 +6,7 @@ use Rattle.flame_spec.specs.Functions.{Place, functions}
 use Rattle.flame_index.specs.FrozenBoards.{shared_messages}
 use Rattle.flame_agent.specs.FunctionFits.{AreBoardsFor}
 use Rattle.flame_events.specs.CoreStates.{status_of, works_of}
-use Rattle.flame_progress.specs.RunCores.{core_of}
+use Rattle.flame_progress.specs.KeptCores.{core_of}
 use Rattle.flame_core.specs.SeenCores.{Seen}
 use Rattle.flame_core.proofs.Inside.{seen_of}
 use Rattle.flame_core.proofs.Comings.{reached_fits}

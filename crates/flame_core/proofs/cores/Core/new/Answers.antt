@@ -11,9 +11,9 @@ use Rattle.flame_spec.specs.Functions.{functions}
 use Rattle.flame_world.specs.WorldFits.{FitTypes}
 use Rattle.flame_events.specs.CoreStates.{Core, is_shut, is_frozen, status_of, opening_core}
 use Rattle.flame_events.specs.LegalEvents.{inputs_of, outputs_of}
-use Rattle.flame_pieces.specs.RunStatuses.{status_of as kept_status}
-use Rattle.flame_progress.specs.RunBoards.{is_board_frozen}
-use Rattle.flame_progress.specs.RunCores.{core_of}
+use Rattle.flame_pieces.specs.KeptStatuses.{status_of as kept_status}
+use Rattle.flame_progress.specs.KeptBoards.{is_board_frozen}
+use Rattle.flame_progress.specs.KeptCores.{core_of}
 use Rattle.flame_progress.proofs.Tallied.{tells_same}
 use Rattle.flame_core.proofs.Counting.{functions_numbered}
 use Rattle.flame_core.proofs.InOrders.{nothing_frozen, nothing_shut}

@@ -3,7 +3,7 @@ use Rattle.flame_spec.specs.Columns.{width}
 use Rattle.flame_world.specs.WorldFits.{AreWide}
 use Rattle.flame_events.specs.CoreFits.{FitsCore, FitsWork}
 use Rattle.flame_events.specs.CoreStates.{status_of, work_of, works_of}
-use Rattle.flame_pieces.specs.RunWorks.{work_of as kept_work}
+use Rattle.flame_pieces.specs.KeptWorks.{work_of as kept_work}
 use Rattle.flame_core.specs.SeenCores.{Seen}
 use Rattle.flame_core.proofs.Inside.{seen_of}
 use Rattle.flame_core.proofs.Comings.{reached_fits}

@@ -3,7 +3,7 @@ use Rattle.std.proofs.Common.{[], ◌∷◌, refl, sym, ap, ◌∙◌, subst, w3
 use Rattle.std.specs.Prelude.{ℤ}
 use Rattle.std.proofs.lemmas.Int.{to_z-of_z}
 use Rattle.flame_events.specs.EventSteps.{after}
-use Rattle.flame_progress.specs.RunCores.{core_of}
+use Rattle.flame_progress.specs.KeptCores.{core_of}
 use Rattle.flame_core.specs.CoreCalls.{allows, Refused}
 use Rattle.flame_core.specs.SeenCores.{Seen, round_in, when_came}
 use Rattle.flame_progress.specs.Tallying.{Came}

@@ -2,7 +2,7 @@ use Rattle.std.proofs.Common.{◌≡◌, ◌∙◌, ap, sym, option_map, Option,
 use Rattle.std.proofs.lemmas.Option.{slice_get_within}
 use Rattle.flame_spec.specs.declared.models.AgentType.{AgentType}
 use Rattle.flame_spec.specs.Functions.{Place, functions}
-use Rattle.flame_lookup.specs.Sources.{Sources, Standing}
+use Rattle.flame_lookup.specs.Sources.{Sources, BodyPlace}
 use Rattle.flame_lookup.specs.WordsFound.{place_found}
 use Rattle.flame_lookup.proofs.Firsts.{seen_as}
 use Rattle.flame_lookup.proofs.Places.{slice_get-type}
@@ -34,5 +34,5 @@ returns c =
     let model = c.args.self.now.model in
     let shown = c.places.ensures ∙ c.self.invariant.in_order ∙ ap (λ (sources : Sources). functions sources.model) c.self.view_is in
     let there = seen_as place_found c.places.result.now (functions model) c.args.number place shown c.requires c.index-places-number.is in
-    let standing : Option Place → Standing = λ runs. record { sources = c.args.self.now; runs = runs; file = c.args.file } in
+    let standing : Option Place → BodyPlace = λ runs. record { sources = c.args.self.now; runs = runs; file = c.args.file } in
     c.of-2.ensures ∙ ap (λ (p : Place). standing (Some p)) c.in_ok-runs.ensures ∙ ap standing (sym there)

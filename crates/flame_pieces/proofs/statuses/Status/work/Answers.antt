@@ -3,8 +3,8 @@ use Rattle.std.specs.List.{All}
 use Rattle.std.specs.Slice.{IsItemAt}
 use Rattle.flame_pieces.specs.declared.statuses.Status.{Status}
 use Rattle.flame_pieces.specs.declared.works.Work.{Work}
-use Rattle.flame_pieces.specs.RunWorks.{outputs_in}
-use Rattle.flame_pieces.specs.RunStatuses.{HasOutputs}
+use Rattle.flame_pieces.specs.KeptWorks.{outputs_in}
+use Rattle.flame_pieces.specs.KeptStatuses.{HasOutputs}
 use Rattle.flame_pieces.proofs.statuses.Status.work.Goals as goal
 
 -- what holds of all elements holds of the one that is looked up

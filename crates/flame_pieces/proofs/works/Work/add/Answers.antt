@@ -2,7 +2,7 @@
 use Rattle.std.proofs.Common.{◌+◌, ◌<◌, ◌^◌, ◌++◌, Bool, cond, List, length, map, ap, ◌∙◌, subst, arith}
 use Rattle.std.specs.Option.{option_or}
 use Rattle.std.specs.Prelude.{ℤ}
-use Rattle.flame_pieces.specs.RunWorks.{part_of}
+use Rattle.flame_pieces.specs.KeptWorks.{part_of}
 use Rattle.flame_pieces.proofs.KeptParts.{parts-append}
 use Rattle.flame_pieces.proofs.works.Work.add.Goals as goal
 

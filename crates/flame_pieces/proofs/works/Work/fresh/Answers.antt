@@ -1,5 +1,5 @@
 use Rattle.std.proofs.Common.{[], None, map, ap, ◌∙◌}
-use Rattle.flame_pieces.specs.RunWorks.{part_of, messages_in}
+use Rattle.flame_pieces.specs.KeptWorks.{part_of, messages_in}
 use Rattle.flame_pieces.proofs.KeptParts.{fresh_parts, fresh_messages}
 use Rattle.flame_pieces.proofs.works.Work.fresh.Goals as goal
 

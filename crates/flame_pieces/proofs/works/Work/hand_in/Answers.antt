@@ -5,7 +5,7 @@ use Rattle.flame_rows.proofs.Lists.{take-written}
 use Rattle.flame_spec.specs.declared.outcomes.Sent.{Sent}
 use Rattle.flame_world.specs.AgentRuns.{messages_of}
 use Rattle.flame_pieces.specs.declared.works.Output.{Output}
-use Rattle.flame_pieces.specs.RunWorks.{part_of, messages_in, handed}
+use Rattle.flame_pieces.specs.KeptWorks.{part_of, messages_in, handed}
 use Rattle.flame_pieces.proofs.KeptParts.{parts_handed, messages-set, place_of}
 use Rattle.flame_pieces.proofs.works.Work.hand_in.Goals as goal
 

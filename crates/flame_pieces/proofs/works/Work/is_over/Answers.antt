@@ -3,7 +3,7 @@ use Rattle.std.specs.Prelude.{not, ◌&&◌, is_none}
 use Rattle.std.specs.List.{list_all}
 use Rattle.flame_events.specs.CoreStates.{part_in}
 use Rattle.flame_pieces.specs.declared.works.Output.{Output}
-use Rattle.flame_pieces.specs.RunWorks.{part_of, messages_in}
+use Rattle.flame_pieces.specs.KeptWorks.{part_of, messages_in}
 use Rattle.flame_pieces.proofs.KeptParts.{all_handed}
 use Rattle.flame_pieces.proofs.works.Work.is_over.Goals as goal
 

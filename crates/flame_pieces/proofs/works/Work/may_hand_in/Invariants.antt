@@ -1,6 +1,6 @@
 use Rattle.std.proofs.Common.{◌≡◌, map, drop}
 use Rattle.flame_events.specs.CoreStates.{part_in}
-use Rattle.flame_pieces.specs.RunWorks.{part_of, messages_in}
+use Rattle.flame_pieces.specs.KeptWorks.{part_of, messages_in}
 use Rattle.flame_pieces.proofs.works.Work.may_hand_in.Given as goal
 
 abbrev pub invariant-loop-output : goal.invariant-loop-output

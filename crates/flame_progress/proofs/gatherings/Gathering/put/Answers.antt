@@ -1,6 +1,6 @@
 use Rattle.std.proofs.Common.{Bool, cond, ◌++◌, ap, sym, ◌∙◌}
 use Rattle.flame_rows.specs.Bags.{ascending}
-use Rattle.flame_progress.specs.RunPools.{bag_of}
+use Rattle.flame_progress.specs.KeptPools.{bag_of}
 use Rattle.flame_rows.proofs.Merging.{ascending-append, merge-ascending}
 use Rattle.flame_progress.proofs.gatherings.Gathering.put.Goals as goal
 

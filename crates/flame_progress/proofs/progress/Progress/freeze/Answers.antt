@@ -2,8 +2,8 @@ use Rattle.std.proofs.Common.{ap, ◌∙◌}
 use Rattle.std.specs.Prelude.{slice_set}
 use Rattle.std.proofs.lemmas.List.{map-set}
 use Rattle.std.specs.Prelude.{map}
-use Rattle.flame_progress.specs.RunBoards.{board_bag, is_board_frozen}
-use Rattle.flame_progress.specs.RunCores.{core_of}
+use Rattle.flame_progress.specs.KeptBoards.{board_bag, is_board_frozen}
+use Rattle.flame_progress.specs.KeptCores.{core_of}
 use Rattle.flame_progress.proofs.Written.{map-kept}
 use Rattle.flame_progress.proofs.progress.Progress.freeze.Goals as goal
 

@@ -1,8 +1,8 @@
 use Rattle.std.proofs.Common.{Some, None, sym, ap, ◌∙◌}
 use Rattle.std.specs.Prelude.{is_some}
 use Rattle.flame_events.specs.CoreStates.{Status, Waiting, fault_of}
-use Rattle.flame_pieces.specs.RunStatuses.{status_of as kept_status}
-use Rattle.flame_progress.specs.RunCores.{core_of}
+use Rattle.flame_pieces.specs.KeptStatuses.{status_of as kept_status}
+use Rattle.flame_progress.specs.KeptCores.{core_of}
 use Rattle.flame_progress.proofs.Written.{or_else_is}
 use Rattle.flame_progress.proofs.progress.Progress.is_faulted.Goals as goal
 

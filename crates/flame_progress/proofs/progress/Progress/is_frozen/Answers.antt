@@ -1,6 +1,6 @@
 use Rattle.std.proofs.Common.{Some, None, false, sym, ◌∙◌}
-use Rattle.flame_progress.specs.RunBoards.{is_board_frozen}
-use Rattle.flame_progress.specs.RunCores.{core_of}
+use Rattle.flame_progress.specs.KeptBoards.{is_board_frozen}
+use Rattle.flame_progress.specs.KeptCores.{core_of}
 use Rattle.flame_progress.proofs.Written.{or_else_is}
 use Rattle.flame_progress.proofs.progress.Progress.is_frozen.Goals as goal
 

@@ -4,10 +4,10 @@ use Rattle.flame_rows.specs.Bags.{ascending, merge}
 use Rattle.flame_world.specs.AgentRuns.{births_of}
 use Rattle.flame_world.specs.Fields.{joined}
 use Rattle.flame_events.specs.CoreStates.{Open, Core, status_of, works_of}
-use Rattle.flame_pieces.specs.RunStatuses.{status_of as kept_status}
-use Rattle.flame_progress.specs.RunPools.{pools_of}
-use Rattle.flame_progress.specs.RunCores.{core_of}
-use Rattle.flame_progress.specs.RunWorkEvents.{added, are_left}
+use Rattle.flame_pieces.specs.KeptStatuses.{status_of as kept_status}
+use Rattle.flame_progress.specs.KeptPools.{pools_of}
+use Rattle.flame_progress.specs.KeptCores.{core_of}
+use Rattle.flame_progress.specs.KeptWorkEvents.{added, are_left}
 use Rattle.flame_progress.proofs.Cores.{born_more, none_same, outputs_at, outputs_put, pools_long, status_at, statuses_put}
 use Rattle.flame_progress.proofs.Written.{map-kept, on_err}
 use Rattle.flame_progress.proofs.progress.Progress.settle.Goals as goal

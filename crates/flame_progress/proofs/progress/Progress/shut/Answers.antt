@@ -1,8 +1,8 @@
 use Rattle.std.proofs.Common.{◌≡◌, ap, ◌∙◌}
 use Rattle.flame_events.specs.CoreStates.{fault_in, status_of, works_of}
 use Rattle.flame_events.specs.EventSteps.{done_with}
-use Rattle.flame_pieces.specs.RunStatuses.{status_of as kept_status}
-use Rattle.flame_progress.specs.RunCores.{core_of}
+use Rattle.flame_pieces.specs.KeptStatuses.{status_of as kept_status}
+use Rattle.flame_progress.specs.KeptCores.{core_of}
 use Rattle.flame_progress.proofs.Cores.{outputs_put, status_at, statuses_put}
 use Rattle.flame_progress.proofs.Known.{done_has}
 use Rattle.flame_progress.proofs.progress.Progress.shut.Goals as goal

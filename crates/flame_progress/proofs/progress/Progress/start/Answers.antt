@@ -2,10 +2,10 @@ use Rattle.std.proofs.Common.{ap, ◌∙◌, map, refl}
 use Rattle.flame_world.specs.AgentRuns.{births_of}
 use Rattle.flame_world.specs.Fields.{changed_pool, joined}
 use Rattle.flame_events.specs.CoreStates.{Open}
-use Rattle.flame_pieces.specs.RunWorks.{work_of}
+use Rattle.flame_pieces.specs.KeptWorks.{work_of}
 use Rattle.flame_pieces.specs.declared.statuses.Status.TheVariants as is
-use Rattle.flame_progress.specs.RunPools.{pools_of}
-use Rattle.flame_progress.specs.RunCores.{core_of}
+use Rattle.flame_progress.specs.KeptPools.{pools_of}
+use Rattle.flame_progress.specs.KeptCores.{core_of}
 use Rattle.flame_progress.proofs.Cores.{pools_long, statuses_put}
 use Rattle.flame_progress.proofs.progress.Progress.start.Goals as goal
 

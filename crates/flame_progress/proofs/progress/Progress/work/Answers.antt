@@ -3,8 +3,8 @@ use Rattle.std.specs.Prelude.{slice_get}
 use Rattle.flame_events.specs.CoreStates.{Status, Waiting, works_of}
 use Rattle.flame_pieces.specs.declared.statuses.Status as kept
 use Rattle.flame_pieces.specs.declared.statuses.Status.TheVariants as is
-use Rattle.flame_pieces.specs.RunStatuses.{status_of as kept_status, HasOutputs}
-use Rattle.flame_progress.specs.RunCores.{core_of}
+use Rattle.flame_pieces.specs.KeptStatuses.{status_of as kept_status, HasOutputs}
+use Rattle.flame_progress.specs.KeptCores.{core_of}
 use Rattle.flame_progress.proofs.Written.{or_else_is}
 use Rattle.flame_progress.proofs.progress.Progress.work.Goals as goal
 

@@ -14,7 +14,7 @@ use Rattle.flame_route.specs.ModelRoutes.{IsRouteOf}
 use Rattle.flame_core.specs.declared.rounds.Round as run
 use Rattle.flame_core.specs.declared.steps.Stepped.{Stepped}
 use Rattle.flame_core.specs.declared.steps.Stepped.TheVariants.{On, Faulted}
-use Rattle.flame_core.specs.RunFields.{field_of}
+use Rattle.flame_core.specs.KeptFields.{field_of}
 
 -- what stays the same, with the program's source [own]
 abbrev pub round_of : run.Round → Round
@@ -35,7 +35,7 @@ pub record GoesBy (model : Model) (function : ℕ) (route : Route) : Type 0 wher
   pub place : Place
   pub there : slice_get (functions model) function ≡ Some place
   pub routed : IsRouteOf model place route
-  pub turn : slice_get (functions_out model place.agent place.function.current) route.turn ≡ Some function
+  pub choice : slice_get (functions_out model place.agent place.function.current) route.choice ≡ Some function
 
 -- there is a pool for the state that the route leaves, and for the one that it enters [own]
 pub record HasRoute (pools : List (List (List (List ℤ)))) (route : Route) : Type 0 where

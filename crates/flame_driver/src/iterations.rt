@@ -24,7 +24,7 @@ use std::thread::Threads;
 
 /// One iteration, from a start: it is run, and written. What it leaves is what the next one starts from. Where it
 /// stops, `files` is 1 where its file was put.
-pub(crate) fn turn<Rt: Threads + Wait + Sync, R: Runner, D: Depot, S: Sink>(
+pub(crate) fn iterate_once<Rt: Threads + Wait + Sync, R: Runner, D: Depot, S: Sink>(
     rt: &Rt,
     alloc: Global,
     runner: &mut R,

@@ -6,7 +6,7 @@ use Rattle.flame_world.specs.Fields.{Field}
 use Rattle.flame_core.specs.declared.boards.Board.{Board}
 use Rattle.flame_core.specs.declared.boards.Board.TheVariants as board
 use Rattle.flame_core.specs.declared.fields.Field as run
-use Rattle.flame_progress.specs.RunPools.{bag_of, bags_of, pools_of}
+use Rattle.flame_progress.specs.KeptPools.{bag_of, bags_of, pools_of}
 
 -- the bag of a board's messages [libmboard]
 abbrev pub board_bag : Board → List (List ℤ)

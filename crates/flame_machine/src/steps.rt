@@ -7,7 +7,7 @@ ghost use Rattle.flame_code.specs.InputRows.{rows_of};
 ghost use Rattle.flame_code.specs.Routines.{takes, IsWithin, locals_for};
 ghost use Rattle.flame_code.specs.Machine.{Given as Whole, act, operate as operating, push_held, pay as paying, next as going, deliver, element_of as element};
 ghost use Rattle.flame_machine.specs.MachineFrames.{Additions, config};
-ghost use Rattle.flame_machine.specs.MachineSteps.{seen, Stepped, TurnsBy, HasFields};
+ghost use Rattle.flame_machine.specs.MachineSteps.{seen, Stepped, StepsBy, HasFields};
 
 use crate::additions::Added;
 use crate::frames::Frame;
@@ -19,7 +19,7 @@ use flame_spec::{Fault, Widths};
 
 /// What a step came to.
 #[derive(Drop)]
-pub enum Turned {
+pub enum MachineStep {
     /// The run goes on.
     On,
     /// It ended with this value.
@@ -34,21 +34,21 @@ pub enum Turned {
 
 /// On to the next place.
 #[inline(always)]
-fn on(frame: &mut Frame) -> Turned
+fn on(frame: &mut Frame) -> MachineStep
     requires { frame.old.place + 1 < 2 ^ 64 }
-    ensures on { result ≡ Turned.On }
+    ensures on { result ≡ MachineStep.On }
     ensures moved { frame.new ≡ record frame.old { place = frame.old.place + 1 } }
 {
     frame.go_on();
-    Turned::On
+    MachineStep::On
 }
 
 /// On to the next place with the value on the stack.
 #[inline(always)]
-fn pushed(frame: &mut Frame, value: i32) -> Turned
+fn pushed(frame: &mut Frame, value: i32) -> MachineStep
     requires place { frame.old.place + 1 < 2 ^ 64 }
     requires room { length frame.old.stack < frame.old.room }
-    ensures on { result ≡ Turned.On }
+    ensures on { result ≡ MachineStep.On }
     ensures moved { frame.new ≡ record frame.old {
       place = frame.old.place + 1;
       stack = value ∷ frame.old.stack;
@@ -60,18 +60,18 @@ fn pushed(frame: &mut Frame, value: i32) -> Turned
 
 /// A fault with its line.
 #[inline(always)]
-fn fault(cause: Cause, line: u32) -> Turned
-    ensures { result ≡ Turned.Faulted (record { cause = cause; line = line }) }
+fn fault(cause: Cause, line: u32) -> MachineStep
+    ensures { result ≡ MachineStep.Faulted (record { cause = cause; line = line }) }
 {
-    Turned::Faulted(Fault { cause, line })
+    MachineStep::Faulted(Fault { cause, line })
 }
 
 /// The value on the stack, or a fault.
 #[inline(always)]
-fn held(frame: &mut Frame, value: Result<i32, Cause>, line: u32) -> Turned
+fn held(frame: &mut Frame, value: Result<i32, Cause>, line: u32) -> MachineStep
     requires place { frame.old.place + 1 < 2 ^ 64 }
     requires room { length frame.old.stack < frame.old.room }
-    ensures does { TurnsBy (push_held line value frame.old.stack) frame.old frame.new result }
+    ensures does { StepsBy (push_held line value frame.old.stack) frame.old frame.new result }
     ensures locals { length frame.new.locals ≡ length frame.old.locals }
     ensures room { frame.new.room ≡ frame.old.room }
 {
@@ -83,11 +83,11 @@ fn held(frame: &mut Frame, value: Result<i32, Cause>, line: u32) -> Turned
 
 /// The value of an operator in place of its operands.
 #[inline(always)]
-fn operate(frame: &mut Frame, op: Op, line: u32) -> Turned
+fn operate(frame: &mut Frame, op: Op, line: u32) -> MachineStep
     requires place { frame.old.place + 1 < 2 ^ 64 }
     requires room { length frame.old.stack < frame.old.room }
     requires pops { 2 ≤ length frame.old.stack }
-    ensures does { TurnsBy (operating op line) frame.old frame.new result }
+    ensures does { StepsBy (operating op line) frame.old frame.new result }
     ensures locals { length frame.new.locals ≡ length frame.old.locals }
     ensures room { frame.new.room ≡ frame.old.room }
 {
@@ -98,11 +98,11 @@ fn operate(frame: &mut Frame, op: Op, line: u32) -> Turned
 
 /// The top with the other sign.
 #[inline(always)]
-fn opposite(frame: &mut Frame, line: u32) -> Turned
+fn opposite(frame: &mut Frame, line: u32) -> MachineStep
     requires place { frame.old.place + 1 < 2 ^ 64 }
     requires room { length frame.old.stack < frame.old.room }
     requires pops { 1 ≤ length frame.old.stack }
-    ensures does { (g : Whole) (w : Wide) → TurnsBy (act g w (Some (Instr.Neg line))) frame.old frame.new result }
+    ensures does { (g : Whole) (w : Wide) → StepsBy (act g w (Some (Instr.Neg line))) frame.old frame.new result }
     ensures locals { length frame.new.locals ≡ length frame.old.locals }
     ensures room { frame.new.room ≡ frame.old.room }
 {
@@ -130,13 +130,13 @@ fn element_of(index: i32, column: u32, count: u32) -> Option<usize>
 
 /// The element of the memory's array whose index is on the stack, in its place.
 #[inline(always)]
-fn load(frame: &mut Frame, line: u32, column: u32, count: u32) -> Turned
+fn load(frame: &mut Frame, line: u32, column: u32, count: u32) -> MachineStep
     requires place { frame.old.place + 1 < 2 ^ 64 }
     requires room { length frame.old.stack < frame.old.room }
     requires pops { 1 ≤ length frame.old.stack }
     requires within { column + count ≤ length frame.old.memory }
     ensures does { (g : Whole) (w : Wide) →
-        TurnsBy (act g w (Some (Instr.MemAt line column count))) frame.old frame.new result }
+        StepsBy (act g w (Some (Instr.MemAt line column count))) frame.old frame.new result }
     ensures locals { length frame.new.locals ≡ length frame.old.locals }
     ensures room { frame.new.room ≡ frame.old.room }
 {
@@ -152,12 +152,12 @@ fn load(frame: &mut Frame, line: u32, column: u32, count: u32) -> Turned
 
 /// The value on the stack into the element of the memory's array whose index lies under it.
 #[inline(always)]
-fn store(frame: &mut Frame, line: u32, column: u32, count: u32) -> Turned
+fn store(frame: &mut Frame, line: u32, column: u32, count: u32) -> MachineStep
     requires place { frame.old.place + 1 < 2 ^ 64 }
     requires pops { 2 ≤ length frame.old.stack }
     requires within { column + count ≤ length frame.old.memory }
     ensures does { (g : Whole) (w : Wide) →
-        TurnsBy (act g w (Some (Instr.SetMemAt line column count))) frame.old frame.new result }
+        StepsBy (act g w (Some (Instr.SetMemAt line column count))) frame.old frame.new result }
     ensures locals { length frame.new.locals ≡ length frame.old.locals }
     ensures room { frame.new.room ≡ frame.old.room }
 {
@@ -174,11 +174,11 @@ fn store(frame: &mut Frame, line: u32, column: u32, count: u32) -> Turned
 
 /// The top once more.
 #[inline(always)]
-fn again(frame: &mut Frame) -> Turned
+fn again(frame: &mut Frame) -> MachineStep
     requires place { frame.old.place + 1 < 2 ^ 64 }
     requires room { length frame.old.stack < frame.old.room }
     requires pops { 1 ≤ length frame.old.stack }
-    ensures does { (g : Whole) (w : Wide) → TurnsBy (act g w (Some Instr.Dup)) frame.old frame.new result }
+    ensures does { (g : Whole) (w : Wide) → StepsBy (act g w (Some Instr.Dup)) frame.old frame.new result }
     ensures locals { length frame.new.locals ≡ length frame.old.locals }
     ensures room { frame.new.room ≡ frame.old.room }
 {
@@ -189,10 +189,10 @@ fn again(frame: &mut Frame) -> Turned
 
 /// To the place where the top is 0, else on.
 #[inline(always)]
-fn jump_zero(frame: &mut Frame, to: u32) -> Turned
+fn jump_zero(frame: &mut Frame, to: u32) -> MachineStep
     requires place { frame.old.place + 1 < 2 ^ 64 }
     requires pops { 1 ≤ length frame.old.stack }
-    ensures does { (g : Whole) (w : Wide) → TurnsBy (act g w (Some (Instr.JumpZero to))) frame.old frame.new result }
+    ensures does { (g : Whole) (w : Wide) → StepsBy (act g w (Some (Instr.JumpZero to))) frame.old frame.new result }
     ensures locals { length frame.new.locals ≡ length frame.old.locals }
     ensures room { frame.new.room ≡ frame.old.room }
 {
@@ -201,16 +201,16 @@ fn jump_zero(frame: &mut Frame, to: u32) -> Turned
     } else {
         frame.go_on();
     }
-    Turned::On
+    MachineStep::On
 }
 
 /// To the place where the top is not 0, else on.
 #[inline(always)]
-fn jump_not_zero(frame: &mut Frame, to: u32) -> Turned
+fn jump_not_zero(frame: &mut Frame, to: u32) -> MachineStep
     requires place { frame.old.place + 1 < 2 ^ 64 }
     requires pops { 1 ≤ length frame.old.stack }
     ensures does { (g : Whole) (w : Wide) →
-        TurnsBy (act g w (Some (Instr.JumpNotZero to))) frame.old frame.new result }
+        StepsBy (act g w (Some (Instr.JumpNotZero to))) frame.old frame.new result }
     ensures locals { length frame.new.locals ≡ length frame.old.locals }
     ensures room { frame.new.room ≡ frame.old.room }
 {
@@ -219,14 +219,14 @@ fn jump_not_zero(frame: &mut Frame, to: u32) -> Turned
     } else {
         frame.go_to(to);
     }
-    Turned::On
+    MachineStep::On
 }
 
 /// One unit of fuel is paid, or there is none.
 #[inline(always)]
-fn pay(frame: &mut Frame, line: u32) -> Turned
+fn pay(frame: &mut Frame, line: u32) -> MachineStep
     requires place { frame.old.place + 1 < 2 ^ 64 }
-    ensures does { TurnsBy (λ c. paying line c (λ d. going d.stack d)) frame.old frame.new result }
+    ensures does { StepsBy (λ c. paying line c (λ d. going d.stack d)) frame.old frame.new result }
     ensures locals { length frame.new.locals ≡ length frame.old.locals }
     ensures room { frame.new.room ≡ frame.old.room }
 {
@@ -241,12 +241,12 @@ fn pay(frame: &mut Frame, line: u32) -> Turned
 /// A call of a helper is paid, or there is no fuel for it.
 #[inline(always)]
 #[tactic(auto, using(crate::proofs::Pops::row_there))]
-fn pay_call(frame: &mut Frame, line: u32, helper: u32, count: u32) -> Turned
+fn pay_call(frame: &mut Frame, line: u32, helper: u32, count: u32) -> MachineStep
     requires place { frame.old.place + 1 < 2 ^ 64 }
     requires room { length frame.old.stack < frame.old.room }
     requires pops { count ≤ length frame.old.stack }
     ensures does { (g : Whole) (w : Wide) →
-        TurnsBy (act g w (Some (Instr.Call line helper count))) frame.old frame.new result }
+        StepsBy (act g w (Some (Instr.Call line helper count))) frame.old frame.new result }
     ensures locals { length frame.new.locals ≡ length frame.old.locals }
     ensures room { frame.new.room ≡ frame.old.room }
 {
@@ -256,12 +256,12 @@ fn pay_call(frame: &mut Frame, line: u32, helper: u32, count: u32) -> Turned
     }
     frame.set_fuel(fuel - 1);
     frame.go_on();
-    Turned::Calls(helper, count)
+    MachineStep::Calls(helper, count)
 }
 
 /// A number of the current row.
 #[inline(always)]
-fn read_field<F: Feed>(frame: &mut Frame, feed: &F, input: u32, column: u32) -> Turned
+fn read_field<F: Feed>(frame: &mut Frame, feed: &F, input: u32, column: u32) -> MachineStep
     requires place { frame.old.place + 1 < 2 ^ 64 }
     requires room { length frame.old.stack < frame.old.room }
     requires there { IsSome (field input column (F.feeds feed.now)) }
@@ -285,7 +285,7 @@ fn load_field<F: Feed>(
     column: u32,
     count: u32,
     width: u32,
-) -> Turned
+) -> MachineStep
     requires place { frame.old.place + 1 < 2 ^ 64 }
     requires room { length frame.old.stack < frame.old.room }
     requires pops { 1 ≤ length frame.old.stack }
@@ -310,10 +310,10 @@ fn load_field<F: Feed>(
 
 /// The input's next row, which is paid, or the place behind the loop.
 #[inline(always)]
-fn next_row<F: Feed>(frame: &mut Frame, feed: &mut F, line: u32, input: u32, to: u32) -> Turned
+fn next_row<F: Feed>(frame: &mut Frame, feed: &mut F, line: u32, input: u32, to: u32) -> MachineStep
     requires place { frame.old.place + 1 < 2 ^ 64 }
     requires there { input < length (F.feeds feed.old) }
-    ensures does { TurnsBy (deliver (has_next input (F.feeds feed.old)) line to) frame.old frame.new result }
+    ensures does { StepsBy (deliver (has_next input (F.feeds feed.old)) line to) frame.old frame.new result }
     ensures moved { F.feeds feed.new ≡ at_next input (F.feeds feed.old) }
     ensures locals { length frame.new.locals ≡ length frame.old.locals }
     ensures room { frame.new.room ≡ frame.old.room }
@@ -322,13 +322,13 @@ fn next_row<F: Feed>(frame: &mut Frame, feed: &mut F, line: u32, input: u32, to:
         return pay(frame, line);
     }
     frame.go_to(to);
-    Turned::On
+    MachineStep::On
 }
 
 /// The message that lies on the stack is sent.
 #[inline(always)]
 #[tactic(auto, using(crate::proofs::Pops::row_there))]
-fn send(frame: &mut Frame, added: &mut Added, widths: &Widths, message: u32) -> Turned
+fn send(frame: &mut Frame, added: &mut Added, widths: &Widths, message: u32) -> MachineStep
     requires place { frame.old.place + 1 < 2 ^ 64 }
     requires room { length frame.old.stack < frame.old.room }
     requires there { message < length widths.now.messages }
@@ -341,11 +341,11 @@ fn send(frame: &mut Frame, added: &mut Added, widths: &Widths, message: u32) -> 
     let count = widths.messages.items()[message as usize] as usize;
     let mut row = added.row();
     if frame.copy_row(count, &mut row).is_err() {
-        return Turned::Full;
+        return MachineStep::Full;
     }
     frame.drop_row(count);
     if added.send(message, Row::of(row)).is_err() {
-        return Turned::Full;
+        return MachineStep::Full;
     }
     on(frame)
 }
@@ -353,7 +353,7 @@ fn send(frame: &mut Frame, added: &mut Added, widths: &Widths, message: u32) -> 
 /// The agent whose memory lies on the stack is born.
 #[inline(always)]
 #[tactic(auto, using(crate::proofs::Pops::row_there))]
-fn bear(frame: &mut Frame, added: &mut Added, widths: &Widths, agent: u32) -> Turned
+fn bear(frame: &mut Frame, added: &mut Added, widths: &Widths, agent: u32) -> MachineStep
     requires place { frame.old.place + 1 < 2 ^ 64 }
     requires room { length frame.old.stack < frame.old.room }
     requires there { agent < length widths.now.agents }
@@ -366,11 +366,11 @@ fn bear(frame: &mut Frame, added: &mut Added, widths: &Widths, agent: u32) -> Tu
     let count = widths.agents.items()[agent as usize] as usize;
     let mut row = added.row();
     if frame.copy_row(count, &mut row).is_err() {
-        return Turned::Full;
+        return MachineStep::Full;
     }
     frame.drop_row(count);
     if added.bear(agent, Row::of(row)).is_err() {
-        return Turned::Full;
+        return MachineStep::Full;
     }
     on(frame)
 }
@@ -385,7 +385,7 @@ pub fn apply<F: Feed>(
     given: &Given,
     widths: &Widths,
     instr: &Instr,
-) -> Turned
+) -> MachineStep
     requires place { frame.old.place + 1 < 2 ^ 64 }
     requires room { length frame.old.stack < frame.old.room }
     requires pops { takes widths.now instr.now ≤ length frame.old.stack }
@@ -456,7 +456,7 @@ pub fn apply<F: Feed>(
         Instr::Ne => operate(frame, Op::Ne, 0),
         Instr::Jump(to) => {
             frame.go_to(to);
-            Turned::On
+            MachineStep::On
         }
         Instr::JumpZero(to) => jump_zero(frame, to),
         Instr::JumpNotZero(to) => jump_not_zero(frame, to),
@@ -470,6 +470,6 @@ pub fn apply<F: Feed>(
         Instr::Send(message) => send(frame, added, widths, message),
         Instr::Bear(agent) => bear(frame, added, widths, agent),
         Instr::Call(line, helper, count) => pay_call(frame, line, helper, count),
-        Instr::Return => Turned::Ended(frame.pop()),
+        Instr::Return => MachineStep::Ended(frame.pop()),
     }
 }

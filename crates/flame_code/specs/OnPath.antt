@@ -14,7 +14,7 @@ AreCurrent delivered feeds =
 
 -- the run stands where a path leads, with the stack that belongs there, the rows that were delivered, and rows of the
 -- right widths
-pub record Stands (r : Routine) (c : Config) : Type 0 where
+pub record IsOnPath (r : Routine) (c : Config) : Type 0 where
   pub delivered : Delivered
   pub path : Path r c.place (length c.stack) delivered
   pub current : AreCurrent delivered c.feeds

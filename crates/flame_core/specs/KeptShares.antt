@@ -13,7 +13,7 @@ use Rattle.flame_world.specs.Shares.{piece_of, setting_of}
 use Rattle.flame_events.specs.CoreStates.{Work, Core, is_frozen, is_waiting, status_of, work_of}
 use Rattle.flame_events.specs.LegalEvents.{inputs_of}
 use Rattle.flame_progress.specs.declared.progress.Progress.{Progress}
-use Rattle.flame_progress.specs.RunCores.{core_of}
+use Rattle.flame_progress.specs.KeptCores.{core_of}
 use Rattle.flame_core.specs.declared.rounds.Round as run
 
 -- messages of this type with these rows [own]

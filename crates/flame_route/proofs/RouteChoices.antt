@@ -23,10 +23,10 @@ pub record AreTaken
     Type 0 where
   pub each : AllZip (IsRouteOf model) (take i (map (at_type agent type) type.functions)) routes
   pub count : length routes ≡ i
-  pub turns : (j : ℕ) (function : Function) (route : Route)
+  pub choices : (j : ℕ) (function : Function) (route : Route)
       → slice_get type.functions j ≡ Some function
       → slice_get routes j ≡ Some route
-      → slice_get (numbers_out first type.functions function.current) route.turn ≡ Some (first + j)
+      → slice_get (numbers_out first type.functions function.current) route.choice ≡ Some (first + j)
   pub rest : (state : List ℕ)
       → under state ++ numbers_out (first + i) (drop i type.functions) state ≡ numbers_out first type.functions state
 
@@ -38,7 +38,7 @@ pub none-taken :
 none-taken model agent type first under none = record {
   each = tt;
   count = refl;
-  turns = λ j function route there given. absurd (cc);
+  choices = λ j function route there given. absurd (cc);
   rest = λ state.
       let same : first + 0 ≡ first = omega arith in
       ap (λ ns. ns ++ numbers_out (first + 0) type.functions state) (none state)
@@ -50,7 +50,7 @@ module _ (model : Model) (agent : ℕ) (type : AgentType) (first i : ℕ) (route
     (at : slice_get type.functions i ≡ Some function)
     (so : AreTaken model agent type first i routes under)
     (is : IsRouteOf model (at_type agent type function) route)
-    (turn : route.turn ≡ length (under function.current))
+    (choice : route.choice ≡ length (under function.current))
     (noted : (state : List ℕ)
     → after state ≡ cond (bytes_eq function.current state) (under state ++ (first + i) ∷ []) (under state)) where
   behind : List ℕ → List ℕ
@@ -64,13 +64,13 @@ module _ (model : Model) (agent : ℕ) (type : AgentType) (first i : ℕ) (route
       sym (ap (λ fs. under state ++ numbers_out (first + i) fs state) (drop-there type.functions i function at))
       ∙ so.rest state
 
-  own-turn : slice_get (numbers_out first type.functions function.current) route.turn ≡ Some (first + i)
-  own-turn =
+  own-choice : slice_get (numbers_out first type.functions function.current) route.choice ≡ Some (first + i)
+  own-choice =
       let state = function.current in
       let self : bytes_eq state state ≡ true = (bytes_eq-Decides state state).1 refl in
-      sym (ap (λ ns. slice_get ns route.turn) (opened state))
-      ∙ ap (λ b. slice_get (under state ++ cond b ((first + i) ∷ behind state) (behind state)) route.turn) self
-      ∙ ap (slice_get (under state ++ (first + i) ∷ behind state)) turn
+      sym (ap (λ ns. slice_get ns route.choice) (opened state))
+      ∙ ap (λ b. slice_get (under state ++ cond b ((first + i) ∷ behind state) (behind state)) route.choice) self
+      ∙ ap (slice_get (under state ++ (first + i) ∷ behind state)) choice
       ∙ behind-there (under state) (first + i) (behind state)
 
   more-rest : (state : List ℕ)
@@ -93,27 +93,27 @@ module _ (model : Model) (agent : ℕ) (type : AgentType) (first i : ℕ) (route
       by-test true = append_assoc (under state) ((first + i) ∷ []) (behind state)
       by-test false = refl
 
-  more-turns :
+  more-choices :
       (j : ℕ) (other : Function) (given : Route)
       → slice_get type.functions j ≡ Some other
       → slice_get (routes ++ route ∷ []) j ≡ Some given
-      → slice_get (numbers_out first type.functions other.current) given.turn ≡ Some (first + j)
-  more-turns j other given there known =
+      → slice_get (numbers_out first type.functions other.current) given.choice ≡ Some (first + j)
+  more-choices j other given there known =
       of-either _ routes (route ∷ []) j given known
-      (λ early. so.turns j other given there early)
+      (λ early. so.choices j other given there early)
       (λ k e late. last k e late)
     where
       last :
           (k : ℕ) → j ≡ length routes + k → slice_get (route ∷ []) k ≡ Some given
-          → slice_get (numbers_out first type.functions other.current) given.turn ≡ Some (first + j)
+          → slice_get (numbers_out first type.functions other.current) given.choice ≡ Some (first + j)
       last zero e late =
           let here : j ≡ i = omega (arith, e, so.count) in
           let same : route ≡ given = cc in
           let functions : Some function ≡ Some other = sym at ∙ ap (slice_get type.functions) (sym here) ∙ there in
           let function-here : function ≡ other = cc in
-          ap (λ (r : Route). slice_get (numbers_out first type.functions other.current) r.turn) (sym same)
-          ∙ ap (λ (f : Function). slice_get (numbers_out first type.functions f.current) route.turn) (sym function-here)
-          ∙ own-turn ∙ ap (λ n. Some (first + n)) (sym here)
+          ap (λ (r : Route). slice_get (numbers_out first type.functions other.current) r.choice) (sym same)
+          ∙ ap (λ (f : Function). slice_get (numbers_out first type.functions f.current) route.choice) (sym function-here)
+          ∙ own-choice ∙ ap (λ n. Some (first + n)) (sym here)
       last (suc k) e late = absurd (cc)
 
   -- one function more
@@ -122,7 +122,7 @@ module _ (model : Model) (agent : ℕ) (type : AgentType) (first i : ℕ) (route
     each = zip-taken (IsRouteOf model) (map (at_type agent type) type.functions) i routes (at_type agent type function) route
         (slice_get-map (at_type agent type) type.functions i ∙ ap (option_map (at_type agent type)) at) so.each is;
     count = length-append routes (route ∷ []) ∙ ap (λ n. n + 1) so.count;
-    turns = more-turns;
+    choices = more-choices;
     rest = more-rest;
   }
 
@@ -135,7 +135,7 @@ pub all-functions :
     → AreTypeRoutes model agent type first routes leaving
 all-functions model agent type first routes under leaving so given = record {
   each = subst (λ places. AllZip (IsRouteOf model) places routes) (taken-whole type.functions) so.each;
-  turns = so.turns;
+  choices = so.choices;
   lists = given ∙ ap (λ f. map f (states type.functions)) (λ k state. under-all state k);
 }
   where

@@ -2,7 +2,7 @@ use Rattle.std.proofs.Common.{subst}
 use Rattle.flame_code.specs.Machine.{deliver}
 use Rattle.flame_machine.specs.MachineFrames.{config}
 use Rattle.flame_machine.specs.MachineSteps.{Stepped}
-use Rattle.flame_machine.proofs.turns.next_row.Goals as goal
+use Rattle.flame_machine.proofs.steps.next_row.Goals as goal
 
 pub returns-then-advance-clause-does : goal.returns-then-advance-clause-does
 returns-then-advance-clause-does g c added feeds =

@@ -4,7 +4,7 @@ use Rattle.flame_code.proofs.InputMoves.{rows-at_start, rows-at_next}
 use Rattle.flame_machine.specs.MachineSteps.{seen}
 use Rattle.flame_machine.proofs.Arms.{in_arm, entered, delivered, field_within, field_at_within}
 use Rattle.flame_machine.proofs.Inputs.{field-first}
-use Rattle.flame_machine.proofs.turns.apply.Goals as goal
+use Rattle.flame_machine.proofs.steps.apply.Goals as goal
 
 pub returns-in-Dup-clause-does : goal.returns-in-Dup-clause-does
 returns-in-Dup-clause-does g c =

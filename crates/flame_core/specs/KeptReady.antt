@@ -11,7 +11,7 @@ use Rattle.flame_events.specs.CoreFits.{FitsCore}
 use Rattle.flame_events.specs.LegalEvents.{inputs_of, outputs_of}
 use Rattle.flame_progress.specs.declared.counts.Counts.{Counts}
 use Rattle.flame_progress.specs.declared.progress.Progress.{Progress}
-use Rattle.flame_progress.specs.RunCores.{core_of}
+use Rattle.flame_progress.specs.KeptCores.{core_of}
 use Rattle.flame_progress.specs.Tallying.{Tallies}
 use Rattle.flame_core.specs.declared.rounds.Round as run
 use Rattle.flame_core.specs.SeenCores.{Seen, IsReached}
@@ -38,7 +38,7 @@ pub record Ready (round : run.Round) (pieces : ℕ) (progress : Progress) (count
   pub tallies : Tallies round.program.now.model progress counts
 
 -- what is kept is a core that was reached, of a model whose functions 32 bits can number [own]
-pub record Stands (seen : Seen) (progress : Progress) (counts : Counts) : Type 0 where
+pub record IsKeptCore (seen : Seen) (progress : Progress) (counts : Counts) : Type 0 where
   pub reached : IsReached seen
   pub numbered : IsTrue (is_numbered (functions seen.source.model))
   pub tallies : Tallies seen.source.model progress counts

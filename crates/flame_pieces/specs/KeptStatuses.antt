@@ -4,7 +4,7 @@ use Rattle.std.specs.List.{All}
 use Rattle.flame_events.specs.CoreStates.{Status, Waiting, Open, Shut, Faulted}
 use Rattle.flame_pieces.specs.declared.statuses.Status as run
 use Rattle.flame_pieces.specs.declared.statuses.Status.TheVariants as is
-use Rattle.flame_pieces.specs.RunWorks.{work_of, outputs_in}
+use Rattle.flame_pieces.specs.KeptWorks.{work_of, outputs_in}
 
 -- how far it is [own]
 abbrev pub status_of : run.Status → Status

@@ -3,7 +3,7 @@ use mir.Val.{SFits}
 use Rattle.std.proofs.Common.{rules}
 use Rattle.std.proofs.lemmas.Int.{to_z-of_z}
 use Rattle.flame_machine.proofs.Pops.{operated}
-use Rattle.flame_machine.proofs.turns.operate.Goals as goal
+use Rattle.flame_machine.proofs.steps.operate.Goals as goal
 
 pub returns-clause-does : goal.returns-clause-does
 returns-clause-does c =

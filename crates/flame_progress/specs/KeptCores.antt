@@ -5,10 +5,10 @@ use Rattle.flame_world.specs.Fields.{joined}
 use Rattle.flame_events.specs.CoreStates.{Core}
 use Rattle.flame_pieces.specs.declared.statuses.Status.{Status}
 use Rattle.flame_pieces.specs.declared.statuses.Status.TheVariants.{Waiting}
-use Rattle.flame_pieces.specs.RunStatuses.{status_of, HasOutputs}
+use Rattle.flame_pieces.specs.KeptStatuses.{status_of, HasOutputs}
 use Rattle.flame_progress.specs.declared.progress.Progress as run
-use Rattle.flame_progress.specs.RunBoards.{board_bag, is_board_frozen}
-use Rattle.flame_progress.specs.RunPools.{pools_of}
+use Rattle.flame_progress.specs.KeptBoards.{board_bag, is_board_frozen}
+use Rattle.flame_progress.specs.KeptPools.{pools_of}
 
 -- the core that it is: births are kept as they came, and parted by type at the end [own]
 abbrev pub core_of : run.Progress → Core
