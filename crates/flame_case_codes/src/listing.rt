@@ -128,24 +128,48 @@ fn label_in(alloc: Global, text: &str) -> Result<Option<Label>, AllocError> {
     }
 }
 
+/// Adds what a line of a listing says. Tells whether it is one; a line without a blank says nothing.
+fn read_line(
+    alloc: Global,
+    line: &str,
+    instrs: &mut Vec<Instr>,
+    labels: &mut Vec<Label>,
+) -> Result<bool, AllocError> {
+    let Some((label, instr)) = line.split_once(' ') else {
+        return Ok(true);
+    };
+    let Some(instr) = instr_in(alloc, instr)? else {
+        return Ok(false);
+    };
+    let Some(label) = label_in(alloc, label)? else {
+        return Ok(false);
+    };
+    instrs.push(instr)?;
+    labels.push(label)?;
+    Ok(true)
+}
+
+/// Adds what the lines of a listing say. Tells whether all are lines of one.
+fn read_lines(
+    alloc: Global,
+    text: &str,
+    instrs: &mut Vec<Instr>,
+    labels: &mut Vec<Label>,
+) -> Result<bool, AllocError> {
+    for line in text.split('\n') {
+        if !read_line(alloc, line, instrs, labels)? {
+            return Ok(false);
+        }
+    }
+    Ok(true)
+}
+
 /// The code of a listing, where it is valid with these widths; none where it is not, is longer than 1000 instructions, or
 /// has a line that is no instruction. A line without a blank is passed over.
 pub fn code_in(alloc: Global, text: &str, widths: Widths) -> Result<Option<Code>, AllocError> {
     let mut instrs = Vec::new(alloc);
     let mut labels = Vec::new(alloc);
-    for line in text.split('\n') {
-        if let Some((label, instr)) = line.split_once(' ') {
-            let Some(label) = label_in(alloc, label)? else {
-                return Ok(None);
-            };
-            let Some(instr) = instr_in(alloc, instr)? else {
-                return Ok(None);
-            };
-            labels.push(label)?;
-            instrs.push(instr)?;
-        }
-    }
-    if instrs.len() > LONGEST {
+    if !read_lines(alloc, text, &mut instrs, &mut labels)? || instrs.len() > LONGEST {
         return Ok(None);
     }
     Ok(labelled(Seq::of(instrs), widths, labels.as_slice()))

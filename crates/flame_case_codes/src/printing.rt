@@ -1,19 +1,31 @@
 //! Outcomes, as texts.
 
+use flame_rows::Row;
 use flame_spec::{Effect, Outcome};
 use std::alloc::AllocError;
 
-fn print_effect(out: &mut String, effect: &Effect) -> Result<(), AllocError> {
-    match &effect.memory {
-        Some(row) => writeln!(out, "memory {:?}", row.values())?,
-        None => writeln!(out, "removed")?,
-    }
+/// Adds a line for each message and each birth, in the order of adding.
+fn print_added(out: &mut String, effect: &Effect) -> Result<(), AllocError> {
     for sent in effect.sent.items() {
         writeln!(out, "sent {} {:?}", sent.message, sent.row.values())?;
     }
     for born in effect.born.items() {
         writeln!(out, "born {} {:?}", born.agent, born.row.values())?;
     }
+    Ok(())
+}
+
+/// Adds the memory that is left, or that there is none.
+fn print_memory(out: &mut String, memory: &Option<Row>) -> Result<(), AllocError> {
+    match memory {
+        Some(row) => writeln!(out, "memory {:?}", row.values()),
+        None => writeln!(out, "removed"),
+    }
+}
+
+fn print_effect(out: &mut String, effect: &Effect) -> Result<(), AllocError> {
+    print_memory(out, &effect.memory)?;
+    print_added(out, effect)?;
     writeln!(out, "left {}", effect.fuel)
 }
 

@@ -8,7 +8,7 @@ use crate::printing::print_outcome;
 use flame_case_files::{Case, numbers_in};
 use flame_code::{Code, Helpers};
 use flame_machine::{Lists, fits_entry, helpers_of, run};
-use flame_rows::{Row, Seq};
+use flame_rows::{NoMemory, Row, Seq};
 use flame_spec::Widths;
 use std::alloc::{AllocError, Global};
 use std::str;
@@ -101,27 +101,79 @@ fn seen_by_helpers(alloc: Global, constants: u32) -> Widths {
     }
 }
 
-/// The helpers of a case, where they are valid and helpers of one another.
-fn helpers_in(alloc: Global, case: &Case, constants: u32) -> Result<Option<Helpers>, AllocError> {
-    let mut codes = Vec::new(alloc);
-    let mut parameters = Vec::new(alloc);
-    let mut heights = Vec::new(alloc);
+/// The number of parameters and the height of a helper, which stand in the title of its section.
+fn counts_in(title: &str) -> Option<(u32, u32)> {
+    let (parameters, height) = title.strip_prefix("helper ")?.split_once(' ')?;
+    Some((
+        parameters.parse::<u32>().unwrap_or(0),
+        height.parse::<u32>().unwrap_or(0),
+    ))
+}
+
+/// The parameters of the helpers of a case.
+fn parameters_in(alloc: Global, case: &Case) -> Result<Vec<u32>, AllocError> {
+    let mut all = Vec::new(alloc);
     for section in &case.sections {
-        if let Some((count, height)) = section
-            .title
-            .strip_prefix("helper ")
-            .and_then(|rest| rest.split_once(' '))
-        {
-            let text = str::from_utf8(section.bytes.as_slice()).unwrap_or("");
-            let Some(code) = code_in(alloc, text, seen_by_helpers(alloc, constants))? else {
-                return Ok(None);
-            };
-            codes.push(code)?;
-            parameters.push(count.parse::<u32>().unwrap_or(0))?;
-            heights.push(height.parse::<u32>().unwrap_or(0))?;
+        if let Some((parameters, _)) = counts_in(section.title.as_str()) {
+            all.push(parameters)?;
         }
     }
+    Ok(all)
+}
+
+/// The heights of the helpers of a case.
+fn heights_in(alloc: Global, case: &Case) -> Result<Vec<u32>, AllocError> {
+    let mut all = Vec::new(alloc);
+    for section in &case.sections {
+        if let Some((_, height)) = counts_in(section.title.as_str()) {
+            all.push(height)?;
+        }
+    }
+    Ok(all)
+}
+
+/// The code of a helper, where it is valid.
+fn helper_in(alloc: Global, bytes: &[u8], constants: u32) -> Result<Option<Code>, AllocError> {
+    let text = str::from_utf8(bytes).unwrap_or("");
+    code_in(alloc, text, seen_by_helpers(alloc, constants))
+}
+
+/// The codes of the helpers of a case, where all are valid.
+fn codes_in(alloc: Global, case: &Case, constants: u32) -> Result<Option<Vec<Code>>, AllocError> {
+    let mut codes = Vec::new(alloc);
+    for section in &case.sections {
+        if counts_in(section.title.as_str()).is_some() {
+            match helper_in(alloc, section.bytes.as_slice(), constants)? {
+                Some(code) => codes.push(code)?,
+                None => return Ok(None),
+            }
+        }
+    }
+    Ok(Some(codes))
+}
+
+/// The helpers of these codes, where they are helpers of one another.
+fn joined(alloc: Global, case: &Case, codes: Vec<Code>) -> Result<Option<Helpers>, AllocError> {
+    let heights = heights_in(alloc, case)?;
+    let parameters = parameters_in(alloc, case)?;
     Ok(helpers_of(Seq::of(codes), Seq::of(parameters), heights.as_slice()))
+}
+
+/// The helpers of a case, where they are valid and helpers of one another.
+fn helpers_in(alloc: Global, case: &Case, constants: u32) -> Result<Option<Helpers>, AllocError> {
+    match codes_in(alloc, case, constants)? {
+        Some(codes) => joined(alloc, case, codes),
+        None => Ok(None),
+    }
+}
+
+/// The rows of the inputs, as the machine reads them.
+fn lists_of<'a>(alloc: Global, inputs: &'a [Vec<Row>]) -> Result<Lists<'a>, NoMemory> {
+    let mut feed = Lists::new(alloc);
+    for rows in inputs {
+        feed.push(rows.as_slice())?;
+    }
+    Ok(feed)
 }
 
 /// What the code leaves, or what does not fit it.
@@ -132,12 +184,9 @@ pub fn print_run(
     code: &Code,
     helpers: &Helpers,
 ) -> Result<(), AllocError> {
-    let mut feed = Lists::new(alloc);
-    for rows in &scene.inputs {
-        if feed.push(rows.as_slice()).is_err() {
-            return Err(AllocError);
-        }
-    }
+    let Ok(mut feed) = lists_of(alloc, scene.inputs.as_slice()) else {
+        return Err(AllocError);
+    };
     let memory = &scene.memory;
     let constants = &scene.constants;
     if !helpers.fits(code) {
@@ -161,20 +210,34 @@ pub fn print_run(
     }
 }
 
+/// What this code leaves, with the helpers of the case.
+fn answer_code(
+    alloc: Global,
+    case: &Case,
+    scene: &Scene,
+    code: &Code,
+    constants: u32,
+) -> Result<String, AllocError> {
+    let mut out = String::new(alloc);
+    match helpers_in(alloc, case, constants)? {
+        Some(helpers) => print_run(alloc, &mut out, scene, code, &helpers)?,
+        None => out.push_str("no valid helpers\n")?,
+    }
+    Ok(out)
+}
+
+/// What the code of the case leaves in this scene.
+fn answer_scene(alloc: Global, case: &Case, scene: &Scene) -> Result<String, AllocError> {
+    let widths = seen(alloc, case, scene)?;
+    let constants = widths.constants;
+    match code_in(alloc, case.text("code"), widths)? {
+        Some(code) => answer_code(alloc, case, scene, &code, constants),
+        None => String::from_str(alloc, "no valid code\n"),
+    }
+}
+
 /// The answer to a case of the kind `machine`: what the run of a code gives.
 pub fn answer_machine(alloc: Global, case: &Case) -> Result<String, AllocError> {
     let scene = scene_in(alloc, case)?;
-    let widths = seen(alloc, case, &scene)?;
-    let constants = widths.constants;
-    let mut out = String::new(alloc);
-    let Some(code) = code_in(alloc, case.text("code"), widths)? else {
-        writeln!(out, "no valid code")?;
-        return Ok(out);
-    };
-    let Some(helpers) = helpers_in(alloc, case, constants)? else {
-        writeln!(out, "no valid helpers")?;
-        return Ok(out);
-    };
-    print_run(alloc, &mut out, &scene, &code, &helpers)?;
-    Ok(out)
+    answer_scene(alloc, case, &scene)
 }
