@@ -428,9 +428,6 @@ module _ (r : Routine) (valid : IsValid r) where
     pub on_less : d.fuel ≤ c.fuel
     on_less = goes_to.less
 
-    pub on_rows : rows_of d.feeds ≡ rows_of c.feeds
-    on_rows = goes_to.rows
-
   module _ (g : Given) (c d : Config) (h : ℕ) (args : List ℤ) (stands : IsOnPath r c) (e : step g r c ≡ calls h args d) where
     goes_back : GoesBack r c h d
     goes_back = subst (StepsTo r c) e (turns_to g c stands)
@@ -444,9 +441,6 @@ module _ (r : Routine) (valid : IsValid r) where
     pub back_less : d.fuel < c.fuel
     back_less = goes_back.less
 
-    pub back_rows : rows_of d.feeds ≡ rows_of c.feeds
-    back_rows = goes_back.rows
-
     pub back_named : (line n : ℕ) × (slice_get r.instrs c.place ≡ Some (Call line h n))
     back_named = goes_back.named
 
@@ -456,6 +450,3 @@ module _ (r : Routine) (valid : IsValid r) where
 
     pub over_less : d.fuel ≤ c.fuel
     over_less = leaves_it.less
-
-    pub over_rows : rows_of d.feeds ≡ rows_of c.feeds
-    over_rows = leaves_it.rows

@@ -1,18 +1,17 @@
 -- An iteration that is not written whole: what stands of a run that goes on with it.
 use Rattle.std.proofs.Common.{◌≡◌, List, [], ◌∷◌, refl, sym, ap, ◌∙◌, arith}
 use Rattle.std.specs.Prelude.{ℤ}
-use Rattle.flame_outside.specs.Files.{with_file, OthersStay}
+use Rattle.flame_outside.specs.Files.{with_file}
 use Rattle.flame_outside.specs.Devices.{SeenDepot, SeenSink}
 use Rattle.flame_outside.specs.Frames.{OnlyPuts}
 use Rattle.flame_outside.specs.Scripts.{Act, puts, prints, outside, told}
 use Rattle.flame_outside.proofs.FrameLemmas.{grows_same, puts_go_on}
-use Rattle.flame_outside.proofs.ScriptLemmas.{put_stands, first_stand, failed_put, failed_print, second_of_two}
+use Rattle.flame_outside.proofs.ScriptLemmas.{put_stands, first_stand, failed_print, second_of_two}
 use Rattle.flame_driver.specs.declared.drivers.DriveEnd.{DriveEnd}
 use Rattle.flame_driver.specs.declared.drivers.DriveEnd.TheVariants.{Done, Fault, FileFault, OutputFault, NoMemory}
 use Rattle.flame_driver.specs.Runs.{Stage, Run, and_run}
 use Rattle.flame_driver.specs.RunScripts.{Writing, file_name, stage_text, stage_line, acts_of}
-use Rattle.flame_driver.specs.StageStops.{StopsPut, StopsLine, StopsStage}
-use Rattle.flame_driver.proofs.LeftRuns.{unchanged}
+use Rattle.flame_driver.specs.StageStops.{StopsLine, StopsStage}
 
 -- ---- an iteration that is done
 
@@ -20,41 +19,6 @@ module _ (writing : Writing) (done : Stage) where
   -- its line, and what is written of the run behind it
   abbrev line_and : Run → List Act
   line_and later = prints (stage_line done) ∷ acts_of writing later.stages
-
-  -- its file is not put
-  pub put_stops :
-      (end : DriveEnd) (old new : SeenDepot) (out : SeenSink)
-      → StopsPut done.itno old new end
-      → OthersStay (file_name writing.prefix done.itno) old.files new.files
-      → StopsStage writing done end 0 (outside old out) (outside new out)
-  put_stops Done old new out s others = λ before later is. absurd s
-  put_stops (Fault fault) old new out s others = λ before later is. absurd s
-  put_stops (FileFault number) old new out s others = λ before later is. record {
-    done = 0;
-    has_done = record {
-      stands =
-          failed_put (file_name writing.prefix done.itno) (stage_text writing done) (line_and later) old new out
-          s.1 others;
-      count = refl;
-    };
-    ends = record {
-      number = s.0 ∙ sym is;
-      file = record {
-        bytes = stage_text writing done;
-        fails = record {
-          rest = line_and later;
-          next =
-              ap (λ (itno : ℤ). puts (file_name writing.prefix itno) (stage_text writing done) ∷ line_and later)
-              (sym s.0);
-          failed = s.1;
-        };
-      };
-    };
-  }
-  put_stops OutputFault old new out s others = λ before later is. absurd s
-  put_stops NoMemory old new out s others = λ before later is.
-      let same = ap (λ (depot : SeenDepot). told (outside depot out)) s in
-      unchanged writing before (and_run done later) NoMemory (outside old out) (outside new out) same same
 
   -- its file stands, and its line is not printed whole
   pub line_stops :

@@ -64,12 +64,3 @@ abbrev pub loading : Reader → Files → List ℕ → Reading Refusal Source
 loading read told name = do
   model ← model_in told name
   source_of read told model
-
--- the refusal, where the answer is one [own]
-abbrev pub refusal_in : {X : Type 0} → Result X Refusal → Option Refusal
-refusal_in (Ok x) = None
-refusal_in (Err refusal) = Some refusal
-
--- the first refusal of the files, where there is one [own]
-abbrev pub load_refusal : Reader → Files → List ℕ → Option Refusal
-load_refusal read told name = refusal_in (loading read told name).answer

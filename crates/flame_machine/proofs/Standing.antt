@@ -28,9 +28,6 @@ module _ (r : Routine) (valid : IsValid r) (frame : Framed) (added : Additions) 
   has_room = let lt = stack_within r (config frame added (seen r.widths feeds)) valid ready.stands in let le = ready.room in omega arith
 
   module _ (i : Instr) (at : slice_get r.instrs frame.place ≡ Some i) where
-    pub has_operands : takes r.widths i ≤ length frame.stack
-    has_operands = valid.pops ready.stands.path at
-
     pub has_locals : locals_for i ≤ length frame.locals
     has_locals = let le = locals_within r.instrs frame.place i at in let m = ready.locals in omega arith
 
