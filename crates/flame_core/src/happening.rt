@@ -25,7 +25,6 @@ use crate::takers::fault_of;
 use flame_agent::{Room, run_agent};
 use flame_events::Event;
 use flame_index::Frozen;
-use flame_pieces::cut;
 use flame_program::Program;
 use flame_progress::{Counts, Leaving, Progress, freeze, hand_in, shut, works_of};
 use flame_rows::{NoMemory, Row, Seq};
@@ -52,7 +51,8 @@ fn open_function(
     let route = route_of(round, function);
     let pool = progress.pool(route.agent, route.from).copied()?;
     let (takers, staying) = part(alloc, round, function, route, pool)?;
-    let works = works_of(alloc, route.outputs.items(), cut(alloc, takers, pieces)?)?;
+    let bags = takers.cut_into(pieces)?.into_items();
+    let works = works_of(alloc, route.outputs.items(), bags)?;
     progress.start(function, works, route.agent, route.from, staying);
     Ok(())
 }

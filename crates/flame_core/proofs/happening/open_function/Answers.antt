@@ -56,7 +56,7 @@ returns-clause-ok c =
     c.in_ok-pool.ensures ∙ c.pool.ensures ∙ (λ i. pool_in core.field.pools (goes.routed.agent i) (goes.routed.from i)) in
     let takers_are = c.in_ok-takers.ensures.takers place goes.there in
     let outputs = c.items.ensures ∙ goes.routed.outputs in
-    let bags = c.in_ok-cut.ensures ∙ ap (cut c.args.pieces) takers_are in
+    let bags = c.into_items-bags.ensures ∙ c.in_ok-cut_into.ensures ∙ ap (cut c.args.pieces) takers_are in
     let works = c.in_ok-works.ensures.works ∙ (λ i. map (fresh_work (outputs i)) (bags i)) in
     let next_is = open_is round c.args.pieces f place core (map work_of c.in_ok-works.works.items) route.agent route.from
     c.in_ok-takers.staying c.in_ok-pool.pool goes.there goes.routed.agent goes.routed.from pool works (c.in_ok-takers.ensures.others place goes.there) in
