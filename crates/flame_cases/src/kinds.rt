@@ -1,9 +1,9 @@
 //! The calls that cases are of.
 
 use crate::running;
-use flame_case_files::Case;
 use flame_case_checks::answer_check;
 use flame_case_codes::answer_machine;
+use flame_case_files::Case;
 use flame_case_loads::answer_load;
 use flame_case_models::{
     answer_flat, answer_model, answer_names, answer_plan, answer_shape, answer_wide,

@@ -21,7 +21,7 @@ use crate::faults::ParseFault;
 use crate::levels::{op_between, sign};
 use crate::lexemes::Lexeme;
 use flame_lex::Token;
-use flame_rows::{Fail, NoMemory, Boxed, Seq, Text};
+use flame_rows::{Boxed, Fail, NoMemory, Seq, Text};
 use flame_spec::{Expr, Link, Sign, Subscript};
 use std::alloc::Global;
 

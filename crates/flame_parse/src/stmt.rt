@@ -12,7 +12,7 @@ use crate::operators::starts_statement;
 use crate::simple::{head, items, one, simple};
 use flame_expr::{Lexeme, ParseFault, bracketed, expect, lexeme_at, line_at, text_at};
 use flame_lex::Token;
-use flame_rows::{Fail, Boxed, Seq};
+use flame_rows::{Boxed, Fail, Seq};
 use flame_spec::{Arm, Stmt};
 use std::alloc::Global;
 
