@@ -66,7 +66,7 @@ numbers-later n a first (type ∷ types) state h =
     let own = map (at_type a type) type.functions in
     numbers-append (leaves n state) first own (functions_from (a + 1) types)
     ∙ ap (λ ns. ns ++ numbers_from (leaves n state) (first + length own) (functions_from (a + 1) types))
-    (numbers-other n a first type type.functions state (eqb-above n a h))
+    (numbers-other n a first type type.functions state (eqb-above a n h))
     ∙ numbers-later n (a + 1) (first + length own) types state (omega (arith, h))
 
 append-none : (ns : List ℕ) → ns ++ [] ≡ ns
