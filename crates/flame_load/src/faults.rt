@@ -60,7 +60,7 @@ pub enum LoadFault {
 }
 
 /// Why no program is loaded.
-#[derive(Debug, Drop)]
+#[derive(Drop)]
 pub enum LoadFail {
     /// The function files have a fault, the functions have no order, or a type has many start states. This is the flat
     /// model, of whose parts the fault has the numbers.

@@ -19,7 +19,7 @@ use flame_spec::{AgentType, Condition, Input, MessageType, Model, Sort, TimeUnit
 use std::alloc::Global;
 
 /// The filter and the key of an input, as they were read: which messages come, and in what order.
-#[derive(Debug, Drop)]
+#[derive(Drop)]
 pub(crate) struct Selector {
     pub filter: Option<Filter>,
     pub sort: Option<SortBy>,
