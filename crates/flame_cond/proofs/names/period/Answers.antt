@@ -6,6 +6,12 @@ use Rattle.flame_cond.proofs.PeriodLemmas.{IsSoFar-at, other_unit, same_unit}
 use Rattle.flame_cond.proofs.names.period.Goals as goal
 use Rattle.flame_cond.proofs.names.period.Goals.{then-eq, else-eq}
 
+pub times-product-requires-clause-low : goal.times-product-requires-clause-low
+times-product-requires-clause-low c = c.loop-done.invariant.low
+
+pub times-product-requires-clause-high : goal.times-product-requires-clause-high
+times-product-requires-clause-high c = c.loop-done.invariant.high
+
 pub loop-done-preserved : goal.loop-done-preserved
 loop-done-preserved c =
     let units = c.args.units.now in
