@@ -12,9 +12,9 @@ use Rattle.std.proofs.lemmas.List.Folds.{list_any-append}
 use Rattle.flame_spec.specs.declared.wide.WideVariable.{WideVariable}
 use Rattle.flame_spec.specs.KnownNames.{is_among}
 use Rattle.flame_nest.specs.NestFaults.{is_alike, Declaration, given_by, differs, is_given}
-use Rattle.flame_nest.specs.KindTables.{look}
+use Rattle.flame_name_sets.specs.NameTables.{look}
 use Rattle.flame_nest.specs.GivenTables.{Agreed, GivenTable, agreed_with, differs_from, given_in, with_entry, with_declaration}
-use Rattle.flame_nest.proofs.Looks.{and_first, and_rest, look-with_entry}
+use Rattle.flame_nest.proofs.Entries.{and_first, and_rest, look-with_entry}
 
 -- ---- alike is the same
 

@@ -17,7 +17,7 @@ use Rattle.flame_nest.specs.declared.faults.NestKind.TheVariants.{Differs, Twice
 use Rattle.flame_nest.specs.FlatModels.{inside, replaced, spread, new_behind, with_new, joined_types, joined_messages}
 use Rattle.flame_nest.specs.NestFaults.{is_int, nest_where, nest_faults, types_faults, type_faults, fields_faults, messages_faults, message_faults, agents_faults, variables_faults, variable_faults, meant_by, Given, given_by, types_given, messages_given, of_type, of_message, type_names}
 use Rattle.flame_nest.specs.FlatLaws.{are_int}
-use Rattle.flame_nest.proofs.Looks.{and_first, and_rest}
+use Rattle.flame_nest.proofs.Entries.{and_first, and_rest}
 use Rattle.flame_nest.proofs.Firsts.{none-false}
 use Rattle.flame_nest.proofs.Joins.{joined_once-push, is_among-append}
 use Rattle.flame_nest.proofs.Typing.{append-none}

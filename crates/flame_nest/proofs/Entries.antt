@@ -1,90 +1,15 @@
--- Looking up names in tables.
-use Rattle.std.proofs.Common.{◌≡◌, ℕ, List, [], ◌∷◌, ◌++◌, map, refl, sym, ap, ◌∙◌, Bool, true, false, cond, Option, Some, None, true≢false, not, Bor, option_map}
-use Rattle.std.specs.Prelude.{◌&&◌, ◌||◌}
-use Rattle.std.specs.Option.{is_some, option_copied}
-use Rattle.std.specs.List.{list_all, list_any}
+-- Entries of tables, and of the maps that they show.
+use Rattle.std.proofs.Common.{◌≡◌, ℕ, List, [], ◌∷◌, map, refl, sym, ap, ◌∙◌, Bool, true, false, cond, Option, Some, None, true≢false, not, Bor, option_map}
+use Rattle.std.specs.Prelude.{◌&&◌}
+use Rattle.std.specs.Option.{is_some}
+use Rattle.std.specs.List.{list_all}
 use Rattle.std.specs.Map.{lookup}
 use Rattle.std.specs.Str.{bytes_eq}
 use Rattle.std.proofs.lemmas.Slice.Eq.{bytes_eq-Decides}
-use Rattle.std.proofs.lemmas.List.{map_push}
 use Rattle.indexmap.specs.IndexMap.{insert_entry}
-use Rattle.indexmap.specs.IndexSet.{insert_key}
-use Rattle.flame_spec.specs.KnownNames.{is_among}
-use Rattle.flame_nest.specs.KindTables.{look, names_of, with_name}
+use Rattle.flame_name_sets.specs.NameTables.{look}
+use Rattle.flame_name_sets.proofs.Looks.{push_step}
 use Rattle.flame_nest.specs.GivenTables.{with_entry}
-
-some_step : {X : Type 0} (b c : Bool) (x : X) (o : Option X)
-    → is_some o ≡ c → is_some (cond b (Some x) o) ≡ (b || c)
-some_step true c x o h = refl
-some_step false c x o h = h
-
--- a name is found where it is among those of the entries
-pub is_some-look : {X : Type 0} (name : List ℕ) (table : List (List ℕ × X))
-    → is_some (look name table) ≡ is_among name (names_of table)
-is_some-look name [] = refl
-is_some-look name (entry ∷ table) =
-    some_step
-    (bytes_eq name entry.0)
-    (is_among name (names_of table))
-    entry.1
-    (look name table)
-    (is_some-look name table)
-
--- a name that is not among those of the entries is not found
-pub look-none : {X : Type 0} (name : List ℕ) (table : List (List ℕ × X))
-    → is_among name (names_of table) ≡ false → look name table ≡ None
-look-none name table h = by (look name table) (is_some-look name table ∙ h)
-  where
-    by : {X : Type 0} (o : Option X) → is_some o ≡ false → o ≡ None
-    by None e = refl
-    by (Some x) e = absurd (true≢false e)
-
-push_step : {X : Type 0} (same front : Bool) (x y : X) (o : Option X)
-    → (same ≡ true → front ≡ false)
-    → cond front (Some y) (cond same (Some x) o) ≡ cond same (Some x) (cond front (Some y) o)
-push_step true true x y o h = absurd (true≢false (h refl))
-push_step true false x y o h = refl
-push_step false front x y o h = refl
-
-push_cases : {X : Type 0} (name other key : List ℕ) (x y : X) (table more : List (List ℕ × X)) (same : Bool)
-    → bytes_eq name key ≡ same
-    → cond (bytes_eq name key) (Some y) (look name table) ≡ None
-    → (look name table ≡ None → look other more ≡ cond (bytes_eq other name) (Some x) (look other table))
-    → cond (bytes_eq other key) (Some y) (look other more)
-    ≡ cond (bytes_eq other name) (Some x) (cond (bytes_eq other key) (Some y) (look other table))
-push_cases name other key x y table more true e h rest = cc
-push_cases name other key x y table more false e h rest =
-    ap (cond (bytes_eq other key) (Some y)) (rest (sym (ap (λ c. cond c (Some y) (look name table)) e) ∙ h))
-    ∙ push_step
-    (bytes_eq other name)
-    (bytes_eq other key)
-    x
-    y
-    (look other table)
-    (λ same. ap (λ text. bytes_eq text key) ((bytes_eq-Decides other name).0 same) ∙ e)
-
--- looking up behind one entry more, of a new name
-pub look-push : {X : Type 0} (name other : List ℕ) (x : X) (table : List (List ℕ × X))
-    → look name table ≡ None
-    → look other (table ++ (name, x) ∷ []) ≡ cond (bytes_eq other name) (Some x) (look other table)
-look-push name other x [] h = refl
-look-push name other x (entry ∷ table) h =
-    push_cases
-    name
-    other
-    entry.0
-    x
-    entry.1
-    table
-    (table ++ (name, x) ∷ [])
-    (bytes_eq name entry.0)
-    refl
-    h
-    (look-push name other x table)
-
-pub names_of-push : {X : Type 0} (table : List (List ℕ × X)) (name : List ℕ) (x : X)
-    → names_of (table ++ (name, x) ∷ []) ≡ names_of table ++ name ∷ []
-names_of-push table name x = map_push (λ entry. entry.0) table (name, x)
 
 pub and_first : (b c : Bool) → (b && c) ≡ true → b ≡ true
 and_first true c h = refl
@@ -137,10 +62,6 @@ look-shown name shown (entry ∷ entries) =
     (look name (map (λ entry. (entry.0.now, shown entry.1)) entries))
     (lookup (λ key. bytes_eq name key.now) entries)
     (look-shown name shown entries)
-
-pub is_some-copied : {X : Type 0} (o : Option (Bor X)) → is_some (option_copied o) ≡ is_some o
-is_some-copied None = refl
-is_some-copied (Some x) = refl
 
 pub not_true : (b : Bool) → not b ≡ true → b ≡ false
 not_true true h = absurd (true≢false (sym h))
@@ -225,21 +146,3 @@ insert_entry-shown shown key x (entry ∷ entries) =
     (insert_entry (λ a b. bytes_eq a.now b.now) entries key x)
     (with_entry key.now (shown x) (map (λ entry. (entry.0.now, shown entry.1)) entries))
     (insert_entry-shown shown key x entries)
-
-key_shown : (b : Bool) (key : Bor (List ℕ)) (keys : List (Bor (List ℕ)))
-    → map (λ k. k.now) (cond b keys (keys ++ key ∷ [])) ≡ cond b (map (λ k. k.now) keys) (map (λ k. k.now) keys ++ key.now ∷ [])
-key_shown true key keys = refl
-key_shown false key keys = map_push (λ k. k.now) keys key
-
--- a name among the keys of a set
-pub has-shown : (name : List ℕ) (keys : List (Bor (List ℕ)))
-    → list_any (λ key. bytes_eq name key.now) keys ≡ is_among name (map (λ k. k.now) keys)
-has-shown name [] = refl
-has-shown name (key ∷ keys) = ap (λ b. bytes_eq name key.now || b) (has-shown name keys)
-
--- putting a name into a set, as its table shows it
-pub insert_key-shown : (key : Bor (List ℕ)) (keys : List (Bor (List ℕ)))
-    → map (λ k. k.now) (insert_key (λ a b. bytes_eq a.now b.now) keys key) ≡ with_name (map (λ k. k.now) keys) key.now
-insert_key-shown key keys =
-    key_shown (list_any (λ k. bytes_eq key.now k.now) keys) key keys
-    ∙ ap (λ b. cond b (map (λ k. k.now) keys) (map (λ k. k.now) keys ++ key.now ∷ [])) (has-shown key.now keys)

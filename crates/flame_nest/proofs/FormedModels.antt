@@ -18,7 +18,7 @@ use Rattle.flame_nest.specs.declared.faults.NestFault.{NestFault}
 use Rattle.flame_nest.specs.declared.faults.NestKind.TheVariants.{Differs, TwiceType, UnknownType, TypedArray, TooWide, LongName}
 use Rattle.flame_nest.specs.FlatModels.{flat, flat_message, flat_agent, flat_variables, new_behind, with_new, joined_types, joined_messages}
 use Rattle.flame_nest.specs.NestFaults.{is_int, is_wide, has_long, nest_where, nest_faults, file_faults, types_faults, type_faults, messages_faults, message_faults, agents_faults, variables_faults, variable_faults, meant_by, Given, given_by, types_given, messages_given, of_type, of_message, type_names}
-use Rattle.flame_nest.proofs.Looks.{and_first, and_rest}
+use Rattle.flame_nest.proofs.Entries.{and_first, and_rest}
 use Rattle.flame_nest.proofs.Firsts.{none-false}
 use Rattle.flame_nest.proofs.Joins.{or_first, joined_once-push}
 use Rattle.flame_nest.proofs.Typing.{append-none}

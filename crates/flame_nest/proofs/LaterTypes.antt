@@ -10,7 +10,7 @@ use Rattle.flame_spec.specs.declared.wide.DataType.{DataType}
 use Rattle.flame_spec.specs.KnownNames.{is_among}
 use Rattle.flame_nest.specs.FlatModels.{inside, replaced, spread, single, flat_variables, new_behind, with_new}
 use Rattle.flame_nest.specs.NestFaults.{type_names, is_int}
-use Rattle.flame_nest.proofs.Looks.{and_first, and_rest, not_true}
+use Rattle.flame_nest.proofs.Entries.{and_first, and_rest, not_true}
 use Rattle.flame_nest.proofs.Joins.{or_first, or_second, or_none, among-with_new}
 
 spread_split : (types later : List DataType) (variables : List WideVariable)

@@ -1,5 +1,5 @@
 pub mod Measures
-pub mod Looks
+pub mod Entries
 pub mod Unfolding
 pub mod Agreement
 pub mod Firsts

@@ -14,7 +14,7 @@ use Rattle.flame_nest.specs.declared.faults.NestKind.TheVariants.{UnknownType, L
 use Rattle.flame_nest.specs.FlatModels.{new_behind}
 use Rattle.flame_nest.specs.NestFaults.{is_int, nest_faults, variable_faults, variables_faults, messages_faults, agents_faults, types_faults, meant_by, given_by}
 use Rattle.flame_nest.specs.FlatLaws.{are_int, IsPlain}
-use Rattle.flame_nest.proofs.Looks.{and_first, and_rest}
+use Rattle.flame_nest.proofs.Entries.{and_first, and_rest}
 use Rattle.flame_nest.proofs.Firsts.{where-false, none-append}
 
 second_of : (a b c d : Bool) → (a && b && c && d) ≡ true → b ≡ true

@@ -15,7 +15,7 @@ use Rattle.flame_spec.specs.declared.wide.WideAgent.{WideAgent}
 use Rattle.flame_nest.specs.FlatModels.{single, flat, flat_message, flat_agent, new_behind}
 use Rattle.flame_nest.specs.NestFaults.{is_int}
 use Rattle.flame_nest.specs.FlatLaws.{int_variable, int_message, int_agent, as_file, are_int, IsPlain}
-use Rattle.flame_nest.proofs.Looks.{and_first, and_rest}
+use Rattle.flame_nest.proofs.Entries.{and_first, and_rest}
 
 -- ---- models
 

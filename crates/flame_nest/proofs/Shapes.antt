@@ -13,7 +13,7 @@ use Rattle.flame_spec.specs.WellFormed.{is_array_length, is_well_formed_variable
 use Rattle.flame_spec.specs.WideModels.{is_well_formed_type, is_well_formed_wide_variable}
 use Rattle.flame_nest.specs.FlatModels.{inside, replaced, spread, single, flat_variables}
 use Rattle.flame_nest.specs.NestFaults.{has_long}
-use Rattle.flame_nest.proofs.Looks.{and_first, and_rest}
+use Rattle.flame_nest.proofs.Entries.{and_first, and_rest}
 use Rattle.flame_nest.proofs.Joins.{or_first, or_second}
 
 pub and_both : (b c : Bool) → b ≡ true → c ≡ true → (b && c) ≡ true

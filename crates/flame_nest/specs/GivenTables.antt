@@ -5,7 +5,7 @@ use Rattle.std.specs.Str.{bytes_eq}
 use Rattle.std.specs.Cmp.Lexicographic.{pointwise}
 use Rattle.flame_spec.specs.declared.wide.WideVariable.{WideVariable}
 use Rattle.flame_nest.specs.NestFaults.{Declaration, Given, is_alike}
-use Rattle.flame_nest.specs.KindTables.{look}
+use Rattle.flame_name_sets.specs.NameTables.{look}
 
 -- variables, where all declarations of a name agree on them [own]
 abbrev pub Agreed : Type 0

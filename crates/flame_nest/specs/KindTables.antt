@@ -6,17 +6,9 @@ use Rattle.flame_spec.specs.declared.models.Variable.{Variable}
 use Rattle.flame_spec.specs.declared.wide.WideVariable.{WideVariable}
 use Rattle.flame_spec.specs.declared.wide.DataType.{DataType}
 use Rattle.flame_spec.specs.KnownNames.{is_among}
+use Rattle.flame_name_sets.specs.NameTables.{look}
 use Rattle.flame_nest.specs.FlatModels.{single}
 use Rattle.flame_nest.specs.NestFaults.{is_wide}
-
--- what stands behind the first entry of this name [own]
-abbrev pub look : {X : Type 0} → List ℕ → List (List ℕ × X) → Option X
-look name [] = None
-look name (entry ∷ entries) = if bytes_eq name entry.0 then Some entry.1 else look name entries
-
--- the names of the entries [own]
-abbrev pub names_of : {X : Type 0} → List (List ℕ × X) → List (List ℕ)
-names_of entries = map (λ entry. entry.0) entries
 
 -- names with flat fields [own]
 abbrev pub FieldTable : Type 0

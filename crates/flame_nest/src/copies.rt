@@ -2,7 +2,7 @@
 
 ghost use Rattle.std.specs.Prelude.{◌≡◌, ◌++◌, IfOk, OnOk};
 
-use flame_rows::{Copied, NoMemory, Boxed, Seq, Text};
+use flame_rows::{Boxed, Copied, NoMemory, Seq, Text};
 use flame_spec::{Condition, Function, Input, Operand, Sort, TimeUnit};
 use std::alloc::Global;
 

@@ -4,7 +4,7 @@ ghost use Rattle.std.specs.Prelude.{◌≡◌, [], map, option_map, OnOk};
 ghost use Rattle.std.specs.List.{fold};
 ghost use Rattle.std.specs.Cmp.Lexicographic.{pointwise};
 ghost use Rattle.flame_nest.specs.NestFaults.{is_alike, of_type, of_message};
-ghost use Rattle.flame_nest.specs.KindTables.{look};
+ghost use Rattle.flame_name_sets.specs.NameTables.{look};
 ghost use Rattle.flame_nest.specs.GivenTables.{given_in, with_declaration, agreed_with, shown_agreed, differs_from};
 
 use flame_rows::{NoMemory, Same, Seq, Text};

@@ -8,7 +8,8 @@ ghost use Rattle.flame_nest.specs.KindTables.{with_name};
 
 use crate::copies::{copied_functions, put_texts, put_units};
 use crate::kinds::Kinds;
-use crate::names::Names;
+use crate::noting::note_name;
+use flame_name_sets::Names;
 use flame_rows::{Copied, NoMemory, Seq, Text};
 use flame_spec::{AgentType, MessageType, TimeUnit, Wide, WideAgent, WideMessage};
 use std::alloc::Global;
@@ -46,7 +47,7 @@ fn put_new(
         (put.new.items ≡ put.old.items ++ filter (λ name. not (is_among name there.now)) names.now) }
 {
     for name in names {
-        if !there.has(name) {
+        if !there.has(name.as_str()) {
             put.push(name.copy(alloc)?)?;
         }
     }
@@ -58,7 +59,7 @@ fn note<'a>(there: &mut Names<'a>, names: &'a [Text]) -> Result<(), NoMemory>
     ensures { OnOk result (there.new ≡ fold with_name there.old names.now) }
 {
     for name in names {
-        there.add(name)?;
+        note_name(there, name)?;
     }
     Ok(())
 }

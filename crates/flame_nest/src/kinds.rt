@@ -7,7 +7,8 @@ ghost use Rattle.flame_spec.specs.Columns.{width};
 ghost use Rattle.flame_spec.specs.KnownNames.{is_among};
 ghost use Rattle.flame_nest.specs.FlatModels.{single, flat_variables};
 ghost use Rattle.flame_nest.specs.NestFaults.{type_names, has_long, is_wide};
-ghost use Rattle.flame_nest.specs.KindTables.{look, table_of, are_new};
+ghost use Rattle.flame_nest.specs.KindTables.{table_of, are_new};
+ghost use Rattle.flame_name_sets.specs.NameTables.{look};
 
 use crate::fields::Fields;
 use flame_rows::{Copied, NoMemory, Text};

@@ -10,7 +10,7 @@ mod joining;
 mod kinds;
 pub mod laws;
 mod messages;
-mod names;
+mod noting;
 mod refusing;
 mod types;
 mod variables;

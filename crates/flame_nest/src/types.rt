@@ -11,9 +11,10 @@ use crate::earlier::Earlier;
 use crate::faults::{NestFault, NestKind};
 use crate::fields::Fields;
 use crate::kinds::Kinds;
-use crate::names::Names;
+use crate::noting::note_name;
 use crate::refusing::refuse;
 use crate::variables::{check_variables, is_int};
+use flame_name_sets::Names;
 use flame_rows::{Fail, Text};
 use flame_spec::DataType;
 use std::alloc::Global;
@@ -47,7 +48,7 @@ fn check_fields(
 fn is_twice(here: &Names<'_>, name: &Text) -> bool
     ensures { result ≡ (is_int name.now || is_among name.now here.now) }
 {
-    is_int(name) || here.has(name)
+    is_int(name) || here.has(name.as_str())
 }
 
 /// Adds a data type, where earlier files have not given it. It is as they have given it, or has no fault; none of its
@@ -102,7 +103,7 @@ pub fn check_types<'a>(
     let mut here = Names::new(alloc);
     for declared in types {
         check_type(alloc, file, earlier, &here, kinds, declared)?;
-        here.add(&declared.name)?;
+        note_name(&mut here, &declared.name)?;
     }
     Ok(())
 }

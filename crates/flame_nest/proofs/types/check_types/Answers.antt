@@ -4,7 +4,7 @@ use Rattle.std.specs.Option.{is_some}
 use Rattle.flame_spec.specs.KnownNames.{is_among}
 use Rattle.flame_nest.specs.FlatModels.{with_new}
 use Rattle.flame_nest.specs.NestFaults.{meant_by, type_names, type_faults}
-use Rattle.flame_nest.specs.KindTables.{look}
+use Rattle.flame_name_sets.specs.NameTables.{look}
 use Rattle.flame_nest.specs.GivenTables.{given_in}
 use Rattle.flame_nest.proofs.Firsts.{fails-member, none-member}
 use Rattle.flame_nest.proofs.Joins.{with_new-none, with_new-more}
@@ -63,7 +63,7 @@ returns-in_err-check_type-clause-first c =
 pub loop-declared-preserved : goal.loop-declared-preserved
 loop-declared-preserved c = record {
   here =
-      c.in_ok-add.ensures
+      c.in_ok-note_name.ensures
       ∙ here-more
       c.args.types.now
       c.loop-declared.declared-index

@@ -1,6 +1,6 @@
 use Rattle.std.proofs.Common.{◌∙◌, ap, map}
 use Rattle.flame_nest.specs.GivenTables.{shown_agreed, with_entry}
-use Rattle.flame_nest.proofs.Looks.{insert_entry-shown}
+use Rattle.flame_nest.proofs.Entries.{insert_entry-shown}
 use Rattle.flame_nest.proofs.earlier.Earlier.add.Goals as goal
 
 pub returns : goal.returns

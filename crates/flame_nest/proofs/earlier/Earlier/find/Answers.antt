@@ -1,7 +1,7 @@
 use Rattle.std.proofs.Common.{◌∙◌, sym, ap, option_map}
-use Rattle.flame_nest.specs.KindTables.{look}
+use Rattle.flame_name_sets.specs.NameTables.{look}
 use Rattle.flame_nest.specs.GivenTables.{shown_agreed}
-use Rattle.flame_nest.proofs.Looks.{look-shown}
+use Rattle.flame_nest.proofs.Entries.{look-shown}
 use Rattle.flame_nest.proofs.earlier.Earlier.find.Goals as goal
 
 pub returns : goal.returns

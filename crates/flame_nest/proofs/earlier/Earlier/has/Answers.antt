@@ -1,7 +1,7 @@
 use Rattle.std.proofs.Common.{◌∙◌, sym, ap}
 use Rattle.std.specs.Option.{is_some}
 use Rattle.flame_nest.specs.GivenTables.{shown_agreed}
-use Rattle.flame_nest.proofs.Looks.{is_some-map}
+use Rattle.flame_nest.proofs.Entries.{is_some-map}
 use Rattle.flame_nest.proofs.earlier.Earlier.has.Goals as goal
 
 pub returns : goal.returns

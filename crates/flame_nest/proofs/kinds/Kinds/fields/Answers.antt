@@ -6,8 +6,9 @@ use Rattle.flame_spec.specs.declared.models.Variable.{Variable}
 use Rattle.flame_spec.specs.declared.wide.DataType.{DataType}
 use Rattle.flame_nest.specs.declared.kinds.Kind.{Kind}
 use Rattle.flame_nest.specs.NestFaults.{is_wide}
-use Rattle.flame_nest.specs.KindTables.{look, table_of, IsKinds}
-use Rattle.flame_nest.proofs.Looks.{look-shown, look-all, not_true}
+use Rattle.flame_nest.specs.KindTables.{table_of, IsKinds}
+use Rattle.flame_name_sets.specs.NameTables.{look}
+use Rattle.flame_nest.proofs.Entries.{look-shown, look-all, not_true}
 use Rattle.flame_nest.proofs.kinds.Kinds.fields.Goals as goal
 
 abbrev shown : List (Bor (List ℕ) × Kind) → List (List ℕ × List Variable)

@@ -1,6 +1,6 @@
 use Rattle.std.proofs.Common.{◌∙◌, sym, ap}
 use Rattle.std.specs.Option.{is_some}
-use Rattle.flame_nest.proofs.Looks.{is_some-copied}
+use Rattle.flame_name_sets.proofs.Looks.{is_some-copied}
 use Rattle.flame_nest.proofs.Unfolding.{is_some-table}
 use Rattle.flame_nest.proofs.kinds.Kinds.has.Goals as goal
 
