@@ -1,7 +1,7 @@
 -- The names that later members may not have.
-use Rattle.std.proofs.Common.{◌≡◌, ℕ, List, [], ◌∷◌, ◌++◌, map, Bool, Bor, Option, Some, None, codes, refl, ap, sym, ◌∙◌}
-use Rattle.std.specs.Prelude.{◌||◌, is_some, if◌then◌else◌, option_and_then}
-use Rattle.std.specs.List.{list_any, cons_option}
+use Rattle.std.proofs.Common.{◌≡◌, ℕ, List, [], ◌∷◌, ◌++◌, Bor, Option, Some, None, codes, refl, ap, sym, ◌∙◌}
+use Rattle.std.specs.Prelude.{is_some, if◌then◌else◌, option_and_then}
+use Rattle.std.specs.List.{cons_option}
 use Rattle.std.specs.Option.{option_map_or}
 use Rattle.std.proofs.lemmas.List.Elements.{filter_map-append}
 use Rattle.serde_json.specs.Data.{Data}
@@ -31,11 +31,6 @@ pub taken_more :
     → taken_names format (values ++ value ∷ []) ≡ taken_names format values ++ taken_names format (value ∷ [])
 taken_more One values value = refl
 taken_more Two values value = filter_map-append name_in values (value ∷ [])
-
--- a test of what each element gives
-pub list_any-map : {X Y : Type 0} (p : Y → Bool) (f : X → Y) (xs : List X) → list_any p (map f xs) ≡ list_any (λ x. p (f x)) xs
-list_any-map p f [] = refl
-list_any-map p f (x ∷ xs) = ap (λ b. p (f x) || b) (list_any-map p f xs)
 
 -- ---- the name of a member
 

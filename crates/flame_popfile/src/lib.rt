@@ -12,7 +12,6 @@ pub mod laws;
 mod lines;
 mod lists;
 mod members;
-mod names;
 mod numbers;
 mod parts;
 mod pieces;

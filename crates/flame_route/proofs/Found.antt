@@ -1,13 +1,10 @@
--- States as they are found, and their places.
-use Rattle.std.proofs.Common.{◌≡◌, ℕ, suc, ◌+◌, ◌<◌, ◌≤◌, List, [], ◌∷◌, ◌++◌, length, map, drop, Bool, true, false, cond, Some, None, codes, refl, sym, ap, ◌∙◌, arith, append_assoc}
-use Rattle.std.specs.Prelude.{not, ◌||◌, ◌==◌, nat_lt, position}
-use Rattle.std.specs.List.{position_or_len, list_any}
-use Rattle.std.specs.Str.{bytes_eq}
+-- States as they are found.
+use Rattle.std.proofs.Common.{◌≡◌, ℕ, suc, ◌+◌, ◌<◌, ◌≤◌, List, [], ◌∷◌, ◌++◌, length, map, drop, Bool, true, false, cond, codes, refl, ap, ◌∙◌, arith, append_assoc}
+use Rattle.std.specs.Prelude.{not, ◌==◌}
+use Rattle.std.specs.List.{position_or_len}
 use Rattle.std.proofs.lemmas.Bool.{eqb-true, eqb-false}
-use Rattle.std.proofs.lemmas.Bool.Decides.{nat_tests}
 use Rattle.std.proofs.Math.ListN.{get_or}
 use Rattle.std.proofs.lemmas.List.Sums.{prefix_len-le-length, prefix_len-drop_no}
-use Rattle.std.proofs.lemmas.Slice.Eq.{bytes_eq-Decides}
 use Rattle.flame_spec.specs.declared.models.Function.{Function}
 use Rattle.flame_spec.specs.KnownNames.{is_among}
 use Rattle.flame_spec.specs.States.{distinct_after, ends, states}
@@ -28,60 +25,6 @@ one-state-more own state rest added after e f =
         ≡ own ++ cond b (distinct_after own rest) (state ∷ distinct_after (own ++ state ∷ []) rest)
     by-test true = refl
     by-test false = append_assoc own (state ∷ []) (distinct_after (own ++ state ∷ []) rest)
-
-pub bytes_eq-comm : (xs ys : List ℕ) → bytes_eq xs ys ≡ bytes_eq ys xs
-bytes_eq-comm xs ys = by (bytes_eq xs ys) (bytes_eq ys xs) refl refl
-  where
-    by : (a b : Bool) → bytes_eq xs ys ≡ a → bytes_eq ys xs ≡ b → a ≡ b
-    by true true e f = refl
-    by false false e f = refl
-    by true false e f = sym ((bytes_eq-Decides ys xs).1 (sym ((bytes_eq-Decides xs ys).0 e))) ∙ f
-    by false true e f = sym e ∙ (bytes_eq-Decides xs ys).1 (sym ((bytes_eq-Decides ys xs).0 f))
-
--- the place of a state among the texts of these keys
-place-of :
-    {K : Type 0} (text : K → List ℕ) (state : List ℕ) (keys : List K)
-    → position_or_len (λ other. bytes_eq other state) (map text keys)
-    ≡ position_or_len (λ key. bytes_eq state (text key)) keys
-place-of text state [] = refl
-place-of text state (key ∷ keys) =
-    ap (λ b. cond (not b) (1 + position_or_len (λ other. bytes_eq other state) (map text keys)) 0) (bytes_eq-comm (text key) state)
-    ∙ ap (λ n. cond (not (bytes_eq state (text key))) (1 + n) 0) (place-of text state keys)
-
-at-some : {K : Type 0} (p : K → Bool) (keys : List K) (i : ℕ) → position p keys ≡ Some i → position_or_len p keys ≡ i
-at-some p keys i e = by (nat_lt (position_or_len p keys) (length keys)) e
-  where
-    by : (b : Bool) → cond b (Some (position_or_len p keys)) None ≡ Some i → position_or_len p keys ≡ i
-    by true f = cc
-    by false f = absurd (cc)
-
-at-none : {K : Type 0} (p : K → Bool) (keys : List K) → position p keys ≡ None → position_or_len p keys ≡ length keys
-at-none p keys e =
-    let n = position_or_len p keys in
-    by (nat_lt n (length keys)) refl e
-  where
-    by :
-        (b : Bool) → nat_lt (position_or_len p keys) (length keys) ≡ b
-        → cond b (Some (position_or_len p keys)) None ≡ None → position_or_len p keys ≡ length keys
-    by true t f = absurd (cc)
-    by false t f = most (position_or_len p keys) (length keys) t (prefix_len-le-length (λ key. not (p key)) keys)
-      where
-        most : (n m : ℕ) → nat_lt n m ≡ false → n ≤ m → n ≡ m
-        most n m t h = grind (arith, nat_tests)
-
-pub place-found :
-    {K : Type 0} (text : K → List ℕ) (state : List ℕ) (keys : List K) (i : ℕ)
-    → position (λ key. bytes_eq state (text key)) keys ≡ Some i
-    → i ≡ position_or_len (λ other. bytes_eq other state) (map text keys)
-place-found text state keys i e =
-    sym (place-of text state keys ∙ at-some (λ key. bytes_eq state (text key)) keys i e)
-
-pub place-missing :
-    {K : Type 0} (text : K → List ℕ) (state : List ℕ) (keys : List K)
-    → position (λ key. bytes_eq state (text key)) keys ≡ None
-    → length keys ≡ position_or_len (λ other. bytes_eq other state) (map text keys)
-place-missing text state keys e =
-    sym (place-of text state keys ∙ at-none (λ key. bytes_eq state (text key)) keys e)
 
 -- the first place among what each key gives
 pub position-map :
@@ -109,12 +52,6 @@ pub first-nowhere :
 first-nowhere p keys i past at =
     let most : position_or_len p keys ≤ length keys = prefix_len-le-length (λ key. not (p key)) keys in
     omega (arith, past, at, most)
-
--- a test of what each element gives
-pub list_any-map :
-    {X Y : Type 0} (p : Y → Bool) (f : X → Y) (xs : List X) → list_any p (map f xs) ≡ list_any (λ x. p (f x)) xs
-list_any-map p f [] = refl
-list_any-map p f (x ∷ xs) = ap (λ b. p (f x) || b) (list_any-map p f xs)
 
 -- a type without functions has the one state `start`
 pub lone-state :

@@ -5,7 +5,7 @@ ghost use Rattle.std.specs.List.{position_or_len};
 ghost use Rattle.flame_spec.specs.States.{is_entered, states};
 ghost use Rattle.flame_route.specs.ModelRoutes.{start_place};
 
-use crate::states::States;
+use crate::states::states_of;
 use flame_depend::entered_states;
 use flame_lookup::number;
 use flame_rows::NoMemory;
@@ -19,8 +19,8 @@ fn start_of(alloc: Global, functions: &[Function]) -> Result<usize, NoMemory>
         ≡ position_or_len (λ state. not (is_entered functions.now state)) (states functions.now)) }
 {
     let entered = entered_states(alloc, functions)?;
-    let own = States::of(alloc, functions)?;
-    let names = own.names();
+    let own = states_of(alloc, functions)?;
+    let names = own.items();
     for (place, name) in names.iter().enumerate() {
         if !entered.contains(*name) {
             return Ok(place);

@@ -9,8 +9,9 @@ ghost use Rattle.flame_route.specs.TypeRoutes.{ReadsAll, AreTypeRoutes};
 use crate::leaving::{lists_of, take_turn};
 use crate::messages::Messages;
 use crate::routes::Route;
-use crate::states::States;
+use crate::states::states_of;
 use flame_lookup::number;
+use flame_name_sets::Names;
 use flame_rows::{NoMemory, Seq};
 use flame_spec::{AgentType, Function};
 use std::alloc::Global;
@@ -27,7 +28,7 @@ pub(crate) struct TypeRoutes {
 fn route_of(
     alloc: Global,
     messages: &Messages<'_>,
-    own: &States<'_>,
+    own: &Names<'_>,
     at: u32,
     agent: &AgentType,
     function: &Function,
@@ -64,7 +65,7 @@ pub(crate) fn routes_of(
     ensures { IfOk result (λ found. AreTypeRoutes messages.now at agent.now first found.routes.items found.leaving) }
 {
     let functions = agent.functions.items();
-    let own = States::of(alloc, functions)?;
+    let own = states_of(alloc, functions)?;
     let mut table = HashMap::new(alloc);
     let mut routes = Vec::new(alloc);
     for (i, function) in functions.iter().enumerate() {
@@ -73,7 +74,7 @@ pub(crate) fn routes_of(
         let route = route_of(alloc, messages, &own, at, agent, function, turn)?;
         routes.push(route)?;
     }
-    let leaving = lists_of(alloc, &table, own.names())?;
+    let leaving = lists_of(alloc, &table, own.items())?;
     Ok(TypeRoutes {
         routes,
         leaving: Seq::of(leaving),

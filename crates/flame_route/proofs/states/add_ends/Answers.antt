@@ -3,14 +3,14 @@ use Rattle.std.proofs.Common.{◌+◌, ◌∷◌, ◌++◌, drop, sym, ap, ◌�
 use Rattle.flame_spec.specs.States.{distinct_after, ends}
 use Rattle.std.proofs.lemmas.List.{at_drop_more}
 use Rattle.flame_route.proofs.Found.{one-state-more}
-use Rattle.flame_route.proofs.states.States.add_ends.Goals as goal
+use Rattle.flame_route.proofs.states.add_ends.Goals as goal
 
 pub loop-function-preserved : goal.loop-function-preserved
 loop-function-preserved c =
     let functions = c.args.functions.now in
     let i = c.loop-function.function-index in
     let function = c.function-item.result in
-    let own = c.loop-function.self in
+    let own = c.loop-function.own in
     let rest = ends (drop (i + 1) functions) in
     let left = c.as_str.ensures in
     let entered = c.as_str-in-loop-function.ensures in

@@ -3,7 +3,7 @@ use Rattle.std.proofs.Common.{◌∙◌, [], ◌∷◌, ◌++◌, ap, sym, not, 
 use Rattle.flame_spec.specs.KnownNames.{is_among}
 use Rattle.flame_spec.specs.States.{distinct_after, ends}
 use Rattle.flame_route.proofs.Found.{lone-state, some-states}
-use Rattle.flame_route.proofs.states.States.of.Goals as goal
+use Rattle.flame_route.proofs.states.states_of.Goals as goal
 
 pub returns-then-is_empty : goal.returns-then-is_empty
 returns-then-is_empty c =

@@ -58,11 +58,11 @@ returns c =
     let functions = c.items-functions.result.now in
     let routes = c.loop-i.routes.items in
     let under = numbers_under c.loop-i.table in
-    let names = c.names.result.now in
+    let names = c.items.result.now in
     let end : c.loop-i.i ≡ length functions = omega (arith, c.loop-i-test.false, c.loop-i.auto.i-end) in
     let many : length functions ≡ length agent.functions = ap (λ (fs : List Function). length fs) c.items-functions.ensures in
     let so : AreTaken model c.args.at agent c.args.first (length agent.functions) routes under =
     subst (λ n. AreTaken model c.args.at agent c.args.first n routes under) (end ∙ many) c.loop-i.invariant in
     all-functions model c.args.at agent c.args.first routes under c.of-2.result so
     (c.of-2.ensures ∙ c.in_ok-leaving.ensures ∙ sym (map-map under (λ name. name.now) names)
-    ∙ ap (map under) (c.names.ensures ∙ c.in_ok-own.ensures ∙ ap states c.items-functions.ensures))
+    ∙ ap (map under) (c.items.ensures ∙ c.in_ok-own.ensures ∙ ap states c.items-functions.ensures))
