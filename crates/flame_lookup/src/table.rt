@@ -3,7 +3,7 @@
 ghost use Rattle.std.specs.Prelude.{◌≡◌, ℕ, List, Some, IfOk, OnOk, option_map, map, if◌then◌else◌, string_bytes};
 ghost use Rattle.std.specs.HashMap.{get_by_text};
 ghost use Rattle.std.specs.Str.{bytes_eq};
-ghost use Rattle.flame_spec.specs.Columns.{width, width_of, columned_where};
+ghost use Rattle.flame_spec.specs.Columns.{width, columned_where};
 ghost use Rattle.flame_spec.specs.Lists.{numbered_where};
 ghost use Rattle.flame_lookup.specs.WordsFound.{item_found, helper_found, definition_found};
 ghost use Rattle.flame_lookup.specs.WrittenForms.{written};
@@ -122,23 +122,13 @@ pub fn messages_by_name<'a>(
     numbered(alloc, Form::Same, messages)
 }
 
-/// How many numbers of a row the variable takes.
-fn width_of(variable: &Variable) -> u32
-    ensures { result ≡ width_of variable.now }
-{
-    match variable.length {
-        Some(length) => length,
-        None => 1,
-    }
-}
-
 /// The width of a row of these variables. `NoMemory` comes where it has more than 32 bits.
 pub fn width(variables: &[Variable]) -> Result<u32, NoMemory>
     ensures { IfOk result (λ total. total ≡ width variables.now) }
 {
     let mut total = 0u32;
     for variable in variables {
-        match total.checked_add(width_of(variable)) {
+        match total.checked_add(variable.width()) {
             Some(more) => total = more,
             None => return Err(NoMemory),
         }
@@ -162,7 +152,7 @@ pub(crate) fn columned<'a>(
     while left > 0 {
         left -= 1;
         let item = &variables[left];
-        at -= width_of(item);
+        at -= item.width();
         let word = form.written(alloc, item.name.as_str())?;
         put(&mut table, word, Found { at, item })?;
     }

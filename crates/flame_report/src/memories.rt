@@ -3,7 +3,6 @@
 ghost use Rattle.std.specs.Prelude.{◌≡◌, ◌++◌, OnOk, codes, min, length, string_bytes};
 ghost use Rattle.std.specs.Fmt.{signed_decimal};
 ghost use Rattle.std.specs.List.{flat_map};
-ghost use Rattle.flame_spec.specs.Columns.{width_of};
 ghost use Rattle.flame_report.specs.LineParts.{numbers_text, value_text, variable_text, memory_text};
 
 use flame_rows::NoMemory;
@@ -60,16 +59,6 @@ fn push_variable(text: &mut String, variable: &Variable, numbers: &[i32]) -> Res
     push_value(text, variable.length, numbers)
 }
 
-/// How many numbers of a row the variable takes.
-fn width_of(variable: &Variable) -> usize
-    ensures { result ≡ width_of variable.now }
-{
-    match variable.length {
-        None => 1,
-        Some(length) => length as usize,
-    }
-}
-
 /// Adds the variables, each with its numbers of the row.
 pub(crate) fn push_memory(
     text: &mut String,
@@ -80,7 +69,7 @@ pub(crate) fn push_memory(
 {
     let mut rest = row;
     for variable in variables {
-        let (numbers, others) = rest.split_at(width_of(variable).min(rest.len()));
+        let (numbers, others) = rest.split_at((variable.width() as usize).min(rest.len()));
         push_variable(text, variable, numbers)?;
         rest = others;
     }

@@ -12,7 +12,7 @@ ghost use Rattle.flame_sense.specs.StandsFor.{within_reach, span_of, scene_seen,
 
 use crate::expression::{field_value, value};
 use crate::scene::{Open, Progress, Scene, number_at};
-use crate::words::{Span, width_of};
+use crate::words::Span;
 use flame_rows::{NoMemory, Row};
 use flame_spec::{Expr, Fault, Variable};
 use std::alloc::Global;
@@ -139,7 +139,7 @@ fn width(variables: &[Variable]) -> Option<usize>
 {
     let mut wide = 0usize;
     for variable in variables {
-        wide = wide.checked_add(width_of(variable))?;
+        wide = wide.checked_add(variable.width() as usize)?;
     }
     Some(wide)
 }

@@ -3,7 +3,7 @@
 ghost use Rattle.std.specs.Prelude.{◌≡◌, option_map};
 ghost use Rattle.flame_ops.specs.Ascii.{capitals};
 ghost use Rattle.flame_sense.specs.StandsFor.{is_written, within_reach, span_of, is_joined};
-ghost use Rattle.flame_spec.specs.Columns.{column, columned_where, width_of};
+ghost use Rattle.flame_spec.specs.Columns.{column, columned_where};
 ghost use Rattle.std.specs.Str.{bytes_eq};
 
 use flame_spec::Variable;
@@ -83,16 +83,6 @@ fn is_joined(before: &str, behind: &str, word: &str, name: &str) -> bool
     }
 }
 
-/// How many numbers of a row the variable takes.
-pub(crate) fn width_of(variable: &Variable) -> usize
-    ensures { result ≡ width_of variable.now }
-{
-    match variable.length {
-        None => 1,
-        Some(length) => length as usize,
-    }
-}
-
 /// Where the first variable stands that the word names in this way, as far as places can be counted.
 pub(crate) fn span_where(form: Form, word: &str, variables: &[Variable]) -> Option<Span>
     ensures { result
@@ -104,7 +94,7 @@ pub(crate) fn span_where(form: Form, word: &str, variables: &[Variable]) -> Opti
             let length = variable.length;
             return Some(Span { column, length });
         }
-        column = column.saturating_add(width_of(variable));
+        column = column.saturating_add(variable.width() as usize);
     }
     None
 }
@@ -118,7 +108,7 @@ pub(crate) fn column_of(name: &str, variables: &[Variable]) -> usize
         if variable.name.as_str() == name {
             return at;
         }
-        at = at.saturating_add(width_of(variable));
+        at = at.saturating_add(variable.width() as usize);
     }
     at
 }

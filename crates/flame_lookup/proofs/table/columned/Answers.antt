@@ -16,23 +16,23 @@ overflow_sub-at c =
     let within : left - 1 < length c.args.variables.now = omega (arith, c.loop-left.invariant.within) in
     let more = width_more c.args.variables.now (left - 1) c.index-variables-left.result within c.index-variables-left.is in
     let before = ap (λ n. width (take n c.args.variables.now)) same in
-    omega (arith, more, before, c.width_of-at.ensures, c.loop-left.invariant.column)
+    omega (arith, more, before, c.width-at.ensures, c.loop-left.invariant.column)
 
 pub loop-left-preserved : goal.loop-left-preserved
 loop-left-preserved c =
     let variables = c.args.variables.now in
     let item = c.index-variables-left.result in
     let left : ℕ = c.loop-left.left in
-    let at : ℕ = c.loop-left.at - c.width_of-at.result in
+    let at : ℕ = c.loop-left.at - c.width-at.result in
     let same : left - 1 + 1 ≡ left = omega arith in
     let within : left - 1 < length variables = omega (arith, c.loop-left.invariant.within) in
     let more = width_more variables (left - 1) item within c.index-variables-left.is in
     let before = ap (λ n. width (take n variables)) same in
     let next : c.loop-left.at ≡ at + width_of item =
-    omega (arith, more, before, c.width_of-at.ensures, c.loop-left.invariant.column) in
+    omega (arith, more, before, c.width-at.ensures, c.loop-left.invariant.column) in
     record {
       within = omega (arith, c.loop-left.invariant.within);
-      column = omega (arith, more, before, c.width_of-at.ensures, c.loop-left.invariant.column);
+      column = omega (arith, more, before, c.width-at.ensures, c.loop-left.invariant.column);
       found = λ word.
           let rest = get_by_text c.loop-left.table word in
           ap (option_map item_found) (c.in_ok-put.ensures word)

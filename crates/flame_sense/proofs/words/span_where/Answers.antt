@@ -7,7 +7,7 @@ pub loop-variable-preserved : goal.loop-variable-preserved
 loop-variable-preserved c =
     let more = width_more c.args.variables.now c.loop-variable.variable-index c.variable-item.result c.loop-variable-test.true c.variable-item.is in
     record {
-      column = omega (arith, more, c.saturating_add-column.ensures, c.width_of.ensures, c.loop-variable.invariant.column);
+      column = omega (arith, more, c.saturating_add-column.ensures, c.width.ensures, c.loop-variable.invariant.column);
       rest = c.loop-variable.invariant.rest
           ∙ next_found (λ variable. is_written c.args.form c.args.word.now variable.name) c.args.variables.now c.loop-variable.variable-index
           c.variable-item.result c.loop-variable-test.true c.variable-item.is
