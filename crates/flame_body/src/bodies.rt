@@ -70,4 +70,11 @@ impl Body {
     {
         &self.tree
     }
+
+    /// The widths of the rows that it sees, without its statements.
+    pub fn into_widths(self) -> Widths
+        ensures { result ≡ self.widths }
+    {
+        self.widths
+    }
 }

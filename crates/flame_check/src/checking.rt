@@ -17,7 +17,7 @@ use flame_spec::{CheckFault, Model, Unit};
 use std::alloc::Global;
 
 /// What a model's function files say, with numbers in place of names.
-#[derive(Debug, Drop)]
+#[derive(Drop)]
 pub struct Checked {
     /// The body of each function of the model, in document order; that of `idle` is empty.
     pub bodies: Seq<Body>,

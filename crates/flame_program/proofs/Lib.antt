@@ -8,3 +8,4 @@ pub mod SourceBodies
 pub mod ProgramOutcomes
 pub mod Acceptances
 pub mod ReadingWidths
+pub mod Codings

@@ -9,15 +9,15 @@ use flame_body::Body;
 use flame_code::Code;
 use flame_compile::compile;
 use flame_lookup::{CFunction, number};
-use flame_rows::NoMemory;
+use flame_rows::{NoMemory, Seq};
 use std::alloc::Global;
 
 /// The codes of these bodies.
-pub(crate) fn codes_of(alloc: Global, bodies: &[Body]) -> Result<Vec<Code>, NoMemory>
-    ensures { IfOk result (λ codes. codes.items ≡ map code_of bodies.now) }
+pub(crate) fn codes_of(alloc: Global, bodies: Seq<Body>) -> Result<Vec<Code>, NoMemory>
+    ensures { IfOk result (λ codes. codes.items ≡ map code_of bodies) }
 {
     let mut codes = Vec::new(alloc);
-    for body in bodies {
+    for body in bodies.into_items() {
         codes.push(compile(alloc, body)?)?;
     }
     Ok(codes)

@@ -35,11 +35,11 @@ pub(crate) struct Parts {
 fn helpers_of(
     alloc: Global,
     source: &Source,
-    bodies: &[Body],
+    bodies: Seq<Body>,
     functions: &[CFunction<'_>],
 ) -> Result<Helpers, NoMemory>
     requires accepted { IsAccepted source.now }
-    requires bodies { bodies.now ≡ helper_bodies source.now.model source.now.units }
+    requires bodies { bodies ≡ helper_bodies source.now.model source.now.units }
     requires functions { map definition_found functions.now ≡ helpers source.now.model source.now.units }
     ensures { IfOk result (λ helpers. helpers ≡ helper_codes source.now) }
 {
@@ -50,10 +50,10 @@ fn helpers_of(
 
 /// The parts of an accepted source, of which these are the bodies. `NoMemory` comes too where 32 bits cannot number the
 /// parts of the model, the C functions, the parameters of a helper or the instructions of a body.
-pub(crate) fn parts_of(alloc: Global, source: &Source, checked: &Checked) -> Result<Parts, NoMemory>
+pub(crate) fn parts_of(alloc: Global, source: &Source, checked: Checked) -> Result<Parts, NoMemory>
     requires accepted { IsAccepted source.now }
-    requires bodies { checked.now.bodies ≡ function_bodies source.now.model source.now.units }
-    requires helpers { checked.now.helpers ≡ helper_bodies source.now.model source.now.units }
+    requires bodies { checked.bodies ≡ function_bodies source.now.model source.now.units }
+    requires helpers { checked.helpers ≡ helper_bodies source.now.model source.now.units }
     ensures { IfOk result (λ parts.
         ArePartsOf source.now parts.codes parts.helpers parts.conditions parts.selectors parts.routes) }
 {
@@ -61,8 +61,8 @@ pub(crate) fn parts_of(alloc: Global, source: &Source, checked: &Checked) -> Res
         return Err(NoMemory);
     }
     let tables = Tables::of(alloc, &source.model, &source.units)?;
-    let codes = codes_of(alloc, checked.bodies.items())?;
-    let helpers = helpers_of(alloc, source, checked.helpers.items(), tables.helpers())?;
+    let codes = codes_of(alloc, checked.bodies)?;
+    let helpers = helpers_of(alloc, source, checked.helpers, tables.helpers())?;
     let conditions = conditions_of(alloc, &source.model, tables.transitions())?;
     let selectors = selectors_of(alloc, &source.model, tables.transitions())?;
     let routes = Routes::of(alloc, &source.model)?;

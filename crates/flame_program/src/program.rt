@@ -83,7 +83,7 @@ impl Program {
         requires plan { IsPlan source.model plan }
         ensures { IfOk result (λ program. program ≡ source) }
     {
-        let parts = parts_of(alloc, &source, &checked)?;
+        let parts = parts_of(alloc, &source, checked)?;
         Ok(Program {
             source,
             plan,

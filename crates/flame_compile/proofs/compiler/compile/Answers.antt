@@ -8,10 +8,9 @@ use Rattle.flame_compile.proofs.compiler.compile.Goals as goal
 
 pub make-requires-clause-valid : goal.make-requires-clause-valid
 make-requires-clause-valid c =
-    let body = c.args.body.now in
-    let tree : c.items.result.now ≡ body.tree = c.items.ensures ∙ c.tree-tree.ensures.same in
+    let body = c.args.body in
+    let tree : c.items.result.now ≡ body.tree = c.items.ensures ∙ c.tree.ensures.same in
     let instrs : c.in_ok-instrs.instrs ≡ emitted body.tree = c.in_ok-instrs.ensures.code ∙ ap emitted tree in
-    let widths : c.in_ok-widths.widths ≡ body.widths = c.in_ok-widths.ensures ∙ c.widths.ensures in
-    subst (λ (is : List Instr). IsValid (record { instrs = is; widths = c.in_ok-widths.widths })) (sym instrs)
-    (subst (λ (w : Widths). IsValid (record { instrs = emitted body.tree; widths = w })) (sym widths)
-    (emitted_valid body.widths body.tree c.tree-tree.ensures.fits))
+    subst (λ (is : List Instr). IsValid (record { instrs = is; widths = c.into_widths.result })) (sym instrs)
+    (subst (λ (w : Widths). IsValid (record { instrs = emitted body.tree; widths = w })) (sym c.into_widths.ensures)
+    (emitted_valid body.widths body.tree c.tree.ensures.fits))

@@ -22,7 +22,7 @@ pub returns : goal.returns
 returns c =
     let model = c.args.source.now.model in
     record {
-      coded = c.of-3.ensures ∙ c.in_ok-codes.ensures ∙ ap (map code_of) (c.items.ensures ∙ c.requires.bodies);
+      coded = c.of-3.ensures ∙ c.in_ok-codes.ensures ∙ ap (map code_of) c.requires.bodies;
       helping = c.in_ok-helpers.ensures;
       conditioned =
           subst (λ conditions. AreConditionsOf conditions model) (sym c.of-4.ensures) c.in_ok-conditions.ensures;
