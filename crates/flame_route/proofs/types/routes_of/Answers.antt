@@ -63,6 +63,6 @@ returns c =
     let many : length functions ≡ length agent.functions = ap (λ (fs : List Function). length fs) c.items-functions.ensures in
     let so : AreTaken model c.args.at agent c.args.first (length agent.functions) routes under =
     subst (λ n. AreTaken model c.args.at agent c.args.first n routes under) (end ∙ many) c.loop-i.invariant in
-    all-functions model c.args.at agent c.args.first routes under c.of-2.result so
-    (c.of-2.ensures ∙ c.in_ok-leaving.ensures ∙ sym (map-map under (λ name. name.now) names)
+    all-functions model c.args.at agent c.args.first routes under c.of.result so
+    (c.of.ensures ∙ c.in_ok-leaving.ensures ∙ sym (map-map under (λ name. name.now) names)
     ∙ ap (map under) (c.items.ensures ∙ c.in_ok-own.ensures ∙ ap states c.items-functions.ensures))
