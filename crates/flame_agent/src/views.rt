@@ -3,6 +3,7 @@
 ghost use Rattle.std.specs.Prelude.{◌≡◌, IfOk, map};
 ghost use Rattle.flame_code.specs.Feeds.{not_begun};
 ghost use Rattle.flame_meaning.specs.Outcomes.{place_of};
+ghost use Rattle.flame_index.specs.FrozenBoards.{messages_on};
 ghost use Rattle.flame_world.specs.Meaning.{readings_from};
 ghost use Rattle.flame_world.specs.Settings.{boards_of};
 ghost use Rattle.flame_agent.specs.FunctionFits.{FitsFunction};
@@ -27,7 +28,7 @@ fn view_at<'a>(
     board: &'a Frozen,
     memory: &Row,
 ) -> Result<View<'a>, NoMemory>
-    ensures { IfOk result (λ view. IsViewFor program.now function input memory.now board.now view) }
+    ensures { IfOk result (λ view. IsViewFor program.now function input memory.now (messages_on board.now) view) }
 {
     accepted_are_runnable();
     views_are_as_written();

@@ -1,12 +1,12 @@
 //! Shares of pieces, by what functions mean.
 
 ghost use Rattle.std.specs.Prelude.{◌≡◌, ◌++◌, List, ℤ, [], IfOk, OnOk, map, slice_index_or};
-ghost use Rattle.std.specs.Arc.{arc_value};
 ghost use Rattle.std.specs.List.{cons_option, filter_map};
 ghost use Rattle.flame_rows.specs.Bags.{ascending};
 ghost use Rattle.flame_spec.specs.declared.outcomes.Outcome.TheVariants.{Faulted};
 ghost use Rattle.flame_spec.specs.Lists.{first};
 ghost use Rattle.flame_meaning.specs.Outcomes.{place_of, outputs_at};
+ghost use Rattle.flame_index.specs.FrozenBoards.{shared_messages};
 ghost use Rattle.flame_world.specs.AgentRuns.{born_by, born_from, fault_by, kept, messages_of, sent_by, sent_from};
 ghost use Rattle.flame_world.specs.InputBoards.{boards_named};
 ghost use Rattle.flame_world.specs.Meaning.{outcome_under, part_for};
@@ -55,7 +55,7 @@ fn board_of(alloc: Global, boards: &[Bag], message: u32) -> Result<Bag, NoMemory
 
 /// The boards of these messages, to be read.
 fn boards_in(alloc: Global, boards: &[Bag], messages: &[u32]) -> Result<Vec<Arc<Frozen>>, NoMemory>
-    ensures { IfOk result (λ read. map arc_value read.items
+    ensures { IfOk result (λ read. map shared_messages read.items
         ≡ map (λ message. slice_index_or boards.now message []) messages.now) }
 {
     let mut read = Vec::new(alloc);
@@ -73,7 +73,7 @@ pub(crate) fn boards_read(
     function: u32,
     boards: &Seq<Bag>,
 ) -> Result<Seq<Arc<Frozen>>, NoMemory>
-    ensures { IfOk result (λ read. map arc_value read
+    ensures { IfOk result (λ read. map shared_messages read
         ≡ boards_named (place_of program.now function) program.now.model boards.now) }
 {
     let read = boards_in(alloc, boards.items(), inputs_of(program, function))?;
@@ -186,7 +186,8 @@ fn left_by(
     ensures sent { IfOk result (λ left. left.sent.items ≡ sent_from (outcome_under setting.now function) agents.now) }
     ensures born { IfOk result (λ left. left.born.items ≡ born_from (outcome_under setting.now function) agents.now) }
     ensures faults { IfOk result (λ left. left.faults.items
-        ≡ filter_map (λ memory. fault_by setting.now.iteration function memory (outcome_under setting.now function memory))
+        ≡ filter_map (λ memory. fault_by setting.now.iteration function memory
+        (outcome_under setting.now function memory))
         agents.now) }
 {
     let mut left = Left::nothing(alloc);
@@ -254,8 +255,8 @@ fn first_of(faults: Vec<SimFault>) -> Option<SimFault>
     faults.into_iter().next()
 }
 
-/// The share of this piece under this setting, which has those of these boards of all messages that the function's inputs
-/// name: what the source means for the agents of the piece.
+/// The share of this piece under this setting, which has those of these boards of all messages that the function's
+/// inputs name: what the source means for the agents of the piece.
 pub(crate) fn share_of<'a>(
     alloc: Global,
     program: &Program,

@@ -1,7 +1,7 @@
 -- Where agents, births and messages are while a runner works.
 use Rattle.std.specs.Prelude.{ℤ, List, map}
-use Rattle.std.specs.Arc.{arc_value}
 use Rattle.flame_rows.specs.Bags.{ascending}
+use Rattle.flame_index.specs.FrozenBoards.{shared_messages}
 use Rattle.flame_world.specs.Fields.{Field}
 use Rattle.flame_core.specs.declared.boards.Board.{Board}
 use Rattle.flame_core.specs.declared.boards.Board.TheVariants as board
@@ -11,7 +11,7 @@ use Rattle.flame_progress.specs.RunPools.{bag_of, bags_of, pools_of}
 -- the bag of a board's messages [libmboard]
 abbrev pub board_bag : Board → List (List ℤ)
 board_bag (board.Gathering gathering) = bag_of gathering
-board_bag (board.Frozen frozen) = ascending (arc_value frozen)
+board_bag (board.Frozen frozen) = ascending (shared_messages frozen)
 
 -- the field that they are [own]
 abbrev pub field_of : run.Field → Field

@@ -1,9 +1,10 @@
 //! Shares: a piece's work that was done elsewhere.
 
-ghost use Rattle.std.specs.Prelude.{◌≡◌, ◌↔◌, ◌<◌, ◌++◌, [], ℕ, ℤ, List, true, false, IfOk, OnOk, OnErr, IsTrue, length, map};
+ghost use Rattle.std.specs.Prelude.{◌≡◌, ◌↔◌, ◌<◌, ◌++◌, [], ℕ, ℤ, List, true, false, IfOk, OnOk, OnErr, IsTrue};
+ghost use Rattle.std.specs.Prelude.{length, map};
 ghost use Rattle.std.specs.Prelude.{slice_index_or};
-ghost use Rattle.std.specs.Arc.{arc_value};
 ghost use Rattle.std.specs.List.{All, flat_map};
+ghost use Rattle.flame_index.specs.FrozenBoards.{shared_messages};
 ghost use Rattle.flame_world.specs.Shares.{piece_of, setting_of};
 ghost use Rattle.flame_events.specs.CoreFits.{FitsCore};
 ghost use Rattle.flame_events.specs.CoreStates.{Work as Meant, work_of};
@@ -34,7 +35,7 @@ use std::sync::Arc;
 /// Whether these are the messages of the board, which is frozen.
 fn same_board(board: &Board, read: &Arc<Frozen>) -> bool
     requires { is_board_frozen board.now ≡ true }
-    ensures { IsTrue result ↔ (arc_value read.now ≡ board_bag board.now) }
+    ensures { IsTrue result ↔ (shared_messages read.now ≡ board_bag board.now) }
 {
     match board.frozen() {
         Some(frozen) => same_rows(read.bag().rows(), frozen.bag().rows()),
@@ -45,8 +46,9 @@ fn same_board(board: &Board, read: &Arc<Frozen>) -> bool
 /// Whether these are the boards of these messages, which are frozen, in this order.
 fn same_boards(boards: &[Board], messages: &[u32], read: &[Arc<Frozen>]) -> bool
     requires known { All (λ message. message < length boards.now) messages.now }
-    requires frozen { All (λ message. slice_index_or (map is_board_frozen boards.now) message false ≡ true) messages.now }
-    ensures { IsTrue result ↔ (map arc_value read.now
+    requires frozen { All (λ message. slice_index_or (map is_board_frozen boards.now) message false ≡ true)
+        messages.now }
+    ensures { IsTrue result ↔ (map shared_messages read.now
         ≡ map (λ message. slice_index_or (map board_bag boards.now) message []) messages.now) }
 {
     if messages.len() != read.len() {
@@ -77,7 +79,8 @@ fn is_setting(
 ) -> bool
     requires route { GoesBy round.now.program.now.model function route.now }
     requires known { All (λ message. message < length boards.now) route.now.inputs }
-    requires frozen { All (λ message. slice_index_or (map is_board_frozen boards.now) message false ≡ true) route.now.inputs }
+    requires frozen { All (λ message. slice_index_or (map is_board_frozen boards.now) message false ≡ true)
+        route.now.inputs }
     ensures { IsTrue result ↔ IsSettingOf round.now (map board_bag boards.now) function setting.now }
 {
     if !round.program.source().same(setting.source) {

@@ -1,8 +1,8 @@
 //! Message boards of an iteration.
 
 ghost use Rattle.std.specs.Prelude.{◌≡◌, [], ◌∷◌, IfOk, OnOk};
-ghost use Rattle.std.specs.Arc.{arc_value};
 ghost use Rattle.flame_rows.specs.Bags.{ascending, merge};
+ghost use Rattle.flame_index.specs.FrozenBoards.{shared_messages};
 ghost use Rattle.flame_progress.specs.RunPools.{bag_of};
 ghost use Rattle.flame_core.specs.RunFields.{board_bag};
 
@@ -24,7 +24,7 @@ pub(crate) enum Board {
 
 /// The messages of a frozen board, given back. They are copied only where somebody still reads them.
 fn unshared(board: Arc<Frozen>) -> Result<Bag, NoMemory>
-    ensures { IfOk result (λ bag. bag ≡ arc_value board) }
+    ensures { IfOk result (λ bag. bag ≡ shared_messages board) }
 {
     match Arc::try_unwrap(board) {
         Ok(frozen) => Ok(frozen.into_bag()),
@@ -34,7 +34,7 @@ fn unshared(board: Arc<Frozen>) -> Result<Bag, NoMemory>
 
 /// The same, as messages that gathered.
 fn thawed(board: Arc<Frozen>) -> Result<Bag, NoMemory>
-    ensures { IfOk result (λ bag. bag ≡ ascending (arc_value board)) }
+    ensures { IfOk result (λ bag. bag ≡ ascending (shared_messages board)) }
 {
     let bag = unshared(board)?;
     let _in_order = bag.rows();
@@ -81,7 +81,7 @@ impl Board {
 
     /// The board in order, as it may be read from now on.
     fn into_frozen(self, alloc: Global) -> Result<Arc<Frozen>, NoMemory>
-        ensures { IfOk result (λ board. arc_value board ≡ board_bag self) }
+        ensures { IfOk result (λ board. shared_messages board ≡ board_bag self) }
     {
         match self {
             Board::Frozen(board) => {
@@ -97,7 +97,7 @@ impl Board {
 
     /// Freezes the board, and gives it to a reader.
     pub(crate) fn freeze(&mut self, alloc: Global) -> Result<Arc<Frozen>, NoMemory>
-        ensures read { IfOk result (λ board. arc_value board ≡ board_bag self.old) }
+        ensures read { IfOk result (λ board. shared_messages board ≡ board_bag self.old) }
         ensures kept { OnOk result (board_bag self.new ≡ board_bag self.old) }
     {
         let board = mem::replace(self, Board::empty(alloc)).into_frozen(alloc)?;

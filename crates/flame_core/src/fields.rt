@@ -1,9 +1,9 @@
 //! Where agents, births and messages are, and how they move.
 
 ghost use Rattle.std.specs.Prelude.{◌≡◌, ◌<◌, [], ◌∷◌, IfOk, OnOk, length, map, slice_index_or};
-ghost use Rattle.std.specs.Arc.{arc_value};
 ghost use Rattle.std.specs.List.{All};
 ghost use Rattle.flame_rows.specs.Bags.{ascending, merge};
+ghost use Rattle.flame_index.specs.FrozenBoards.{shared_messages};
 ghost use Rattle.flame_world.specs.AgentRuns.{births_of, messages_of};
 ghost use Rattle.flame_world.specs.Fields.{changed, changed_pool, joined, pool_in};
 ghost use Rattle.flame_progress.specs.RunPools.{bag_of, bags_of, pools_of};
@@ -108,7 +108,7 @@ pub(crate) fn freeze(
     messages: &[u32],
 ) -> Result<Vec<Arc<Frozen>>, NoMemory>
     requires { All (λ message. message < length boards.old.items) messages.now }
-    ensures read { IfOk result (λ frozen. map arc_value frozen.items
+    ensures read { IfOk result (λ frozen. map shared_messages frozen.items
         ≡ map (λ message. slice_index_or (map board_bag boards.old.items) message []) messages.now) }
     ensures kept { OnOk result (map board_bag boards.new.items ≡ map board_bag boards.old.items) }
 {

@@ -1,9 +1,9 @@
 //! What events make of an iteration.
 
 ghost use Rattle.std.specs.Prelude.{◌≡◌, ℕ, ℤ, List, true, IfOk, OnOk, OnErr, IsTrue, map};
-ghost use Rattle.std.specs.Arc.{arc_value};
 ghost use Rattle.flame_spec.specs.declared.outcomes.Outcome.TheVariants.{Ended, Faulted};
 ghost use Rattle.flame_meaning.specs.Outcomes.{outcome, place_of};
+ghost use Rattle.flame_index.specs.FrozenBoards.{shared_messages};
 ghost use Rattle.flame_agent.specs.FunctionFits.{FitsFunction};
 ghost use Rattle.flame_world.specs.InputBoards.{boards_named};
 ghost use Rattle.flame_world.specs.Settings.{boards_of};
@@ -130,9 +130,11 @@ fn leaving_of(
     memory: &Row,
     boards: &Seq<Arc<Frozen>>,
 ) -> Result<Leaving, NoMemory>
-    requires { FitsAgent round.now.program.now.model function round.now.constants.now (map arc_value boards.now) memory.now }
+    requires { FitsAgent round.now.program.now.model function round.now.constants.now (map shared_messages boards.now)
+        memory.now }
     ensures { IfOk result (λ leaving. (all : List (List (List ℤ)))
-        → map arc_value boards.now ≡ boards_named (place_of round.now.program.now function) round.now.program.now.model all
+        → map shared_messages boards.now
+        ≡ boards_named (place_of round.now.program.now function) round.now.program.now.model all
         → IsLeft round.now.iteration function memory.now (outcome round.now.program.now function memory.now all
         round.now.constants.now round.now.iteration round.now.fuel) leaving) }
 {
@@ -156,11 +158,13 @@ fn next_leaving(
     boards: &Seq<Arc<Frozen>>,
 ) -> Result<Leaving, NoMemory>
     requires fits { (memory : List ℤ) → IsNext (core_of progress.now) function piece memory
-        → FitsAgent round.now.program.now.model function round.now.constants.now (map arc_value boards.now) memory }
+        → FitsAgent round.now.program.now.model function round.now.constants.now (map shared_messages boards.now)
+        memory }
     requires there { HasNext (core_of progress.now) function piece }
     ensures { IfOk result (λ leaving. (all : List (List (List ℤ))) (memory : List ℤ)
         → IsNext (core_of progress.now) function piece memory
-        → map arc_value boards.now ≡ boards_named (place_of round.now.program.now function) round.now.program.now.model all
+        → map shared_messages boards.now
+        ≡ boards_named (place_of round.now.program.now function) round.now.program.now.model all
         → IsLeft round.now.iteration function memory (outcome round.now.program.now function memory all
         round.now.constants.now round.now.iteration round.now.fuel) leaving) }
 {
@@ -186,7 +190,8 @@ fn run_next(
     requires ready { Ready round.now pieces progress.old counts.now }
     requires legal { IsTrue (is_legal round.now.program.now.model (core_of progress.old) (kind.Agent function piece)) }
     ensures ok { OnOk result (Came round.now.program.now.model
-        (after (round_of round.now) pieces (core_of progress.old) (kind.Agent function piece)) progress.new counts.now) }
+        (after (round_of round.now) pieces (core_of progress.old) (kind.Agent function piece))
+        progress.new counts.now) }
     ensures err { OnErr result (Came round.now.program.now.model (core_of progress.old) progress.new counts.now) }
 {
     let route = route_of(round, function);

@@ -1,9 +1,9 @@
 //! Boards that a function reads.
 
 ghost use Rattle.std.specs.Prelude.{◌≡◌, Some, false, IfOk, map, slice_get};
-ghost use Rattle.std.specs.Arc.{arc_value};
 ghost use Rattle.flame_spec.specs.Functions.{Place, functions};
 ghost use Rattle.flame_meaning.specs.Outcomes.{place_of};
+ghost use Rattle.flame_index.specs.FrozenBoards.{shared_messages};
 ghost use Rattle.flame_world.specs.InputBoards.{boards_named};
 ghost use Rattle.flame_world.specs.WorldFits.{FitMessages};
 ghost use Rattle.flame_agent.specs.FunctionFits.{AreBoardsFor};
@@ -31,12 +31,13 @@ pub(crate) fn input_boards(
 ) -> Result<Seq<Arc<Frozen>>, NoMemory>
     requires fed { IsFed round.now.program.now.model progress.old function }
     requires began { is_waiting (status_of (core_of progress.old) function) ≡ false }
-    ensures read { IfOk result (λ boards. map arc_value boards
-        ≡ boards_named (place_of round.now.program.now function) round.now.program.now.model (map board_bag progress.old.boards.items)) }
+    ensures read { IfOk result (λ boards. map shared_messages boards
+        ≡ boards_named (place_of round.now.program.now function) round.now.program.now.model
+        (map board_bag progress.old.boards.items)) }
     ensures wide { IfOk result (λ boards. (place : Place)
         → slice_get (functions round.now.program.now.model) function ≡ Some place
         → FitMessages round.now.program.now.model (map board_bag progress.old.boards.items)
-        → AreBoardsFor round.now.program.now.model place.function.inputs (map arc_value boards)) }
+        → AreBoardsFor round.now.program.now.model place.function.inputs (map shared_messages boards)) }
     ensures kept { (counts : Kept) → Tallies round.now.program.now.model progress.old counts
         → Came round.now.program.now.model (core_of progress.old) progress.new counts }
 {

@@ -15,12 +15,12 @@ use crate::boards::Board;
 use crate::fields::{Field, exchanged};
 use crate::rounds::Round;
 use crate::steps::{Stepped, step};
-use flame_spec_laws::orders;
 use flame_pool::turn_over;
 use flame_program::Program;
 use flame_progress::Gathering;
 use flame_rows::{Bag, NoMemory, Row, Seq};
 use flame_spec::{AgentType, MessageType};
+use flame_spec_laws::orders;
 use flame_world::{Boards, Turn, World};
 use std::alloc::Global;
 

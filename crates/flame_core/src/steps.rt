@@ -1,7 +1,6 @@
 //! One function of an iteration.
 
 ghost use Rattle.std.specs.Prelude.{◌≡◌, ◌<◌, ℕ, ℤ, List, [], Some, IfOk, OnOk, length, map, slice_get, slice_index_or};
-ghost use Rattle.std.specs.Arc.{arc_value};
 ghost use Rattle.std.specs.List.{All};
 ghost use Rattle.flame_rows.specs.Bags.{ascending, merge};
 ghost use Rattle.flame_spec.specs.Before.{function_count};
@@ -9,6 +8,7 @@ ghost use Rattle.flame_spec.specs.Choice.{functions_out};
 ghost use Rattle.flame_spec.specs.Functions.{Place, functions};
 ghost use Rattle.flame_meaning.specs.Outcomes.{outcome, place_of};
 ghost use Rattle.flame_spec.specs.States.{state_place};
+ghost use Rattle.flame_index.specs.FrozenBoards.{shared_messages};
 ghost use Rattle.flame_world.specs.Fields.{Field as Standing, changed_pool, joined};
 ghost use Rattle.flame_world.specs.AgentRuns.{births_of, messages_of};
 ghost use Rattle.flame_world.specs.InputBoards.{boards_named};
@@ -92,9 +92,9 @@ fn run(
     boards: Vec<Arc<Frozen>>,
 ) -> Result<Ran, NoMemory>
     requires fits { FitsRun round.now.program.now.model function round.now.constants.now
-        (map arc_value boards.items) takers.now }
+        (map shared_messages boards.items) takers.now }
     ensures { IfOk result (λ ran. (all : List (List (List ℤ)))
-        → map arc_value boards.items
+        → map shared_messages boards.items
         ≡ boards_named (place_of round.now.program.now function) round.now.program.now.model all
         → Leaves round.now.iteration function (λ memory. outcome round.now.program.now function memory all
         round.now.constants.now round.now.iteration round.now.fuel) takers.now ran) }

@@ -1,9 +1,9 @@
 //! How a core begins, and how it goes on.
 
 ghost use Rattle.std.specs.Prelude.{◌≡◌, ◌≤◌, Some, IfOk, IfErr, OnOk, length, map, slice_get};
-ghost use Rattle.std.specs.Arc.{arc_value};
 ghost use Rattle.flame_spec.specs.Functions.{Place, functions};
 ghost use Rattle.flame_meaning.specs.Outcomes.{place_of};
+ghost use Rattle.flame_index.specs.FrozenBoards.{shared_messages};
 ghost use Rattle.flame_agent.specs.FunctionFits.{AreBoardsFor};
 ghost use Rattle.flame_world.specs.InputBoards.{boards_named};
 ghost use Rattle.flame_world.specs.WorldFits.{FitsModel};
@@ -27,9 +27,10 @@ use std::alloc::Global;
 use std::sync::Arc;
 
 impl<'a> Core<'a> {
-    /// The core with which the iteration of this number begins in this world, which fits the model, with this fuel for each
-    /// call of a function: functions wait, boards gather. The agents of a function are cut into this many pieces at most,
-    /// which is one at least. `NoMemory` comes where none is found, and where 32 bits cannot number the parts of the model.
+    /// The core with which the iteration of this number begins in this world, which fits the model, with this fuel for
+    /// each call of a function: functions wait, boards gather. The agents of a function are cut into this many pieces
+    /// at most, which is one at least. `NoMemory` comes where none is found, and where 32 bits cannot number the parts
+    /// of the model.
     pub fn new(
         alloc: Global,
         program: &'a Program,
@@ -67,8 +68,8 @@ impl<'a> Core<'a> {
         })
     }
 
-    /// The event comes. `Illegal` exactly where it is not legal; nothing changes then, nor where no memory was found. Shut and
-    /// Freeze take none.
+    /// The event comes. `Illegal` exactly where it is not legal; nothing changes then, nor where no memory was found.
+    /// Shut and Freeze take none.
     pub fn step(&mut self, event: Event) -> Result<(), StepFault>
         ensures ok { OnOk result (Happened event self.old self.new) }
         ensures err { IfErr result (Refused event self.old self.new) }
@@ -94,9 +95,9 @@ impl<'a> Core<'a> {
         Ok(())
     }
 
-    /// The piece of the share ran: its Agent events, which are legal one after another, come. `Illegal` exactly where the
-    /// share's piece is no piece of an open function, has other agents or an agent that ran, or where the share's setting is
-    /// not that of the core and the function; nothing changes then, nor where no memory was found.
+    /// The piece of the share ran: its Agent events, which are legal one after another, come. `Illegal` exactly where
+    /// the share's piece is no piece of an open function, has other agents or an agent that ran, or where the share's
+    /// setting is not that of the core and the function; nothing changes then, nor where no memory was found.
     pub fn absorb(&mut self, share: Share<'_>) -> Result<(), StepFault>
         ensures ok { OnOk result (Absorbed share.entry self.old self.new) }
         ensures err { IfErr result (NotAbsorbed share.entry self.old self.new) }
@@ -115,15 +116,15 @@ impl<'a> Core<'a> {
         Ok(())
     }
 
-    /// The boards of the inputs of this function, which has a piece, in their order, for who runs the piece elsewhere. They are
-    /// shared and not copied, as wide as the model declares, and the core stays as it is.
+    /// The boards of the inputs of this function, which has a piece, in their order, for who runs the piece elsewhere.
+    /// They are shared and not copied, as wide as the model declares, and the core stays as it is.
     pub fn boards(&mut self, function: u32) -> Result<Seq<Arc<Frozen>>, NoMemory>
         requires { 1 ≤ length (works_of (status_of self.old.core function)) }
-        ensures read { IfOk result (λ boards. map arc_value boards
+        ensures read { IfOk result (λ boards. map shared_messages boards
             ≡ boards_named (place_of self.old.source function) self.old.source.model self.old.core.field.boards) }
         ensures wide { IfOk result (λ boards. (place : Place)
             → slice_get (functions self.old.source.model) function ≡ Some place
-            → AreBoardsFor self.old.source.model place.function.inputs (map arc_value boards)) }
+            → AreBoardsFor self.old.source.model place.function.inputs (map shared_messages boards)) }
         ensures kept { self.new ≡ self.old }
     {
         let alloc = *self.progress.born.allocator();

@@ -1,8 +1,10 @@
 //! What a core tells.
 
-ghost use Rattle.std.specs.Prelude.{◌≡◌, ◌<◌, ◌↔◌, [], Some, None, false, IfOk, IsTrue, length, option_map, slice_get, slice_index_or, if◌then◌else◌};
+ghost use Rattle.std.specs.Prelude.{◌≡◌, ◌<◌, ◌↔◌, [], Some, None, false, IfOk, IsTrue, length, option_map, slice_get};
+ghost use Rattle.std.specs.Prelude.{slice_index_or, if◌then◌else◌};
 ghost use Rattle.flame_spec.specs.Columns.{width};
 ghost use Rattle.flame_spec.specs.Functions.{Place, functions};
+ghost use Rattle.flame_index.specs.FrozenBoards.{messages_on};
 ghost use Rattle.flame_world.specs.WorldFits.{AreWide};
 ghost use Rattle.flame_events.specs.CoreEnds.{is_complete, least_fault_rank};
 ghost use Rattle.flame_events.specs.CoreStates.{is_frozen, status_of, works_of};
@@ -57,7 +59,7 @@ impl<'a> Core<'a> {
 
     /// The board of this message, where it is frozen; none where it gathers, or is not there.
     pub fn frozen(&self, message: u32) -> Option<&Frozen>
-        ensures { option_map (λ board. board.now) result ≡ (if is_frozen self.now.core message
+        ensures { option_map (λ board. messages_on board.now) result ≡ (if is_frozen self.now.core message
             then Some (slice_index_or self.now.core.field.boards message []) else None) }
     {
         self.progress.frozen(message)
@@ -106,9 +108,9 @@ impl<'a> Core<'a> {
         own.same(&other)
     }
 
-    /// Whether all functions are shut that are wanted: those of a rank below the least of a function that is faulted, and all
-    /// where none is. Where some are not, there is a legal event of a wanted function, or one that freezes a board that one
-    /// inputs.
+    /// Whether all functions are shut that are wanted: those of a rank below the least of a function that is faulted,
+    /// and all where none is. Where some are not, there is a legal event of a wanted function, or one that freezes a
+    /// board that one inputs.
     pub fn complete(&self) -> bool
         ensures complete { result ≡ is_complete self.now.source.model self.now.core }
         ensures goes_on { result ≡ false → CanGoOn self.now.source.model self.now.core }

@@ -1,9 +1,9 @@
 -- The view of one board more.
 use Rattle.std.proofs.Common.{◌≡◌, ◌<◌, ◌≤◌, ◌∷◌, ◌++◌, [], List, map, length, Some, sym, ap, ◌∙◌, subst, arith}
 use Rattle.std.specs.Prelude.{slice_get}
-use Rattle.std.specs.Arc.{arc_value}
 use Rattle.std.proofs.lemmas.List.{length-map}
 use Rattle.flame_code.specs.Feeds.{Fed, not_begun}
+use Rattle.flame_index.specs.FrozenBoards.{messages_on, shared_messages}
 use Rattle.flame_program.proofs.Zips.{mapped-there}
 use Rattle.flame_world.specs.Settings.{boards_of}
 use Rattle.flame_agent.specs.InputViews.{IsViewFor}
@@ -20,14 +20,15 @@ loop-i-preserved c =
     let board = c.index-boards-i.result in
     let view = c.in_ok-view.view in
     let within : i < length items = omega arith in
-    let at : slice_get boards i ≡ Some (arc_value board) =
-    mapped-there arc_value items boards i board (ap (map arc_value) c.items-boards.ensures) within c.index-boards-i.is in
-    let is : IsViewFor source c.args.function i memory (arc_value board) view =
-    subst (λ n. IsViewFor source c.args.function n memory (arc_value board) view) c.in_ok-number.ensures
-    (subst (λ b. IsViewFor source c.args.function c.in_ok-number.field-0 memory b view) c.deref.ensures
+    let at : slice_get boards i ≡ Some (shared_messages board) =
+    mapped-there shared_messages items boards i board (ap (map shared_messages) c.items-boards.ensures)
+    within c.index-boards-i.is in
+    let is : IsViewFor source c.args.function i memory (shared_messages board) view =
+    subst (λ n. IsViewFor source c.args.function n memory (shared_messages board) view) c.in_ok-number.ensures
+    (subst (λ b. IsViewFor source c.args.function c.in_ok-number.field-0 memory (messages_on b) view) c.deref.ensures
     c.in_ok-view.ensures) in
     let more =
-    next-view source c.args.function memory boards c.requires.place c.requires.there i (arc_value board) view
+    next-view source c.args.function memory boards c.requires.place c.requires.there i (shared_messages board) view
     c.requires.boards at is in
     c.in_ok-push.ensures.ok ∙ ap (λ (fed : List Fed). fed ++ not_begun view ∷ []) c.loop-i.invariant ∙ sym more
 
@@ -35,7 +36,8 @@ pub returns : goal.returns
 returns c =
     let boards = boards_of c.args.setting.now in
     let size : length boards ≡ length c.items-boards.result.now =
-    ap length (ap (map arc_value) (sym c.items-boards.ensures)) ∙ length-map c.items-boards.result.now arc_value in
+    ap length (ap (map shared_messages) (sym c.items-boards.ensures))
+    ∙ length-map c.items-boards.result.now shared_messages in
     let past : length boards ≤ c.loop-i.i = omega (arith, size) in
     c.loop-i.invariant
     ∙ all-views c.args.program.now c.args.function c.args.memory.now boards c.requires.place c.requires.there c.loop-i.i

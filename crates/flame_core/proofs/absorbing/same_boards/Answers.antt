@@ -1,7 +1,7 @@
 use Rattle.std.proofs.Common.{◌≡◌, ◌∙◌, ◌<◌, [], List, arith, get_or, length, map, refl, sym}
 use Rattle.std.specs.Prelude.{ℕ, ℤ, slice_index_or}
-use Rattle.std.specs.Arc.{arc_value}
 use Rattle.std.proofs.lemmas.Bool.{false≢true}
+use Rattle.flame_index.specs.FrozenBoards.{shared_messages}
 use Rattle.flame_progress.specs.RunBoards.{board_bag}
 use Rattle.flame_progress.proofs.Changed.{map-at}
 use Rattle.flame_core.proofs.Openings.{other_default}
@@ -19,11 +19,12 @@ returns-then-not-same_board c =
     let within : i < length read = omega arith in
     let long : length read ≡ length messages = omega arith in
     let message = get_or messages i 0 in
-    let there = map-at board_bag [] boards message c.index-boards-messages.result (c.requires.known i 0 less) c.index-boards-messages.is in (
+    let there = map-at board_bag [] boards message c.index-boards-messages.result (c.requires.known i 0 less)
+    c.index-boards-messages.is in (
       λ none. absurd (false≢true none),
       λ same.
           c.if-not-same_board.ensures.1
-          (same_at arc_value g read messages i c.index-read-i.result message within long c.index-read-i.is
+          (same_at shared_messages g read messages i c.index-read-i.result message within long c.index-read-i.is
           (other_default messages i 0 message less) same ∙ there),
     )
 
@@ -38,6 +39,7 @@ loop-i-preserved c =
     let within : i < length read = omega arith in
     let long : length read ≡ length messages = omega arith in
     let message = get_or messages i 0 in
-    let there = map-at board_bag [] boards message c.index-boards-messages.result (c.requires.known i 0 less) c.index-boards-messages.is in
-    same_more arc_value g read messages i c.index-read-i.result message within long c.index-read-i.is
+    let there = map-at board_bag [] boards message c.index-boards-messages.result (c.requires.known i 0 less)
+    c.index-boards-messages.is in
+    same_more shared_messages g read messages i c.index-read-i.result message within long c.index-read-i.is
     (other_default messages i 0 message less) c.loop-i.invariant (c.if-not-same_board.ensures.0 refl ∙ sym there)

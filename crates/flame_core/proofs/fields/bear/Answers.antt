@@ -32,8 +32,8 @@ loop-birth-preserved c =
       within = λ k d less. all (suc k) d (omega (arith, less));
       joins =
           ap (joined (births_of rest))
-          (map-written bag_of (λ bag. merge bag (birth.row ∷ [])) c.loop-birth.born.items birth.agent c.index_mut.result.now
-          _ here c.index_mut.ensures.value c.in_ok-add.ensures)
+          (map-written bag_of (λ bag. merge bag (birth.row ∷ [])) c.loop-birth.born.items birth.agent
+          c.index_mut.result.now _ here c.index_mut.ensures.value c.in_ok-add.ensures.ok)
           ∙ sym (joined-birth birth rest (bags_of c.loop-birth.born))
           ∙ ap (λ (list : List Born). joined (births_of list) (bags_of c.loop-birth.born)) (sym steps.0)
           ∙ old.joins;

@@ -1,7 +1,7 @@
 use Rattle.std.proofs.Common.{◌≡◌, ◌∙◌, ◌<◌, ◌++◌, [], ◌∷◌, List, ap, sym, arith, length, map, take, slice_index_or, ℕ}
 use Rattle.std.specs.Prelude.{ℤ}
-use Rattle.std.specs.Arc.{arc_value}
 use Rattle.std.proofs.lemmas.List.{length-set, map-append, take_more}
+use Rattle.flame_index.specs.FrozenBoards.{shared_messages}
 use Rattle.flame_core.specs.RunFields.{board_bag}
 use Rattle.flame_progress.proofs.Changed.{map-written, map-at, changed-not}
 use Rattle.flame_core.proofs.fields.freeze.Goals as goal
@@ -15,8 +15,10 @@ loop-message-preserved c =
     let here : message < length boards =
     omega (arith, c.requires place 0 c.loop-message-test.true, old.count) in
     let at = c.index_mut.ensures.value in
-    let read : List ℕ → List (List (List ℤ)) = λ ms. map (λ m. slice_index_or (map board_bag c.args.boards.now.items) m []) ms in
-    let one : arc_value c.in_ok-freeze.field-0 ≡ slice_index_or (map board_bag c.args.boards.now.items) message [] =
+    let read : List ℕ → List (List (List ℤ)) =
+    λ ms. map (λ m. slice_index_or (map board_bag c.args.boards.now.items) m []) ms in
+    let one : shared_messages c.in_ok-freeze.field-0
+    ≡ slice_index_or (map board_bag c.args.boards.now.items) message [] =
     c.in_ok-freeze.ensures.read
     ∙ sym (map-at board_bag [] boards message c.index_mut.result.now here at)
     ∙ ap (λ bags. slice_index_or bags message []) old.kept in
@@ -27,9 +29,10 @@ loop-message-preserved c =
           ∙ changed-not message (map board_bag boards)
           ∙ old.kept;
       read =
-          ap (map arc_value) c.in_ok-push.ensures.items
-          ∙ map-append arc_value c.loop-message.frozen.items (c.in_ok-freeze.field-0 ∷ [])
+          ap (map shared_messages) c.in_ok-push.ensures.items
+          ∙ map-append shared_messages c.loop-message.frozen.items (c.in_ok-freeze.field-0 ∷ [])
           ∙ (λ i. old.read i ++ one i ∷ [])
-          ∙ sym (map-append (λ m. slice_index_or (map board_bag c.args.boards.now.items) m []) (take place c.args.messages.now) (message ∷ []))
+          ∙ sym (map-append (λ m. slice_index_or (map board_bag c.args.boards.now.items) m [])
+          (take place c.args.messages.now) (message ∷ []))
           ∙ ap read (sym (take_more c.args.messages.now place 0 c.loop-message-test.true));
     }

@@ -1,5 +1,5 @@
 use Rattle.std.proofs.Common.{◌≡◌, [], length, map, take, slice_index_or}
-use Rattle.std.specs.Arc.{arc_value}
+use Rattle.flame_index.specs.FrozenBoards.{shared_messages}
 use Rattle.flame_core.specs.RunFields.{board_bag}
 use Rattle.flame_core.proofs.fields.freeze.Given as goal
 
@@ -7,6 +7,6 @@ abbrev pub invariant-loop-message : goal.invariant-loop-message
 invariant-loop-message l = record {
   count : length l.boards.items ≡ length l.fn.boards.items;
   kept : map board_bag l.boards.items ≡ map board_bag l.fn.boards.items;
-  read : map arc_value l.frozen.items
+  read : map shared_messages l.frozen.items
       ≡ map (λ message. slice_index_or (map board_bag l.fn.boards.items) message []) (take l.message-index l.messages);
 }

@@ -6,4 +6,4 @@ use Rattle.flame_core.proofs.fields.joined_at.Goals as goal
 pub returns : goal.returns
 returns c =
     map-written bag_of (λ bag. merge bag c.args.rows.items) c.args.gatherings.now.items c.args.number
-    c.index_mut.result.now _ c.requires c.index_mut.ensures.value c.in_ok-add_all.ensures
+    c.index_mut.result.now _ c.requires c.index_mut.ensures.value c.in_ok-add_all.ensures.ok

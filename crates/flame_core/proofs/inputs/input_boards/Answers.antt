@@ -1,9 +1,9 @@
 -- The boards that a function reads, which are shared.
 use Rattle.std.proofs.Common.{◌≡◌, ◌∙◌, ◌<◌, true, Some, [], length, map, refl, sym, ap, subst}
 use Rattle.std.specs.Prelude.{slice_index_or}
-use Rattle.std.specs.Arc.{arc_value}
 use Rattle.std.specs.List.{All}
 use Rattle.flame_spec.specs.Functions.{Place}
+use Rattle.flame_index.specs.FrozenBoards.{shared_messages}
 use Rattle.flame_agent.specs.FunctionFits.{AreBoardsFor}
 use Rattle.flame_events.specs.CoreStates.{is_frozen}
 use Rattle.flame_progress.specs.RunBoards.{board_bag}
@@ -36,24 +36,27 @@ returns-clause-read c =
     let source = c.args.round.now.program.now in
     let boards = map board_bag c.args.progress.now.boards.items in
     let goes = c.route_of-route.ensures in
-    let read = ap (map arc_value) c.of.ensures ∙ c.in_ok-share.ensures.read
+    let read = ap (map shared_messages) c.of.ensures ∙ c.in_ok-share.ensures.read
     ∙ ap (map (λ message. slice_index_or boards message [])) c.items.ensures in
-    frozen-named source c.args.function goes.place c.route_of-route.result.now.inputs boards _ goes.there goes.routed.inputs read
+    frozen-named source c.args.function goes.place c.route_of-route.result.now.inputs boards _ goes.there
+    goes.routed.inputs read
 
 pub returns-clause-wide : goal.returns-clause-wide
 returns-clause-wide c = λ place at fits.
     let model = c.args.round.now.program.now.model in
     let boards = map board_bag c.args.progress.now.boards.items in
     let goes = c.route_of-route.ensures in
-    let read = ap (map arc_value) c.of.ensures ∙ c.in_ok-share.ensures.read
+    let read = ap (map shared_messages) c.of.ensures ∙ c.in_ok-share.ensures.read
     ∙ ap (map (λ message. slice_index_or boards message [])) c.items.ensures in
     let wide = frozen-wide model goes.place c.route_of-route.result.now.inputs boards _ fits goes.routed.inputs read in
-    subst (λ (p : Place). AreBoardsFor model p.function.inputs (map arc_value c.of.result)) (some_place _ _ (sym goes.there ∙ at)) wide
+    subst (λ (p : Place). AreBoardsFor model p.function.inputs (map shared_messages c.of.result))
+    (some_place _ _ (sym goes.there ∙ at)) wide
 
 pub returns-clause-kept : goal.returns-clause-kept
 returns-clause-kept c = λ counts tallies.
     let model = c.args.round.now.program.now.model in
     let progress = c.args.progress.now in
     let same = same_core progress c.share.new.boards c.in_ok-share.ensures.bags c.in_ok-share.ensures.frozen in
-    came model progress (record progress { boards = c.share.new.boards }) counts counts (core_of progress) same refl refl
+    came model progress (record progress { boards = c.share.new.boards }) counts counts (core_of progress)
+    same refl refl
     (λ g has. has) tallies tallies.counted

@@ -14,9 +14,11 @@ add-requires-clause-open c =
     let k = c.loop-edge.edge-index in
     let none : Edge = record { before = 0; after = 0 } in
     let edge = get_or items k none in
-    let same = c.items-edge-items.ensures ∙ c.in_ok-edges.ensures ∙ ap (λ (s : Source). edges_of s.model) c.source.ensures.same in
+    let same = c.items-edge-items.ensures ∙ c.in_ok-edges.ensures
+    ∙ ap (λ (s : Source). edges_of s.model) c.source.ensures.same in
     let less : k < length (edges_of model) = omega (arith, c.loop-edge-test.true, ap length same) in
-    let at : edge ≡ get_or (edges_of model) k edge = other_default items k none edge c.loop-edge-test.true ∙ ap (λ l. get_or l k edge) same in
+    let at : edge ≡ get_or (edges_of model) k edge = other_default items k none edge c.loop-edge-test.true
+    ∙ ap (λ l. get_or l k edge) same in
     c.loop-edge.invariant.which edge.before (edges_between model k edge less at).from
 
 pub add-requires-clause-within : goal.add-requires-clause-within
@@ -26,9 +28,11 @@ add-requires-clause-within c =
     let k = c.loop-edge.edge-index in
     let none : Edge = record { before = 0; after = 0 } in
     let edge = get_or items k none in
-    let same = c.items-edge-items.ensures ∙ c.in_ok-edges.ensures ∙ ap (λ (s : Source). edges_of s.model) c.source.ensures.same in
+    let same = c.items-edge-items.ensures ∙ c.in_ok-edges.ensures
+    ∙ ap (λ (s : Source). edges_of s.model) c.source.ensures.same in
     let less : k < length (edges_of model) = omega (arith, c.loop-edge-test.true, ap length same) in
-    let at : edge ≡ get_or (edges_of model) k edge = other_default items k none edge c.loop-edge-test.true ∙ ap (λ l. get_or l k edge) same in
+    let at : edge ≡ get_or (edges_of model) k edge = other_default items k none edge c.loop-edge-test.true
+    ∙ ap (λ l. get_or l k edge) same in
     omega (arith, (edges_between model k edge less at).to, c.loop-edge.invariant.many)
 
 pub loop-edge-preserved : goal.loop-edge-preserved
@@ -38,11 +42,13 @@ loop-edge-preserved c =
     let k = c.loop-edge.edge-index in
     let none : Edge = record { before = 0; after = 0 } in
     let edge = get_or items k none in
-    let same = c.items-edge-items.ensures ∙ c.in_ok-edges.ensures ∙ ap (λ (s : Source). edges_of s.model) c.source.ensures.same in
+    let same = c.items-edge-items.ensures ∙ c.in_ok-edges.ensures
+    ∙ ap (λ (s : Source). edges_of s.model) c.source.ensures.same in
     let less : k < length (edges_of model) = omega (arith, c.loop-edge-test.true, ap length same) in
     let here : edge ≡ get_or items k edge = other_default items k none edge c.loop-edge-test.true in
     edge_told (function_count model) items k edge c.loop-edge.waits c.add.new.self c.loop-edge-test.true here
-    (edges_between model k edge less (here ∙ ap (λ l. get_or l k edge) same)).from c.in_ok-add.ensures c.loop-edge.invariant
+    (edges_between model k edge less (here ∙ ap (λ l. get_or l k edge) same)).from c.in_ok-add.ensures.ok
+    c.loop-edge.invariant
 
 pub returns : goal.returns
 returns c =
@@ -50,7 +56,8 @@ returns c =
     let n = function_count model in
     let items = c.items-edge-items.result.now in
     let k = c.loop-edge.edge-index in
-    let same = c.items-edge-items.ensures ∙ c.in_ok-edges.ensures ∙ ap (λ (s : Source). edges_of s.model) c.source.ensures.same in
+    let same = c.items-edge-items.ensures ∙ c.in_ok-edges.ensures
+    ∙ ap (λ (s : Source). edges_of s.model) c.source.ensures.same in
     let all = take_all k items (omega arith) in
     tells_as n n (λ f g. is_edge (take k items) f g) (before model) (λ f. false) c.loop-edge.waits
     (λ f g less. ap (λ l. is_edge l f g) (all ∙ same) ∙ edges_tell model f g less)

@@ -3,12 +3,13 @@ use Rattle.std.specs.Prelude.{ℤ, List}
 use Rattle.flame_rows.specs.Order.{row_order}
 use Rattle.flame_rows.specs.Sorted.{IsAscending}
 use Rattle.flame_rows.proofs.BagLaws.{ascending-IsAscending}
+use Rattle.flame_index.specs.FrozenBoards.{messages_on}
 use Rattle.flame_core.specs.RunFields.{board_bag}
 use Rattle.flame_core.proofs.boards.Board.into_frozen.Goals as goal
 
 pub returns-in-Frozen : goal.returns-in-Frozen
 returns-in-Frozen c =
     let order =
-    subst (λ (rows : List (List ℤ)). IsAscending row_order rows) (c.bag.ensures ∙ c.deref.ensures)
+    subst (λ (rows : List (List ℤ)). IsAscending row_order rows) (c.bag.ensures ∙ ap messages_on c.deref.ensures)
     c.rows-in_order.ensures.order in
     sym (ascending-IsAscending _ order) ∙ sym (ap board_bag c.in-Frozen.is)

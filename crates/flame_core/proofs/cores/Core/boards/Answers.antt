@@ -1,9 +1,9 @@
 -- The boards of a function that has a piece are shared, and nothing changes.
 use Rattle.std.proofs.Common.{◌≡◌, ◌≤◌, Some, IfOk, length, map, sym, subst}
 use Rattle.std.specs.Prelude.{slice_get}
-use Rattle.std.specs.Arc.{arc_value}
 use Rattle.std.proofs.lemmas.Result.{IfOk-weaker}
 use Rattle.flame_spec.specs.Functions.{Place, functions}
+use Rattle.flame_index.specs.FrozenBoards.{shared_messages}
 use Rattle.flame_agent.specs.FunctionFits.{AreBoardsFor}
 use Rattle.flame_events.specs.CoreStates.{status_of, works_of}
 use Rattle.flame_progress.specs.RunCores.{core_of}
@@ -19,7 +19,8 @@ input_boards-requires-clause-fed c =
     let inside = c.self.inside in
     let seen = seen_of inside.program.now inside.world inside.iteration inside.fuel inside.pieces inside.progress in
     let reached = c.self.invariant.reached in
-    fed_of inside.program.now.model inside.pieces inside.progress (reached_fits seen reached) (reached_in_order seen reached) c.args.function
+    fed_of inside.program.now.model inside.pieces inside.progress (reached_fits seen reached)
+    (reached_in_order seen reached) c.args.function
 
 pub input_boards-requires-clause-began : goal.input_boards-requires-clause-began
 input_boards-requires-clause-began c =
@@ -34,6 +35,6 @@ returns-clause-wide c =
     let fits = (reached_fits seen c.self.invariant.reached).field.boards in
     let P : Seen → Type 0 = λ s. IfOk c.input_boards.result (λ boards. (place : Place)
     → slice_get (functions s.source.model) c.args.function ≡ Some place
-    → AreBoardsFor s.source.model place.function.inputs (map arc_value boards)) in
+    → AreBoardsFor s.source.model place.function.inputs (map shared_messages boards)) in
     subst P c.self.view_is
     (IfOk-weaker c.input_boards.result _ _ (λ boards wide place at. wide place at fits) c.input_boards.ensures.wide)
