@@ -55,7 +55,7 @@ fn refusal(alloc: Global, fail: &Fail<Shape>) -> Result<String, AllocError> {
 }
 
 /// The model that a value stands for, or why there is none.
-fn found(alloc: Global, value: &Value) -> Result<Found, AllocError>
+fn model_found(alloc: Global, value: &Value) -> Result<Found, AllocError>
     ensures { IfOk result IsFormed }
 {
     match formed(alloc, value) {
@@ -69,7 +69,7 @@ pub fn model_in(alloc: Global, case: &Case) -> Result<Found, AllocError>
     ensures { IfOk result IsFormed }
 {
     match Value::from_str(alloc, case.text("model")) {
-        Ok(value) => found(alloc, &value),
+        Ok(value) => model_found(alloc, &value),
         Err(_) => Ok(Found::Told(String::from_str(alloc, "not JSON\n")?)),
     }
 }
