@@ -7,11 +7,10 @@ ghost use Rattle.flame_spec.specs.WellFormed.{is_well_formed};
 ghost use Rattle.flame_case_models.specs.FoundModels.{IsFormed};
 
 use flame_case_files::Case;
-use flame_ops::Op;
 use flame_rows::{Fail, Text};
 use flame_spec::{
-    AgentType, Condition, DataType, Function, Input, MessageType, Model, Operand, Sort, TimeUnit,
-    Variable, Wide, WideAgent, WideMessage, WideVariable,
+    AgentType, Condition, Function, Input, Model, Operand, TimeUnit, Variable, Wide, WideAgent,
+    WideVariable,
 };
 use flame_xmml::laws::well_formed;
 use flame_xmml::{Shape, model_of, wide_of};
@@ -27,14 +26,13 @@ pub enum Found {
     Told(String),
 }
 
-/// The fault of a shape.
-fn shape_line(alloc: Global, shape: &Shape) -> Result<String, AllocError> {
+fn print_shape(out: &mut String, shape: &Shape) -> Result<(), AllocError> {
     let want = shape.want.name();
     let path = shape.path.as_str();
     if path.is_empty() {
-        return format!(in alloc; "wanted {want} at the root\n");
+        return writeln!(out, "wanted {want} at the root");
     }
-    format!(in alloc; "wanted {want} at {path}\n")
+    writeln!(out, "wanted {want} at {path}")
 }
 
 /// The model that a value stands for.
@@ -46,32 +44,21 @@ fn formed(alloc: Global, value: &Value) -> Result<Model, Fail<Shape>>
     Ok(model)
 }
 
-/// Why a value has no meaning.
-fn refusal(alloc: Global, fail: &Fail<Shape>) -> Result<String, AllocError> {
-    match fail {
-        Fail::Fault(shape) => shape_line(alloc, shape),
-        Fail::NoMemory => String::from_str(alloc, "no memory\n"),
-    }
-}
-
-/// The model that a value stands for, or why there is none.
-fn model_found(alloc: Global, value: &Value) -> Result<Found, AllocError>
-    ensures { IfOk result IsFormed }
-{
-    match formed(alloc, value) {
-        Ok(model) => Ok(Found::Model(model)),
-        Err(fail) => Ok(Found::Told(refusal(alloc, &fail)?)),
-    }
-}
-
 /// The model of a case, which is well formed.
 pub fn model_in(alloc: Global, case: &Case) -> Result<Found, AllocError>
     ensures { IfOk result IsFormed }
 {
-    match Value::from_str(alloc, case.text("model")) {
-        Ok(value) => model_found(alloc, &value),
-        Err(_) => Ok(Found::Told(String::from_str(alloc, "not JSON\n")?)),
+    let mut out = String::new(alloc);
+    let Ok(value) = Value::from_str(alloc, case.text("model")) else {
+        writeln!(out, "not JSON")?;
+        return Ok(Found::Told(out));
+    };
+    match formed(alloc, &value) {
+        Ok(model) => return Ok(Found::Model(model)),
+        Err(Fail::Fault(shape)) => print_shape(&mut out, &shape)?,
+        Err(Fail::NoMemory) => writeln!(out, "no memory")?,
     }
+    Ok(Found::Told(out))
 }
 
 fn print_operand(out: &mut String, operand: &Operand) -> Result<(), AllocError> {
@@ -82,56 +69,44 @@ fn print_operand(out: &mut String, operand: &Operand) -> Result<(), AllocError> 
     }
 }
 
-/// Two numbers compared: `(Eq a.x 1)`.
-fn print_compared(out: &mut String, op: Op, a: &Operand, b: &Operand) -> Result<(), AllocError> {
-    write!(out, "({op:?} ")?;
-    print_operand(out, a)?;
-    out.push_str(" ")?;
-    print_operand(out, b)?;
-    out.push_str(")")
-}
-
-/// A time: `(Time day 0 1)`.
-fn print_time(
-    out: &mut String,
-    unit: &Text,
-    phase: &Operand,
-    duration: i32,
-) -> Result<(), AllocError> {
-    write!(out, "(Time {unit} ")?;
-    print_operand(out, phase)?;
-    write!(out, " {duration})")
-}
-
-/// Two conditions behind their operator.
-#[cycle(condition)]
-fn print_both(
-    out: &mut String,
-    word: &str,
-    left: &Condition,
-    right: &Condition,
-) -> Result<(), AllocError> {
-    write!(out, "({word} ")?;
-    print_condition(out, left)?;
-    out.push_str(" ")?;
-    print_condition(out, right)?;
-    out.push_str(")")
+/// The operator of a condition.
+fn word_of(condition: &Condition) -> &'static str {
+    match condition {
+        Condition::Compare(_, _, _) => "Compare",
+        Condition::And(_, _) => "And",
+        Condition::Or(_, _) => "Or",
+        Condition::Not(_) => "Not",
+        Condition::Time(_, _, _) => "Time",
+    }
 }
 
 /// A condition, with its operator first: `(And (Eq a.x 1) (Not (Time day 0 1)))`.
-#[cycle(condition)]
 fn print_condition(out: &mut String, condition: &Condition) -> Result<(), AllocError> {
+    let word = word_of(condition);
     match condition {
-        Condition::Compare(op, a, b) => print_compared(out, *op, a, b),
-        Condition::And(left, right) => print_both(out, "And", left, right),
-        Condition::Or(left, right) => print_both(out, "Or", left, right),
-        Condition::Not(part) => {
-            out.push_str("(Not ")?;
-            print_condition(out, part)?;
-            out.push_str(")")
+        Condition::Compare(op, a, b) => {
+            write!(out, "({op:?} ")?;
+            print_operand(out, a)?;
+            write!(out, " ")?;
+            print_operand(out, b)?;
         }
-        Condition::Time(unit, phase, duration) => print_time(out, unit, phase, *duration),
+        Condition::And(left, right) | Condition::Or(left, right) => {
+            write!(out, "({word} ")?;
+            print_condition(out, left)?;
+            write!(out, " ")?;
+            print_condition(out, right)?;
+        }
+        Condition::Not(part) => {
+            write!(out, "({word} ")?;
+            print_condition(out, part)?;
+        }
+        Condition::Time(unit, phase, duration) => {
+            write!(out, "({word} {unit} ")?;
+            print_operand(out, phase)?;
+            write!(out, " {duration}")?;
+        }
     }
+    write!(out, ")")
 }
 
 fn print_titled(
@@ -157,26 +132,15 @@ fn print_variables(out: &mut String, variables: &[Variable]) -> Result<(), Alloc
     Ok(())
 }
 
-fn print_sort(out: &mut String, sort: &Option<Sort>) -> Result<(), AllocError> {
-    if let Some(sort) = sort {
-        let order = if sort.descending { "descend" } else { "ascend" };
-        writeln!(out, "sort {} {order}", sort.key)?;
-    }
-    Ok(())
-}
-
 fn print_input(out: &mut String, input: &Input) -> Result<(), AllocError> {
     writeln!(out, "input {}", input.message)?;
     if input.random {
         writeln!(out, "random")?;
     }
     print_titled(out, "filter", input.filter.as_ref())?;
-    print_sort(out, &input.sort)
-}
-
-fn print_inputs(out: &mut String, inputs: &[Input]) -> Result<(), AllocError> {
-    for input in inputs {
-        print_input(out, input)?;
+    if let Some(sort) = &input.sort {
+        let order = if sort.descending { "descend" } else { "ascend" };
+        writeln!(out, "sort {} {order}", sort.key)?;
     }
     Ok(())
 }
@@ -186,34 +150,17 @@ fn print_function(out: &mut String, function: &Function) -> Result<(), AllocErro
     writeln!(out, "current {}", function.current)?;
     writeln!(out, "next {}", function.next)?;
     print_titled(out, "condition", function.condition.as_ref())?;
-    print_inputs(out, function.inputs.items())?;
-    print_names(out, "output", function.outputs.items())
-}
-
-fn print_functions(out: &mut String, functions: &[Function]) -> Result<(), AllocError> {
-    for function in functions {
-        print_function(out, function)?;
+    for input in function.inputs.items() {
+        print_input(out, input)?;
     }
-    Ok(())
+    print_names(out, "output", function.outputs.items())
 }
 
 fn print_agent(out: &mut String, agent: &AgentType) -> Result<(), AllocError> {
     writeln!(out, "agent {}", agent.name)?;
     print_variables(out, agent.memory.items())?;
-    print_functions(out, agent.functions.items())
-}
-
-fn print_agents(out: &mut String, agents: &[AgentType]) -> Result<(), AllocError> {
-    for agent in agents {
-        print_agent(out, agent)?;
-    }
-    Ok(())
-}
-
-fn print_messages(out: &mut String, messages: &[MessageType]) -> Result<(), AllocError> {
-    for message in messages {
-        writeln!(out, "message {}", message.name)?;
-        print_variables(out, message.variables.items())?;
+    for function in agent.functions.items() {
+        print_function(out, function)?;
     }
     Ok(())
 }
@@ -236,8 +183,14 @@ pub(crate) fn print_model(out: &mut String, model: &Model) -> Result<(), AllocEr
     print_names(out, "constant", model.constants.items())?;
     print_names(out, "file", model.files.items())?;
     print_units(out, model.units.items())?;
-    print_messages(out, model.messages.items())?;
-    print_agents(out, model.agents.items())
+    for message in model.messages.items() {
+        writeln!(out, "message {}", message.name)?;
+        print_variables(out, message.variables.items())?;
+    }
+    for agent in model.agents.items() {
+        print_agent(out, agent)?;
+    }
+    Ok(())
 }
 
 /// The answer to a case of the kind `model`.
@@ -276,28 +229,8 @@ fn print_typed(out: &mut String, variables: &[WideVariable]) -> Result<(), Alloc
 fn print_wide_agent(out: &mut String, agent: &WideAgent) -> Result<(), AllocError> {
     writeln!(out, "agent {}", agent.name)?;
     print_typed(out, agent.memory.items())?;
-    print_functions(out, agent.functions.items())
-}
-
-fn print_wide_agents(out: &mut String, agents: &[WideAgent]) -> Result<(), AllocError> {
-    for agent in agents {
-        print_wide_agent(out, agent)?;
-    }
-    Ok(())
-}
-
-fn print_types(out: &mut String, types: &[DataType]) -> Result<(), AllocError> {
-    for kind in types {
-        writeln!(out, "type {}", kind.name)?;
-        print_typed(out, kind.variables.items())?;
-    }
-    Ok(())
-}
-
-fn print_wide_messages(out: &mut String, messages: &[WideMessage]) -> Result<(), AllocError> {
-    for message in messages {
-        writeln!(out, "message {}", message.name)?;
-        print_typed(out, message.variables.items())?;
+    for function in agent.functions.items() {
+        print_function(out, function)?;
     }
     Ok(())
 }
@@ -306,9 +239,17 @@ fn print_wide(out: &mut String, wide: &Wide) -> Result<(), AllocError> {
     print_names(out, "constant", wide.constants.items())?;
     print_names(out, "file", wide.files.items())?;
     print_units(out, wide.units.items())?;
-    print_types(out, wide.types.items())?;
-    print_wide_messages(out, wide.messages.items())?;
-    print_wide_agents(out, wide.agents.items())?;
+    for kind in wide.types.items() {
+        writeln!(out, "type {}", kind.name)?;
+        print_typed(out, kind.variables.items())?;
+    }
+    for message in wide.messages.items() {
+        writeln!(out, "message {}", message.name)?;
+        print_typed(out, message.variables.items())?;
+    }
+    for agent in wide.agents.items() {
+        print_wide_agent(out, agent)?;
+    }
     print_names(out, "nested", wide.nested.items())
 }
 
@@ -321,20 +262,19 @@ pub(crate) enum FoundWide {
     Told(String),
 }
 
-/// The model file that a value stands for, or why there is none.
-fn wide_found(alloc: Global, value: &Value) -> Result<FoundWide, AllocError> {
-    match wide_of(alloc, value) {
-        Ok(wide) => Ok(FoundWide::Wide(wide)),
-        Err(fail) => Ok(FoundWide::Told(refusal(alloc, &fail)?)),
-    }
-}
-
 /// The model file of a text.
 pub(crate) fn wide_from(alloc: Global, text: &str) -> Result<FoundWide, AllocError> {
-    match Value::from_str(alloc, text) {
-        Ok(value) => wide_found(alloc, &value),
-        Err(_) => Ok(FoundWide::Told(String::from_str(alloc, "not JSON\n")?)),
+    let mut out = String::new(alloc);
+    let Ok(value) = Value::from_str(alloc, text) else {
+        writeln!(out, "not JSON")?;
+        return Ok(FoundWide::Told(out));
+    };
+    match wide_of(alloc, &value) {
+        Ok(wide) => return Ok(FoundWide::Wide(wide)),
+        Err(Fail::Fault(shape)) => print_shape(&mut out, &shape)?,
+        Err(Fail::NoMemory) => writeln!(out, "no memory")?,
     }
+    Ok(FoundWide::Told(out))
 }
 
 /// The answer to a case of the kind `wide`.

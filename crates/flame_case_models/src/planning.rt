@@ -2,13 +2,8 @@
 //! the order, the layers and the start states, as `plan [0 1] [0 1] [start]`, or the fault, as `cycle [0 1]` or
 //! `starts 0 [a b]`. Functions and agent types are numbered from 0.
 
-ghost use Rattle.std.specs.Prelude.{◌<◌, ◌^◌, IsTrue, length};
-ghost use Rattle.flame_spec.specs.Counted.{is_numbered};
-ghost use Rattle.flame_spec.specs.Functions.{functions};
-
 use crate::modeling::{Found, model_in};
 use flame_case_files::Case;
-use flame_depend::plans::Plan;
 use flame_depend::{DependFault, Edge, edges, plan};
 use flame_rows::Fail;
 use flame_spec::Model;
@@ -47,35 +42,25 @@ fn print_fault(out: &mut String, fault: &DependFault) -> Result<(), AllocError> 
     writeln!(out)
 }
 
-fn print_plan(out: &mut String, plan: &Plan) -> Result<(), AllocError> {
-    write!(out, "plan")?;
-    print_list(out, plan.order.items())?;
-    print_list(out, plan.layers.items())?;
-    print_list(out, plan.starts.items())?;
-    writeln!(out)
-}
-
-/// The plan of a model, or its fault.
-fn print_planned(alloc: Global, out: &mut String, model: &Model) -> Result<(), AllocError>
-    requires functions { IsTrue (is_numbered (functions model.now)) }
-    requires agents { length model.now.agents < 2 ^ 32 }
-{
-    match plan(alloc, model) {
-        Ok(plan) => print_plan(out, &plan),
-        Err(Fail::Fault(fault)) => print_fault(out, &fault),
-        Err(Fail::NoMemory) => writeln!(out, "no memory"),
-    }
-}
-
 /// The edges and the plan of a model.
-fn print_all(alloc: Global, out: &mut String, model: &Model) -> Result<(), AllocError> {
+fn print_plan(alloc: Global, out: &mut String, model: &Model) -> Result<(), AllocError> {
     if !model.has_few_functions() || model.agents.len() >= 4294967296 {
         return writeln!(out, "too large");
     }
     if let Ok(edges) = edges(alloc, model) {
         print_edges(out, edges.items())?;
     }
-    print_planned(alloc, out, model)
+    match plan(alloc, model) {
+        Ok(plan) => {
+            write!(out, "plan")?;
+            print_list(out, plan.order.items())?;
+            print_list(out, plan.layers.items())?;
+            print_list(out, plan.starts.items())?;
+            writeln!(out)
+        }
+        Err(Fail::Fault(fault)) => print_fault(out, &fault),
+        Err(Fail::NoMemory) => writeln!(out, "no memory"),
+    }
 }
 
 /// The answer to a case of the kind `plan`: the edges, and the plan or the fault.
@@ -84,7 +69,7 @@ pub fn answer_plan(alloc: Global, case: &Case) -> Result<String, AllocError> {
         Found::Told(told) => Ok(told),
         Found::Model(model) => {
             let mut out = String::new(alloc);
-            print_all(alloc, &mut out, &model)?;
+            print_plan(alloc, &mut out, &model)?;
             Ok(out)
         }
     }

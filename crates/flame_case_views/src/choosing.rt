@@ -119,42 +119,6 @@ fn print_bag(out: &mut String, bag: &Bag) -> Result<(), AllocError> {
     Ok(())
 }
 
-/// Those who chose a place.
-fn takers_of(pool: &Bag, choices: &Seq<u32>, place: u32) -> Result<Bag, NoMemory>
-    requires { length choices.now ≡ length pool.now }
-{
-    let (takers, _) = take(pool.copy()?, choices, place)?;
-    Ok(takers)
-}
-
-/// Those who chose each of so many places, one after another.
-fn parted(alloc: Global, pool: &Bag, choices: &Seq<u32>, places: u32) -> Result<Vec<Bag>, NoMemory>
-    requires { length choices.now ≡ length pool.now }
-{
-    let mut pools = Vec::new(alloc);
-    for place in 0..places {
-        pools.push(takers_of(pool, choices, place)?)?;
-    }
-    Ok(pools)
-}
-
-/// The pools, each behind its place.
-fn print_pools(out: &mut String, pools: &[Bag]) -> Result<(), AllocError> {
-    for (place, pool) in pools.iter().enumerate() {
-        writeln!(out, "place {place}")?;
-        print_bag(out, pool)?;
-    }
-    Ok(())
-}
-
-/// All agents together.
-fn print_together(out: &mut String, pools: Vec<Bag>, resting: Bag) -> Result<(), NoMemory> {
-    let all = turn_over(Seq::of(pools), resting)?;
-    writeln!(out, "all")?;
-    print_bag(out, &all)?;
-    Ok(())
-}
-
 /// Those who chose each place up to the last, and all together again.
 fn print_parts(
     alloc: Global,
@@ -165,21 +129,20 @@ fn print_parts(
 ) -> Result<(), NoMemory>
     requires { length choices.now ≡ length pool.now }
 {
-    let pools = parted(alloc, pool, choices, places)?;
-    print_pools(out, pools.as_slice())?;
-    print_together(out, pools, takers_of(pool, choices, places)?)
-}
-
-/// What each agent chooses, and what it chooses by threads where that is something else.
-fn print_chosen(out: &mut String, choices: &Seq<u32>, others: &Seq<u32>) -> Result<(), AllocError> {
-    print_numbers(out, "choices", choices.items())?;
-    if choices != others {
-        print_numbers(out, "by threads", others.items())?;
+    let mut pools = Vec::new(alloc);
+    for place in 0..places {
+        let (takers, _) = take(pool.copy()?, choices, place)?;
+        writeln!(out, "place {place}")?;
+        print_bag(out, &takers)?;
+        pools.push(takers)?;
     }
+    let (resting, _) = take(pool.copy()?, choices, places)?;
+    writeln!(out, "all")?;
+    print_bag(out, &turn_over(Seq::of(pools), resting)?)?;
     Ok(())
 }
 
-/// What each agent chooses, and the pools that come of it.
+/// What each agent chooses.
 fn print_choices(
     rt: &(impl Threads + Sync),
     alloc: Global,
@@ -194,26 +157,11 @@ fn print_choices(
 {
     let choices = choose_here(alloc, pool, conditions, functions, iteration)?;
     let others = choose(rt, alloc, pool, conditions, functions, iteration)?;
-    print_chosen(out, &choices, &others)?;
-    print_parts(alloc, out, pool, &choices, functions.len() as u32)
-}
-
-/// The choices of the agents of a pool by these conditions, where the functions have some.
-fn print_known(
-    rt: &(impl Threads + Sync),
-    alloc: Global,
-    out: &mut String,
-    conditions: &Seq<Option<Cond>>,
-    functions: &[u32],
-    case: &Case,
-) -> Result<(), NoMemory> {
-    if !are_known(functions, conditions) {
-        writeln!(out, "too large")?;
-        return Ok(());
+    print_numbers(out, "choices", choices.items())?;
+    if choices != others {
+        print_numbers(out, "by threads", others.items())?;
     }
-    let pool = pool_in(alloc, case.text("pool"))?;
-    let iteration = given(case).iteration;
-    print_choices(rt, alloc, out, &pool, conditions, functions, iteration)
+    print_parts(alloc, out, pool, &choices, functions.len() as u32)
 }
 
 fn print_all(
@@ -223,26 +171,27 @@ fn print_all(
     model: &Model,
     case: &Case,
 ) -> Result<(), NoMemory> {
-    let functions = functions_out(alloc, model, &given(case))?;
+    let given = given(case);
+    let functions = functions_out(alloc, model, &given)?;
     print_numbers(out, "functions", functions.as_slice())?;
-    match conditions_of(alloc, model)? {
-        Some(conditions) => print_known(rt, alloc, out, &conditions, functions.as_slice(), case),
-        None => Ok(writeln!(out, "cannot be read")?),
+    let Some(conditions) = conditions_of(alloc, model)? else {
+        writeln!(out, "cannot be read")?;
+        return Ok(());
+    };
+    if !are_known(functions.as_slice(), &conditions) {
+        writeln!(out, "too large")?;
+        return Ok(());
     }
-}
-
-/// The choices of the case's agents in this model.
-fn chosen(
-    rt: &(impl Threads + Sync),
-    alloc: Global,
-    model: &Model,
-    case: &Case,
-) -> Result<String, AllocError> {
-    let mut out = String::new(alloc);
-    match print_all(rt, alloc, &mut out, model, case) {
-        Ok(()) => Ok(out),
-        Err(_) => Err(AllocError),
-    }
+    let pool = pool_in(alloc, case.text("pool"))?;
+    print_choices(
+        rt,
+        alloc,
+        out,
+        &pool,
+        &conditions,
+        functions.as_slice(),
+        given.iteration,
+    )
 }
 
 /// The answer to a case of the kind `choice`: what each agent chooses, and the pools that come of it.
@@ -251,8 +200,13 @@ pub fn answer_choices(
     alloc: Global,
     case: &Case,
 ) -> Result<String, AllocError> {
-    match model_in(alloc, case)? {
-        Found::Told(told) => Ok(told),
-        Found::Model(model) => chosen(rt, alloc, &model, case),
+    let model = match model_in(alloc, case)? {
+        Found::Told(told) => return Ok(told),
+        Found::Model(model) => model,
+    };
+    let mut out = String::new(alloc);
+    if print_all(rt, alloc, &mut out, &model, case).is_err() {
+        return Err(AllocError);
     }
+    Ok(out)
 }

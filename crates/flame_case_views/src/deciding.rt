@@ -156,26 +156,18 @@ fn print_all(
     Ok(())
 }
 
-/// What the conditions and filters are asked about in a case.
-fn moment_in(alloc: Global, case: &Case) -> Result<Moment, AllocError> {
-    Ok(Moment {
+/// The answer to a case of the kind `condition`: what each condition, filter and key gives.
+pub fn answer_conditions(alloc: Global, case: &Case) -> Result<String, AllocError> {
+    let model = match model_in(alloc, case)? {
+        Found::Told(told) => return Ok(told),
+        Found::Model(model) => model,
+    };
+    let moment = Moment {
         memory: row_in(alloc, case.text("memory"))?,
         row: row_in(alloc, case.text("row"))?,
         iteration: case.text("iteration").trim().parse::<i32>().unwrap_or(0),
-    })
-}
-
-/// What the conditions, filters and keys of the model give.
-fn decided(alloc: Global, model: &Model, moment: &Moment) -> Result<String, AllocError> {
+    };
     let mut out = String::new(alloc);
-    print_all(alloc, &mut out, model, moment)?;
+    print_all(alloc, &mut out, &model, &moment)?;
     Ok(out)
-}
-
-/// The answer to a case of the kind `condition`: what each condition, filter and key gives.
-pub fn answer_conditions(alloc: Global, case: &Case) -> Result<String, AllocError> {
-    match model_in(alloc, case)? {
-        Found::Told(told) => Ok(told),
-        Found::Model(model) => decided(alloc, &model, &moment_in(alloc, case)?),
-    }
 }

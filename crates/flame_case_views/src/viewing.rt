@@ -106,28 +106,18 @@ fn board_in(alloc: Global, text: &str) -> Result<Frozen, AllocError> {
     }
 }
 
-/// What is viewed in a case of this model.
-fn scene_of(alloc: Global, case: &Case, model: Model) -> Result<Scene, AllocError> {
-    let memory = row_in(alloc, case.text("memory"))?;
-    let board = board_in(alloc, case.text("board"))?;
-    Ok(Scene {
-        model,
-        memory,
-        board,
-    })
-}
-
-/// The rows of the view of each input.
-fn viewed(alloc: Global, scene: &Scene) -> Result<String, AllocError> {
-    let mut out = String::new(alloc);
-    print_all(alloc, &mut out, scene)?;
-    Ok(out)
-}
-
 /// The answer to a case of the kind `view`: the rows of each input's view.
 pub fn answer_views(alloc: Global, case: &Case) -> Result<String, AllocError> {
-    match model_in(alloc, case)? {
-        Found::Told(told) => Ok(told),
-        Found::Model(model) => viewed(alloc, &scene_of(alloc, case, model)?),
-    }
+    let model = match model_in(alloc, case)? {
+        Found::Told(told) => return Ok(told),
+        Found::Model(model) => model,
+    };
+    let scene = Scene {
+        model,
+        memory: row_in(alloc, case.text("memory"))?,
+        board: board_in(alloc, case.text("board"))?,
+    };
+    let mut out = String::new(alloc);
+    print_all(alloc, &mut out, &scene)?;
+    Ok(out)
 }
