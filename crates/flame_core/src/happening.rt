@@ -6,6 +6,7 @@ ghost use Rattle.flame_meaning.specs.Outcomes.{outcome, place_of};
 ghost use Rattle.flame_index.specs.FrozenBoards.{shared_messages};
 ghost use Rattle.flame_agent.specs.FunctionFits.{FitsFunction};
 ghost use Rattle.flame_world.specs.InputBoards.{boards_named};
+ghost use Rattle.flame_world.specs.Meaning.{outcome_under};
 ghost use Rattle.flame_world.specs.Settings.{boards_of};
 ghost use Rattle.flame_events.specs.declared.events.Event.TheVariants as kind;
 ghost use Rattle.flame_events.specs.EventSteps.{after};
@@ -100,6 +101,23 @@ fn faulted(
     })
 }
 
+/// What the function does for the agent of this memory, which is run alone.
+fn run_alone(
+    alloc: Global,
+    program: &Program,
+    setting: &Setting<'_>,
+    function: u32,
+    memory: &Row,
+) -> Result<Outcome, NoMemory>
+    requires source { setting.now.source.now ≡ program.now }
+    requires fits { FitsFunction program.now.model function setting.now memory.now }
+    ensures { IfOk result (λ o. o ≡ outcome_under setting.now function memory.now) }
+{
+    let mut room = Room::new(alloc);
+    let outcome = run_agent(alloc, &mut room, program, setting, function, memory)?;
+    Ok(outcome)
+}
+
 /// What the agent of this memory leaves that runs the function, where the setting has those boards that the function's
 /// inputs name.
 fn left_under(
@@ -116,8 +134,7 @@ fn left_under(
         → IsLeft setting.now.iteration function memory.now (outcome program.now function memory.now all
         setting.now.constants.now setting.now.iteration setting.now.fuel) leaving) }
 {
-    let mut room = Room::new(alloc);
-    match run_agent(alloc, &mut room, program, setting, function, memory)? {
+    match run_alone(alloc, program, setting, function, memory)? {
         Outcome::Ended(effect) => ended(alloc, effect),
         Outcome::Faulted(fault) => faulted(alloc, setting, function, memory, fault),
     }

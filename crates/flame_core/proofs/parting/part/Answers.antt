@@ -29,8 +29,8 @@ returns-clause-takers c =
     let own = c.requires.place in
     let fits : SFits w32 c.args.round.now.iteration = search rules in
     let chose = rw (to_z-of_z w32 c.args.round.now.iteration fits) at c.in_ok-choices.ensures in
-    let took = (chosen-takers model c.conditions-conditions.result.now c.args.function own c.args.route.now.turn c.args.round.now.iteration
-    c.args.pool c.out_of-functions.result.now c.in_ok-choices.choices c.conditions-conditions.ensures c.requires.turn
+    let took = (chosen-takers model c.conditions-conditions.result.now c.args.function own c.args.route.now.choice c.args.round.now.iteration
+    c.args.pool c.out_of-functions.result.now c.in_ok-choices.choices c.conditions-conditions.ensures c.requires.choice
     (c.out_of-functions.ensures own c.requires.there) chose).0 in
     IfOk-weaker c.take.result _ _
     (λ parts is place there.
@@ -44,8 +44,8 @@ returns-clause-others c =
     let own = c.requires.place in
     let fits : SFits w32 c.args.round.now.iteration = search rules in
     let chose = rw (to_z-of_z w32 c.args.round.now.iteration fits) at c.in_ok-choices.ensures in
-    let left = (chosen-takers model c.conditions-conditions.result.now c.args.function own c.args.route.now.turn c.args.round.now.iteration
-    c.args.pool c.out_of-functions.result.now c.in_ok-choices.choices c.conditions-conditions.ensures c.requires.turn
+    let left = (chosen-takers model c.conditions-conditions.result.now c.args.function own c.args.route.now.choice c.args.round.now.iteration
+    c.args.pool c.out_of-functions.result.now c.in_ok-choices.choices c.conditions-conditions.ensures c.requires.choice
     (c.out_of-functions.ensures own c.requires.there) chose).1 in
     IfOk-weaker c.take.result _ _
     (λ parts is place there.
