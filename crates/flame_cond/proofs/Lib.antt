@@ -1,3 +1,4 @@
 pub mod PeriodLemmas
 pub mod FormTruths
 pub mod Lengths
+pub mod EqualTruths

@@ -2,8 +2,11 @@
 
 ghost use Rattle.std.specs.Prelude.{◌≡◌, IfOk};
 ghost use Rattle.flame_spec.specs.Conditions.{IsReadable, input_scope};
+ghost use Rattle.flame_cond.specs.TestForms.{form_of};
 ghost use Rattle.flame_cond.specs.Said.{passes, IsWrittenFilter, SaysFilter};
+ghost use Rattle.flame_cond.specs.Equalities.{first_equality, is_one_equality, reads_memory};
 
+use crate::equalities::Equality;
 use crate::forms::Test;
 use crate::reading::test;
 use flame_rows::{NoMemory, Row};
@@ -56,5 +59,29 @@ impl Filter {
         ensures { result ≡ passes self.now memory.now row.now }
     {
         self.test.answer(memory.values(), row.values(), 0)
+    }
+    /// The first equality, from the left, between a column of the row and a number or a column of the memory that the
+    /// filter is or reaches through AND alone; None where there is none. A row that passes has that number there:
+    /// `laws::passing_is_equal`.
+    pub fn equality(&self) -> Option<Equality>
+        ensures { result ≡ first_equality (form_of self.now) }
+    {
+        self.test.first_equality()
+    }
+
+    /// Whether the filter is one such equality and nothing else, so that a row passes exactly where it has that number:
+    /// `laws::one_equality_is_all`.
+    pub fn is_equality(&self) -> bool
+        ensures { result ≡ is_one_equality (form_of self.now) }
+    {
+        self.test.is_one_equality()
+    }
+
+    /// Whether a number of the memory stands in the filter. If not, the same rows pass with every memory:
+    /// `laws::unread_memory_tells_nothing`.
+    pub fn reads_memory(&self) -> bool
+        ensures { result ≡ reads_memory (form_of self.now) }
+    {
+        self.test.reads_memory()
     }
 }

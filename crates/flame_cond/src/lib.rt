@@ -2,15 +2,18 @@
 #![tactic(auto)]
 
 mod conditions;
+mod equalities;
 mod filters;
 mod forms;
 mod keys;
+pub mod laws;
 mod names;
 mod numbers;
 mod periods;
 mod reading;
 
 pub use conditions::Cond;
+pub use equalities::{EqualTo, Equality};
 pub use filters::Filter;
 pub use keys::SortBy;
 pub use numbers::number_at;

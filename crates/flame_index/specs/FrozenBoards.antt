@@ -1,12 +1,13 @@
 -- Boards that no message joins any more.
-use Rattle.std.specs.Prelude.{ℕ, ℤ, List, []}
+use Rattle.std.specs.Prelude.{ℕ, ◌==◌, ℤ, List, [], ◌∷◌, ◌++◌, map, Bool, true, false, not, ◌&&◌, if◌then◌else◌}
+use Rattle.std.specs.List.{list_any}
 use Rattle.std.specs.Arc.{arc_value}
 use Rattle.std.specs.declared.sync.Arc.{Arc}
+use Rattle.flame_spec.specs.Views.{Key}
 
--- what is kept beside the messages of a board: the columns by which they are found without a look at each, in the order
--- in which they came [own]
+-- what is kept beside the messages of a board: the keys by which it is indexed, in the order in which they came [own]
 pub record Kept : Type 0 where
-  pub columns : List ℕ
+  pub keys : List Key
 
 -- the messages of a board, in content order and each as often as it was sent, and what is kept beside them
 -- [libmboard; what is kept: own]
@@ -24,4 +25,27 @@ shared_messages board = messages_on (arc_value board)
 
 -- nothing is kept beside the messages [own]
 abbrev pub nothing_kept : Kept
-nothing_kept = record { columns = [] }
+nothing_kept = record { keys = [] }
+
+-- ---- the keys that are kept
+
+-- the key of a column, the least number first [own]
+abbrev pub ascending_by : ℕ → Key
+ascending_by column = record { column = column; descending = false }
+
+-- whether two directions are one [own]
+abbrev pub is_same_direction : Bool → Bool → Bool
+is_same_direction true other = other
+is_same_direction false other = not other
+
+-- whether two keys are one: one column and one direction [own]
+abbrev pub is_same_key : Key → Key → Bool
+is_same_key one two = (one.column == two.column) && is_same_direction one.descending two.descending
+
+-- whether the board is indexed by the key [own]
+abbrev pub is_kept : Key → Kept → Bool
+is_kept key kept = list_any (is_same_key key) kept.keys
+
+-- what is kept with this key too, behind the others; nothing changes where it was kept [own]
+abbrev pub with_key : Key → Kept → Kept
+with_key key kept = if is_kept key kept then kept else record { keys = kept.keys ++ key ∷ [] }

@@ -1,0 +1,19 @@
+//! Laws of filters. A law is its contract: it computes nothing.
+
+ghost use Rattle.flame_cond.specs.Equalities.{PassingIsEqual, OneEqualityIsAll, OneEqualityIsFirst, UnreadMemoryTellsNothing};
+
+/// A row that passes a filter has the number that its first equality asks for.
+pub fn passing_is_equal()
+    ensures { PassingIsEqual }
+{}
+
+/// A filter that is one equality has a first one, and passes exactly the rows that have its number.
+pub fn one_equality_is_all()
+    ensures first { OneEqualityIsFirst }
+    ensures all { OneEqualityIsAll }
+{}
+
+/// A filter in which no number of the memory stands passes the same rows with every memory.
+pub fn unread_memory_tells_nothing()
+    ensures { UnreadMemoryTellsNothing }
+{}

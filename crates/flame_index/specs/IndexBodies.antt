@@ -1,0 +1,29 @@
+-- Indexes as they lie in memory: values and places in two lists, beside each other.
+use Rattle.std.specs.Prelude.{ℕ, ℤ, List, [], ◌∷◌, map, Bool, Option, None, Some, if◌then◌else◌, int_le, int_lt}
+use Rattle.std.specs.declared.vec.Vec.{Vec}
+use Rattle.flame_spec.specs.Views.{Key}
+use Rattle.flame_index.specs.declared.entries.Pair.{Pair}
+use Rattle.flame_index.specs.Indexes.{Entry, IndexTable}
+
+-- the entry that a pair is [own]
+abbrev pub entry_of : Pair → Entry
+entry_of pair = record { value = pair.value; place = pair.place }
+
+-- the entries of values and places that lie beside each other [own]
+abbrev pub entries_of : List ℤ → List ℕ → List Entry
+entries_of [] places = []
+entries_of (value ∷ values) [] = []
+entries_of (value ∷ values) (place ∷ places) = record { value = value; place = place } ∷ entries_of values places
+
+-- whether a search from the left goes past a value: it is less, or no greater where equal ones are passed too [own]
+abbrev pub is_passed : Bool → ℤ → ℤ → Bool
+is_passed through wanted value = if through then int_le value wanted else int_lt value wanted
+
+-- the keys of indexes [own]
+abbrev pub keys_of : List IndexTable → List Key
+keys_of indexes = map (λ index. index.key) indexes
+
+-- the indexes that a board keeps; it has no list of them while there is none [own]
+abbrev pub indexes_in : {Z : Type 0} → Option (Vec IndexTable Z) → List IndexTable
+indexes_in None = []
+indexes_in (Some indexes) = indexes.items

@@ -1,0 +1,174 @@
+//! Indexes of boards.
+
+ghost use Rattle.std.specs.Prelude.{◌≡◌, ℕ, ◌+◌, ◌*◌, ◌^◌, ◌<◌, ◌≤◌, ◌↔◌, false, ℤ, IfOk, length, slice_get, slice_range, IsTrue};
+ghost use Rattle.std.specs.List.{filter};
+ghost use Rattle.flame_cond.specs.Said.{key_by};
+ghost use Rattle.flame_cond.specs.Equalities.{has_value};
+ghost use Rattle.flame_index.specs.FrozenBoards.{FrozenBoard, ascending_by, messages_on};
+ghost use Rattle.flame_index.specs.Indexes.{StandsFor, places_of, rows_at, values_of};
+ghost use Rattle.flame_index.specs.IndexBodies.{is_passed};
+
+use crate::boards::Frozen;
+use crate::entries;
+use crate::steps::Steps;
+use flame_cond::SortBy;
+use flame_rows::NoMemory;
+use std::alloc::Global;
+use std::marker::Model;
+use std::sync::ledger::Ledger;
+
+/// The places of a board's messages in the order of a key: by the number in its column, the least first or the greatest,
+/// and equal numbers by place, which is by content. Seen as the key and, for each message, its number and its place.
+/// A message that lacks the column counts as 0 there. It takes 8 bytes for a message.
+#[derive(Debug, Drop)]
+pub struct Index {
+    by: SortBy,
+    values: Vec<i32>,
+    places: Vec<u32>,
+}
+
+impl Model for Index {
+    ghost use Rattle.std.specs.Prelude.{◌≡◌, length};
+    ghost use Rattle.flame_cond.specs.Said.{key_by};
+    ghost use Rattle.flame_index.specs.Indexes.{IndexTable};
+    ghost use Rattle.flame_index.specs.IndexBodies.{entries_of};
+
+    ghost Value = { IndexTable };
+
+    ghost view = { λ a. record { key = key_by a.by; entries = entries_of a.values.items a.places.items } };
+
+    ghost invariant = { λ a. length a.values.items ≡ length a.places.items };
+}
+
+impl Index {
+    /// The index of a board by the numbers in a column, the least first. Takes n log n comparisons for n messages.
+    /// NoMemory where memory is not found, and where 32 bits do not number the messages.
+    pub fn of(alloc: Global, board: &Frozen, column: u32) -> Result<Index, NoMemory>
+        ensures key { IfOk result (λ index. index.key ≡ ascending_by column) }
+        ensures stands { IfOk result (λ index. StandsFor index board.now) }
+    {
+        Index::by(
+            alloc,
+            board,
+            SortBy {
+                variable: column,
+                descending: false,
+            },
+        )
+    }
+
+    /// The same by any key.
+    pub fn by(alloc: Global, board: &Frozen, by: SortBy) -> Result<Index, NoMemory>
+        ensures key { IfOk result (λ index. index.key ≡ key_by by) }
+        ensures stands { IfOk result (λ index. StandsFor index board.now) }
+    {
+        let pairs = entries::ordered(alloc, board.bag().rows(), by)?;
+        let values = entries::values(alloc, &pairs)?;
+        let places = entries::places(alloc, &pairs)?;
+        Ok(Index { by, values, places })
+    }
+
+    /// Its key.
+    pub fn key(&self) -> SortBy
+        ensures { key_by result ≡ self.now.key }
+    {
+        self.by
+    }
+
+    /// How many messages it has.
+    pub fn len(&self) -> usize
+        ensures { result ≡ length self.now.entries }
+    {
+        self.values.len()
+    }
+
+    /// The number at a place of the index. It is one step.
+    pub fn probe<L: Ledger>(&self, _board: &Frozen, at: usize, steps: &mut Steps<L>) -> i32
+        requires stands { StandsFor self.now _board.now }
+        requires within { at < length self.now.entries }
+        ensures value { slice_get (values_of self.now) at ≡ Some result }
+        ensures step { steps.new ≡ steps.old + 1 }
+    {
+        steps.tick();
+        self.values[at]
+    }
+
+    /// How many of its messages a search for the number goes past: those with a lesser number, and those that have it
+    /// where it goes through them.
+    fn bound<L: Ledger>(
+        &self,
+        board: &Frozen,
+        wanted: i32,
+        through: bool,
+        steps: &mut Steps<L>,
+    ) -> usize
+        requires stands { StandsFor self.now board.now }
+        requires ascending { self.now.key.descending ≡ false }
+        ensures within { result ≤ length self.now.entries }
+        ensures sides { (at : ℕ) (value : ℤ) → slice_get (values_of self.now) at ≡ Some value
+            → (at < result) ↔ IsTrue (is_passed through wanted value) }
+        ensures cost { (d : ℕ) → length self.now.entries < 2 ^ d → steps.new ≤ steps.old + d }
+    {
+        let mut low = 0;
+        let mut high = self.len();
+        while low < high {
+            let middle = low + (high - low) / 2;
+            if is_passed(through, wanted, self.probe(board, middle, steps)) {
+                low = middle + 1;
+            } else {
+                high = middle;
+            }
+        }
+        low
+    }
+
+    /// The places of the index whose messages have this number in its column: from the first up to the second. Reads by
+    /// `probe` alone, at most 2d times, where d is how many binary digits the number of messages has.
+    pub fn equal<L: Ledger>(
+        &self,
+        board: &Frozen,
+        value: i32,
+        steps: &mut Steps<L>,
+    ) -> (usize, usize)
+        requires stands { StandsFor self.now board.now }
+        requires ascending { self.now.key.descending ≡ false }
+        ensures order { result.0 ≤ result.1 }
+        ensures within { result.1 ≤ length self.now.entries }
+        ensures values { (at : ℕ) (number : ℤ) → slice_get (values_of self.now) at ≡ Some number
+            → ((result.0 ≤ at) × (at < result.1)) ↔ (number ≡ value) }
+        ensures rows { rows_at (slice_range (places_of self.now) result.0 result.1) (messages_on board.now)
+            ≡ filter (has_value self.now.key.column value) (messages_on board.now) }
+        ensures cost { (d : ℕ) → length self.now.entries < 2 ^ d → steps.new ≤ steps.old + 2 * d }
+    {
+        let from = self.bound(board, value, false, steps);
+        let to = self.bound(board, value, true, steps);
+        (from, to)
+    }
+
+    /// The place on the board of the message at a place of the index.
+    pub fn place(&self, at: usize) -> usize
+        requires { at < length self.now.entries }
+        ensures place { slice_get (places_of self.now) at ≡ Some result }
+        ensures within { (board : FrozenBoard) → StandsFor self.now board → result < length (messages_on board) }
+    {
+        self.places[at] as usize
+    }
+
+    /// The places on the board of all its messages, in its order.
+    pub fn places(&self) -> &[u32]
+        ensures { result.now ≡ places_of self.now }
+    {
+        self.places.as_slice()
+    }
+}
+
+/// Whether a search for the first number goes past the second.
+fn is_passed(through: bool, wanted: i32, value: i32) -> bool
+    ensures { result ≡ is_passed through wanted value }
+{
+    if through {
+        value <= wanted
+    } else {
+        value < wanted
+    }
+}

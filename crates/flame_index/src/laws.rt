@@ -1,0 +1,14 @@
+//! Laws of indexes. A law is its contract: it computes nothing.
+
+ghost use Rattle.flame_index.specs.Indexes.{IndexIsAsLong, IndexOrdersBoard, IndexStaysWithin};
+
+/// The messages at the places of an index are the board's in the order of its key, in both directions.
+pub fn orders_the_board()
+    ensures { IndexOrdersBoard }
+{}
+
+/// An index has as many entries as its board has messages, and each names a place of the board.
+pub fn stays_on_the_board()
+    ensures long { IndexIsAsLong }
+    ensures within { IndexStaysWithin }
+{}
