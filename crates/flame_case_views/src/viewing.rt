@@ -1,6 +1,7 @@
 //! Cases of views: the sections `model`, `memory`, which has the numbers of a row, and `board`, which has a row a line.
 //! For each input of each function, both from 0 in document order, the answer has its view of the board, as `view 0 1`
-//! with the rows behind it.
+//! with the rows behind it; and where its view of the board with indexes by each of the first columns, in both
+//! directions, is another, `by its indexes` and the rows of that.
 
 use crate::deciding::{message_of, row_in};
 use crate::readable::{is_narrow, is_readable_filter};
@@ -8,7 +9,7 @@ use flame_case_files::Case;
 use flame_case_models::{Found, model_in};
 use flame_cond::{Filter, SortBy};
 use flame_index::Frozen;
-use flame_rows::{Bag, NoMemory, Row};
+use flame_rows::{Bag, NoMemory, Row, Same};
 use flame_spec::{AgentType, Condition, Input, MessageType, Model};
 use flame_view::View;
 use std::alloc::{AllocError, Global};
@@ -19,6 +20,7 @@ struct Scene {
     model: Model,
     memory: Row,
     board: Frozen,
+    indexed: Frozen,
 }
 
 pub(crate) fn print_row(out: &mut String, row: &Row) -> Result<(), AllocError> {
@@ -32,6 +34,48 @@ pub(crate) fn print_row(out: &mut String, row: &Row) -> Result<(), AllocError> {
 fn print_view(out: &mut String, view: &View<'_>) -> Result<(), AllocError> {
     for place in 0..view.len() {
         print_row(out, view.row(place))?;
+    }
+    Ok(())
+}
+
+/// Whether both views have the same rows in the same order.
+fn is_same(one: &View<'_>, two: &View<'_>) -> bool {
+    for place in 0..one.len() {
+        if place >= two.len() || !one.row(place).same(two.row(place)) {
+            return false;
+        }
+    }
+    one.len() == two.len()
+}
+
+/// The view of a board for the scene's agent.
+fn view_of<'a>(
+    alloc: Global,
+    board: &'a Frozen,
+    filter: Option<&Filter>,
+    sort: Option<SortBy>,
+    memory: &Row,
+) -> Result<View<'a>, AllocError> {
+    match View::new(alloc, board, filter, sort, memory) {
+        Ok(view) => Ok(view),
+        Err(_) => Err(AllocError),
+    }
+}
+
+/// The view of the board, and that of the board with indexes where it is another.
+fn print_both(
+    alloc: Global,
+    out: &mut String,
+    scene: &Scene,
+    filter: Option<&Filter>,
+    sort: Option<SortBy>,
+) -> Result<(), AllocError> {
+    let view = view_of(alloc, &scene.board, filter, sort, &scene.memory)?;
+    print_view(out, &view)?;
+    let found = view_of(alloc, &scene.indexed, filter, sort, &scene.memory)?;
+    if !is_same(&view, &found) {
+        writeln!(out, "by its indexes")?;
+        print_view(out, &found)?;
     }
     Ok(())
 }
@@ -70,10 +114,7 @@ fn print_input(
             Err(_) => return Err(AllocError),
         },
     };
-    match View::new(alloc, &scene.board, filter.as_ref(), sort, &scene.memory) {
-        Ok(view) => print_view(out, &view),
-        Err(_) => Err(AllocError),
-    }
+    print_both(alloc, out, scene, filter.as_ref(), sort)
 }
 
 fn print_all(alloc: Global, out: &mut String, scene: &Scene) -> Result<(), AllocError> {
@@ -92,8 +133,36 @@ fn print_all(alloc: Global, out: &mut String, scene: &Scene) -> Result<(), Alloc
     Ok(())
 }
 
+/// How many columns a board is indexed by.
+const INDEXED_COLUMNS: u32 = 4;
+
+/// The same board with indexes by its first columns, in both directions.
+fn indexed(alloc: Global, board: Frozen) -> Result<Frozen, NoMemory> {
+    let mut board = board;
+    for variable in 0..INDEXED_COLUMNS {
+        for descending in [false, true] {
+            board.keep(
+                alloc,
+                SortBy {
+                    variable,
+                    descending,
+                },
+            )?;
+        }
+    }
+    Ok(board)
+}
+
+/// The board of a section, with indexes.
+fn indexed_board_in(alloc: Global, text: &str) -> Result<Frozen, AllocError> {
+    match indexed(alloc, board_in(alloc, text)?) {
+        Ok(board) => Ok(board),
+        Err(_) => Err(AllocError),
+    }
+}
+
 /// The board of a section.
-fn board_in(alloc: Global, text: &str) -> Result<Frozen, AllocError> {
+pub(crate) fn board_in(alloc: Global, text: &str) -> Result<Frozen, AllocError> {
     let mut rows = Vec::new(alloc);
     for line in text.split('\n') {
         if !line.is_empty() {
@@ -116,6 +185,7 @@ pub fn answer_views(alloc: Global, case: &Case) -> Result<String, AllocError> {
         model,
         memory: row_in(alloc, case.text("memory"))?,
         board: board_in(alloc, case.text("board"))?,
+        indexed: indexed_board_in(alloc, case.text("board"))?,
     };
     let mut out = String::new(alloc);
     print_all(alloc, &mut out, &scene)?;

@@ -12,7 +12,7 @@ use flame_case_populations::answer_population;
 use flame_case_programs::{answer_code, answer_graph, answer_outcome};
 use flame_case_runs::{answer_core, answer_iteration, answer_orders};
 use flame_case_texts::{answer_expression, answer_order, answer_tokens, answer_trees};
-use flame_case_views::{answer_choices, answer_conditions, answer_views};
+use flame_case_views::{answer_choices, answer_conditions, answer_indexes, answer_views};
 use std::alloc::{AllocError, Global};
 use std::sync::Wait;
 use std::thread::Threads;
@@ -58,6 +58,8 @@ pub(crate) enum Kind {
     Plan,
     /// The conditions, filters and keys of `flame_cond`
     Condition,
+    /// `flame_index::Index`
+    Index,
     /// `flame_view::View`
     View,
     /// The calls of `flame_pool`
@@ -92,6 +94,7 @@ pub(crate) fn kind_of(file: &str) -> Option<Kind> {
         "load" => Some(Kind::Load),
         "plan" => Some(Kind::Plan),
         "condition" => Some(Kind::Condition),
+        "index" => Some(Kind::Index),
         "view" => Some(Kind::View),
         "choice" => Some(Kind::Choice),
         "expression" => Some(Kind::Expression),
@@ -128,6 +131,7 @@ pub(crate) fn answer(
         Kind::Load => answer_load(alloc, case),
         Kind::Plan => answer_plan(alloc, case),
         Kind::Condition => answer_conditions(alloc, case),
+        Kind::Index => answer_indexes(alloc, case),
         Kind::View => answer_views(alloc, case),
         Kind::Choice => answer_choices(rt, alloc, case),
         Kind::Expression => answer_expression(alloc, case),
