@@ -1,4 +1,4 @@
--- Equalities: the number that a filter asks for in a column of a row.
+-- Equalities: which number a filter asks for in a column, and whether it reads the memory.
 use Rattle.std.specs.Prelude.{◌≡◌, ℕ, ℤ, List, Bool, true, false, ◌||◌, Option, Some, None, is_some, IsTrue}
 use Rattle.std.specs.Option.{option_or}
 use Rattle.std.specs.Ordering.{int_eq}
@@ -23,16 +23,16 @@ equal_value (Memory column) memory = number_at memory column
 abbrev pub has_value : ℕ → ℤ → List ℤ → Bool
 has_value column value row = int_eq (number_at row column) value
 
--- what two things are compared for that are to be equal: a column of the row, on either side, and a number or a column of
--- the memory; any other two fix no column [own]
+-- the equality that EQ between these two is: one is a column of the row, the other a number or a column of the memory; of
+-- any other two there is none [own]
 abbrev pub equality_between : Term → Term → Option Equality
 equality_between (Row column) (Literal number) = Some (record { column = column; equal = Number number })
-equality_between (Row column) (Remembered place) = Some (record { column = column; equal = Memory place })
+equality_between (Row column) (Remembered variable) = Some (record { column = column; equal = Memory variable })
 equality_between (Literal number) (Row column) = Some (record { column = column; equal = Number number })
-equality_between (Remembered place) (Row column) = Some (record { column = column; equal = Memory place })
+equality_between (Remembered variable) (Row column) = Some (record { column = column; equal = Memory variable })
 equality_between _ _ = None
 
--- the same of a comparison: only EQ fixes a column [own]
+-- the equality that a comparison is; only EQ is one [own]
 abbrev pub equality_compared : Op → Term → Term → Option Equality
 equality_compared Eq a b = equality_between a b
 equality_compared _ a b = None
@@ -53,13 +53,13 @@ is_one_equality (either left right) = false
 is_one_equality (negation part) = false
 is_one_equality (timing period phase duration) = false
 
--- whether what is compared is a number of the memory [own]
+-- whether what is compared is a variable of the memory [own]
 abbrev pub is_remembered : Term → Bool
 is_remembered (Literal number) = false
 is_remembered (Remembered column) = true
 is_remembered (Row column) = false
 
--- whether a number of the memory stands in a test [own]
+-- whether a variable of the memory stands in a test [own]
 abbrev pub reads_memory : TestForm → Bool
 reads_memory (comparison op a b) = is_remembered a || is_remembered b
 reads_memory (both left right) = reads_memory left || reads_memory right
@@ -69,7 +69,7 @@ reads_memory (timing period phase duration) = is_remembered phase
 
 -- ---- laws
 
--- a row that passes has the number that is asked for in the column of the first equality
+-- a row that passes has the number that is asked for in the column of the first equality [own]
 abbrev pub PassingIsEqual : Type 0
 PassingIsEqual =
     (test : Test) (equality : Equality) (memory row : List ℤ)
@@ -77,7 +77,7 @@ PassingIsEqual =
     → IsTrue (passes test memory row)
     → number_at row equality.column ≡ equal_value equality.equal memory
 
--- under a test that is one equality a row passes exactly where it has that number
+-- under a test that is one equality a row passes exactly where it has that number [own]
 abbrev pub OneEqualityIsAll : Type 0
 OneEqualityIsAll =
     (test : Test) (equality : Equality) (memory row : List ℤ)
@@ -85,12 +85,12 @@ OneEqualityIsAll =
     → first_equality (form_of test) ≡ Some equality
     → passes test memory row ≡ has_value equality.column (equal_value equality.equal memory) row
 
--- a test that is one equality has a first one
+-- a test that is one equality has a first one [own]
 abbrev pub OneEqualityIsFirst : Type 0
 OneEqualityIsFirst =
     (test : Test) → IsTrue (is_one_equality (form_of test)) → IsTrue (is_some (first_equality (form_of test)))
 
--- a test in which no number of the memory stands passes the same rows with every memory
+-- a test in which no variable of the memory stands passes the same rows with every memory [own]
 abbrev pub UnreadMemoryTellsNothing : Type 0
 UnreadMemoryTellsNothing =
     (test : Test) (memory other row : List ℤ)

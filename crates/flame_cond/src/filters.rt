@@ -60,8 +60,9 @@ impl Filter {
     {
         self.test.answer(memory.values(), row.values(), 0)
     }
-    /// The first equality, from the left, between a column of the row and a number or a column of the memory that the
-    /// filter is or reaches through AND alone; None where there is none. A row that passes has that number there:
+
+    /// The first EQ from the left between a column of the row and a number or a column of the memory, where the filter is
+    /// one or reaches one through AND alone; else None. A row that passes has that number there:
     /// `laws::passing_is_equal`.
     pub fn equality(&self) -> Option<Equality>
         ensures { result ≡ first_equality (form_of self.now) }
@@ -77,7 +78,7 @@ impl Filter {
         self.test.is_one_equality()
     }
 
-    /// Whether a number of the memory stands in the filter. If not, the same rows pass with every memory:
+    /// Whether a variable of the memory stands in the filter. If not, the same rows pass with every memory:
     /// `laws::unread_memory_tells_nothing`.
     pub fn reads_memory(&self) -> bool
         ensures { result ≡ reads_memory (form_of self.now) }

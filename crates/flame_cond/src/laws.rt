@@ -2,7 +2,7 @@
 
 ghost use Rattle.flame_cond.specs.Equalities.{PassingIsEqual, OneEqualityIsAll, OneEqualityIsFirst, UnreadMemoryTellsNothing};
 
-/// A row that passes a filter has the number that its first equality asks for.
+/// A row that passes a filter has the number that the filter's first equality asks for, in that column.
 pub fn passing_is_equal()
     ensures { PassingIsEqual }
 {}
@@ -13,7 +13,7 @@ pub fn one_equality_is_all()
     ensures all { OneEqualityIsAll }
 {}
 
-/// A filter in which no number of the memory stands passes the same rows with every memory.
+/// A filter in which no variable of the memory stands passes the same rows with every memory.
 pub fn unread_memory_tells_nothing()
     ensures { UnreadMemoryTellsNothing }
 {}

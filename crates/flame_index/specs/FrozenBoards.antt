@@ -6,7 +6,8 @@ use Rattle.std.specs.Arc.{arc_value}
 use Rattle.std.specs.declared.sync.Arc.{Arc}
 use Rattle.flame_spec.specs.Views.{Key}
 
--- what is kept beside the messages of a board: the keys by which it is indexed, in the order in which they came [own]
+-- what is kept beside the messages of a board: the keys by which it is indexed; the columns that are kept are those of
+-- the ascending ones [own]
 pub record Kept : Type 0 where
   pub keys : List Key
 

@@ -9,7 +9,7 @@ use Rattle.flame_index.specs.Indexes.{Entry, IndexTable}
 abbrev pub entry_of : Pair → Entry
 entry_of pair = record { value = pair.value; place = pair.place }
 
--- the entries of values and places that lie beside each other [own]
+-- the entries of values and places that lie beside each other; of an index both lists are as long [own]
 abbrev pub entries_of : List ℤ → List ℕ → List Entry
 entries_of [] places = []
 entries_of (value ∷ values) [] = []

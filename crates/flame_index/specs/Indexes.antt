@@ -41,7 +41,8 @@ abbrev pub IsIndexOf : IndexTable → List (List ℤ) → Type 0
 IsIndexOf index rows =
     index.entries ≡ sorted_by (entry_order index.key.descending) (entries_from index.key.column 0 rows)
 
--- an index stands for a board where it is one of its messages [own]
+-- an index stands for a board where its entries are those of the board's messages: a message that lacks the column counts
+-- as 0, and the index need not have been made of this board [own]
 abbrev pub StandsFor : IndexTable → FrozenBoard → Type 0
 StandsFor index board = IsIndexOf index (messages_on board)
 
@@ -49,17 +50,17 @@ StandsFor index board = IsIndexOf index (messages_on board)
 abbrev pub values_of : IndexTable → List ℤ
 values_of index = map (λ entry. entry.value) index.entries
 
--- the places of an index, in order [own]
+-- the places on the board that an index names, in its order [own]
 abbrev pub places_of : IndexTable → List ℕ
 places_of index = map (λ entry. entry.place) index.entries
 
--- the rows in these places, in their order [own]
+-- the rows in these places, in their order; a place past the end has the empty row, and an index names none [own]
 abbrev pub rows_at : List ℕ → List (List ℤ) → List (List ℤ)
 rows_at places rows = map (λ place. slice_index_or rows place []) places
 
 -- ---- laws
 
--- the rows at the places of an index are the board in the order of its key, in both directions
+-- the rows at the places of an index are the board in the order of its key, whether it ascends or descends [own]
 abbrev pub IndexOrdersBoard : Type 0
 IndexOrdersBoard =
     (index : IndexTable) (board : FrozenBoard)
@@ -67,14 +68,14 @@ IndexOrdersBoard =
     → StandsFor index board
     → rows_at (places_of index) (messages_on board) ≡ sorted_by (view_order (Some index.key)) (messages_on board)
 
--- the places of an index are places of the board
+-- each place that an index names is a place of the board [own]
 abbrev pub IndexStaysWithin : Type 0
 IndexStaysWithin =
     (index : IndexTable) (board : FrozenBoard)
     → StandsFor index board
     → All (λ place. place < length (messages_on board)) (places_of index)
 
--- an index has as many entries as the board has messages
+-- an index has as many entries as the board has messages [own]
 abbrev pub IndexIsAsLong : Type 0
 IndexIsAsLong =
     (index : IndexTable) (board : FrozenBoard)

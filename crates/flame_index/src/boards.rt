@@ -93,7 +93,8 @@ impl Frozen {
         self.put(alloc, index)
     }
 
-    /// The same board with an index of the column, the least number first.
+    /// The same board with an index of the column, the least number first. NoMemory as for `keep`; then the board is given
+    /// up. A caller that goes on without the index calls `keep`.
     pub fn with_index(self, alloc: Global, column: u32) -> Result<Frozen, NoMemory>
         ensures messages { IfOk result (λ board. messages_on board ≡ messages_on self) }
         ensures kept { IfOk result (λ board. board.kept ≡ with_key (ascending_by column) self.kept) }
@@ -107,7 +108,7 @@ impl Frozen {
         )
     }
 
-    /// The same board with an index by this key.
+    /// The same board with an index by this key. NoMemory as for `with_index`.
     pub fn with_order(self, alloc: Global, by: SortBy) -> Result<Frozen, NoMemory>
         ensures messages { IfOk result (λ board. messages_on board ≡ messages_on self) }
         ensures kept { IfOk result (λ board. board.kept ≡ with_key (key_by by) self.kept) }

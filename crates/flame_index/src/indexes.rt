@@ -57,7 +57,7 @@ impl Index {
         )
     }
 
-    /// The same by any key.
+    /// The index of a board by a key. NoMemory as for `of`.
     pub fn by(alloc: Global, board: &Frozen, by: SortBy) -> Result<Index, NoMemory>
         ensures key { IfOk result (λ index. index.key ≡ key_by by) }
         ensures stands { IfOk result (λ index. StandsFor index board.now) }
@@ -75,7 +75,7 @@ impl Index {
         self.by
     }
 
-    /// How many messages it has.
+    /// How many entries it has: one for each message.
     pub fn len(&self) -> usize
         ensures { result ≡ length self.now.entries }
     {
@@ -122,8 +122,10 @@ impl Index {
         low
     }
 
-    /// The places of the index whose messages have this number in its column: from the first up to the second. Reads by
-    /// `probe` alone, at most 2d times, where d is how many binary digits the number of messages has.
+    /// The places of the index whose messages have this number in its column: from the first up to the second. The index
+    /// stands for this board, and its key ascends, as those of `Index::of` and `Frozen::indexed` do. Takes at most 2d
+    /// steps, where d is how many binary digits the number of messages has. That numbers are read by `probe` alone, no
+    /// clause says.
     pub fn equal<L: Ledger>(
         &self,
         board: &Frozen,
@@ -145,7 +147,7 @@ impl Index {
         (from, to)
     }
 
-    /// The same range, for a caller that counts no steps.
+    /// The range that `equal` gives, for a caller that counts no steps.
     pub fn range(&self, board: &Frozen, value: i32) -> (usize, usize)
         requires stands { StandsFor self.now board.now }
         requires ascending { self.now.key.descending ≡ false }

@@ -2,7 +2,8 @@
 
 ghost use Rattle.flame_index.specs.Indexes.{IndexIsAsLong, IndexOrdersBoard, IndexStaysWithin};
 
-/// The messages at the places of an index are the board's in the order of its key, in both directions.
+/// The messages at the places of an index are the board's in the order of its key, whether it ascends or
+/// descends.
 pub fn orders_the_board()
     ensures { IndexOrdersBoard }
 {}
