@@ -2,6 +2,7 @@
 
 ghost use Rattle.std.specs.Prelude.{◌≡◌, [], true, false, Some, None, IfOk, OnOk, OnErr, option_map, if◌then◌else◌};
 ghost use Rattle.std.specs.Arc.{arc_value};
+ghost use Rattle.flame_rows.specs.Bags.{ascending};
 ghost use Rattle.flame_index.specs.FrozenBoards.{messages_on, shared_messages};
 ghost use Rattle.flame_progress.specs.KeptBoards.{board_bag, is_board_frozen, is_board_shared};
 
@@ -20,6 +21,13 @@ pub enum Board {
     Frozen(Frozen),
     /// The same, where those who read it may share it.
     Shared(Arc<Frozen>),
+}
+
+/// Puts rows in order, where memory is found. std's sort keeps the runs that ascend already, and merges them.
+fn put_in_order(rows: &mut Vec<Row>)
+    ensures { ascending rows.new.items ≡ ascending rows.old.items }
+{
+    let _sorted = rows.sort();
 }
 
 /// The board, moved to where it may be shared.
@@ -74,7 +82,20 @@ impl Board {
         }
     }
 
-    /// No message comes any more: the board is put in order, which takes no memory.
+    /// Puts the messages that gathered so far in order, where memory is found.
+    pub(crate) fn put_in_order(&mut self)
+        ensures bag { board_bag self.new ≡ board_bag self.old }
+        ensures frozen { is_board_frozen self.new ≡ is_board_frozen self.old }
+    {
+        match self {
+            Board::Gathering(rows) => put_in_order(rows),
+            Board::Frozen(_) => {}
+            Board::Shared(_) => {}
+        }
+    }
+
+    /// No message comes any more: the board is put in order, which takes no memory. Where it is in order already, as
+    /// the last piece to hand in leaves it, this goes over it once.
     pub(crate) fn freeze(&mut self)
         ensures bag { board_bag self.new ≡ board_bag self.old }
         ensures frozen { is_board_frozen self.new ≡ true }
