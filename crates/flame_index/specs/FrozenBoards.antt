@@ -1,5 +1,6 @@
 -- Boards that no message joins any more.
-use Rattle.std.specs.Prelude.{ℕ, ◌==◌, ℤ, List, [], ◌∷◌, ◌++◌, map, Bool, true, false, not, ◌&&◌, if◌then◌else◌}
+use Rattle.std.specs.Prelude.{ℕ, ◌==◌, ℤ, List, [], ◌∷◌, ◌++◌, Bool, false, ◌&&◌, if◌then◌else◌}
+use Rattle.std.specs.Bool.{beq}
 use Rattle.std.specs.List.{list_any}
 use Rattle.std.specs.Arc.{arc_value}
 use Rattle.std.specs.declared.sync.Arc.{Arc}
@@ -33,14 +34,9 @@ nothing_kept = record { keys = [] }
 abbrev pub ascending_by : ℕ → Key
 ascending_by column = record { column = column; descending = false }
 
--- whether two directions are one [own]
-abbrev pub is_same_direction : Bool → Bool → Bool
-is_same_direction true other = other
-is_same_direction false other = not other
-
 -- whether two keys are one: one column and one direction [own]
 abbrev pub is_same_key : Key → Key → Bool
-is_same_key one two = (one.column == two.column) && is_same_direction one.descending two.descending
+is_same_key one two = (one.column == two.column) && beq one.descending two.descending
 
 -- whether the board is indexed by the key [own]
 abbrev pub is_kept : Key → Kept → Bool

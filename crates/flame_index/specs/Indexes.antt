@@ -18,11 +18,14 @@ pub record IndexTable : Type 0 where
   pub key : Key
   pub entries : List Entry
 
--- the entries of rows by a column, of which the first stands in this place; a row that lacks the column has 0 [own]
+-- the entry of a row by a column, in this place; a row that lacks the column has 0 [own]
+abbrev pub entry_at : ℕ → ℕ → List ℤ → Entry
+entry_at column place row = record { value = number_at row column; place = place }
+
+-- the entries of rows by a column, of which the first stands in this place [own]
 abbrev pub entries_from : ℕ → ℕ → List (List ℤ) → List Entry
 entries_from column place [] = []
-entries_from column place (row ∷ rows) =
-    record { value = number_at row column; place = place } ∷ entries_from column (suc place) rows
+entries_from column place (row ∷ rows) = entry_at column place row ∷ entries_from column (suc place) rows
 
 -- by value, the least first [own]
 abbrev pub value_order : Entry → Entry → Ordering

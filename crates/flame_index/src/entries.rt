@@ -2,11 +2,11 @@
 
 ghost use Rattle.std.specs.Prelude.{◌≡◌, IfOk, map};
 ghost use Rattle.flame_rows.specs.Sorted.{sorted_by};
-ghost use Rattle.flame_index.specs.Indexes.{entries_from, entry_order};
+ghost use Rattle.flame_index.specs.Indexes.{entries_from, entry_at, entry_order};
 ghost use Rattle.flame_index.specs.IndexBodies.{entry_of};
 
 use flame_cond::{SortBy, number_at};
-use flame_rows::{NoMemory, Row};
+use flame_rows::{NoMemory, Row, number};
 use std::alloc::Global;
 use std::cmp::Ordering;
 
@@ -31,16 +31,23 @@ fn compare(descending: bool, a: Pair, b: Pair) -> Ordering
     values.then(a.place.cmp(&b.place))
 }
 
-/// The entry of each row. NoMemory also where 32 bits do not number the rows.
-fn entries(alloc: Global, rows: &[Row], column: u32) -> Result<Vec<Pair>, NoMemory>
+/// The entry of a row in this place. NoMemory also where 32 bits do not number the place.
+fn pair(row: &Row, column: u32, place: usize) -> Result<Pair, NoMemory>
+    ensures { IfOk result (λ pair. entry_of pair ≡ entry_at column place row.now) }
+{
+    Ok(Pair {
+        value: number_at(row.values(), column),
+        place: number(place)?,
+    })
+}
+
+/// The entry of each row.
+fn of_rows(alloc: Global, rows: &[Row], column: u32) -> Result<Vec<Pair>, NoMemory>
     ensures { IfOk result (λ pairs. map entry_of pairs.items ≡ entries_from column 0 rows.now) }
 {
     let mut pairs = Vec::with_capacity(alloc, rows.len())?;
-    for place in 0..rows.len() {
-        pairs.push(Pair {
-            value: number_at(rows[place].values(), column),
-            place: u32::try_from(place).map_err(|_| NoMemory)?,
-        })?;
+    for (place, row) in rows.iter().enumerate() {
+        pairs.push(pair(row, column, place)?)?;
     }
     Ok(pairs)
 }
@@ -63,7 +70,7 @@ pub fn ordered(alloc: Global, rows: &[Row], by: SortBy) -> Result<Vec<Pair>, NoM
     ensures { IfOk result (λ pairs. map entry_of pairs.items
         ≡ sorted_by (entry_order by.descending) (entries_from by.variable 0 rows.now)) }
 {
-    let pairs = entries(alloc, rows, by.variable)?;
+    let pairs = of_rows(alloc, rows, by.variable)?;
     Ok(sorted(pairs, by.descending))
 }
 

@@ -14,8 +14,8 @@ use crate::steps::Steps;
 use flame_cond::SortBy;
 use flame_rows::NoMemory;
 use std::alloc::Global;
-use std::marker::Model;
-use std::sync::ledger::Ledger;
+use std::marker::{Brand, Model};
+use std::sync::ledger::{Blank, Ledger};
 
 /// The places of a board's messages in the order of a key: by the number in its column, the least first or the greatest,
 /// and equal numbers by place, which is by content. Seen as the key and, for each message, its number and its place.
@@ -145,6 +145,20 @@ impl Index {
         (from, to)
     }
 
+    /// The same range, for a caller that counts no steps.
+    pub fn range(&self, board: &Frozen, value: i32) -> (usize, usize)
+        requires stands { StandsFor self.now board.now }
+        requires ascending { self.now.key.descending ≡ false }
+        ensures order { result.0 ≤ result.1 }
+        ensures within { result.1 ≤ length self.now.entries }
+        ensures values { (at : ℕ) (number : ℤ) → slice_get (values_of self.now) at ≡ Some number
+            → ((result.0 ≤ at) × (at < result.1)) ↔ (number ≡ value) }
+        ensures rows { rows_at (slice_range (places_of self.now) result.0 result.1) (messages_on board.now)
+            ≡ filter (has_value self.now.key.column value) (messages_on board.now) }
+    {
+        counted::<Brand>(self, board, value, Blank::new(1))
+    }
+
     /// The place on the board of the message at a place of the index.
     pub fn place(&self, at: usize) -> usize
         requires { at < length self.now.entries }
@@ -160,6 +174,23 @@ impl Index {
     {
         self.places.as_slice()
     }
+}
+
+fn counted<L: Ledger>(index: &Index, board: &Frozen, value: i32, blank: Blank) -> (usize, usize)
+    requires name { blank.name ≡ L.name }
+    requires parts { blank.parts ≡ L.parts }
+    requires some { 0 < blank.parts }
+    requires stands { StandsFor index.now board.now }
+    requires ascending { index.now.key.descending ≡ false }
+    ensures order { result.0 ≤ result.1 }
+    ensures within { result.1 ≤ length index.now.entries }
+    ensures values { (at : ℕ) (number : ℤ) → slice_get (values_of index.now) at ≡ Some number
+        → ((result.0 ≤ at) × (at < result.1)) ↔ (number ≡ value) }
+    ensures rows { rows_at (slice_range (places_of index.now) result.0 result.1) (messages_on board.now)
+        ≡ filter (has_value index.now.key.column value) (messages_on board.now) }
+{
+    let mut steps = Steps::<L>::new(blank);
+    index.equal(board, value, &mut steps)
 }
 
 /// Whether a search for the first number goes past the second.

@@ -1,0 +1,6 @@
+pub mod SortedParts
+pub mod Entered
+pub mod Ordered
+pub mod Ranged
+pub mod Searching
+pub mod KeptKeys
