@@ -6,6 +6,7 @@ ghost use Rattle.flame_rows.specs.Bags.{ascending};
 ghost use Rattle.flame_index.specs.FrozenBoards.{messages_on, shared_messages};
 ghost use Rattle.flame_progress.specs.KeptBoards.{board_bag, is_board_frozen, is_board_shared};
 
+use crate::keeping::{Want, keep};
 use flame_index::Frozen;
 use flame_rows::{Bag, NoMemory, Row};
 use std::alloc::Global;
@@ -133,14 +134,33 @@ impl Board {
         }
     }
 
-    /// The board, which is frozen, to be read.
-    pub(crate) fn share(&mut self, alloc: Global) -> Result<Arc<Frozen>, NoMemory>
+    /// Keeps beside a board that may be shared what is wanted.
+    fn keep(&mut self, alloc: Global, want: Option<Want>)
+        requires { is_board_shared self.old ≡ true }
+        ensures bag { board_bag self.new ≡ board_bag self.old }
+        ensures frozen { is_board_frozen self.new ≡ true }
+        ensures shared { is_board_shared self.new ≡ true }
+    {
+        match self {
+            Board::Gathering(_) => unreachable!(),
+            Board::Frozen(_) => unreachable!(),
+            Board::Shared(board) => keep(alloc, board, want),
+        }
+    }
+
+    /// The board, which is frozen, to be read by those who want this kept beside it.
+    pub(crate) fn share(
+        &mut self,
+        alloc: Global,
+        want: Option<Want>,
+    ) -> Result<Arc<Frozen>, NoMemory>
         requires { is_board_frozen self.old ≡ true }
         ensures read { IfOk result (λ board. shared_messages board ≡ board_bag self.old) }
         ensures bag { board_bag self.new ≡ board_bag self.old }
         ensures frozen { is_board_frozen self.new ≡ true }
     {
         self.make_shared(alloc)?;
+        self.keep(alloc, want);
         self.reader()
     }
 
