@@ -1,6 +1,6 @@
 -- What a test says of a row by its first equality, and of the memory where it reads none.
-use Rattle.std.proofs.Common.{◌≡◌, Bool, true, false, not, ◌&&◌, ◌||◌, true≢false, refl, sym, ap, ap₂, ◌∙◌, Option, Some, None, is_some, List, IsTrue}
-use Rattle.std.specs.Prelude.{ℕ, ℤ, pos}
+use Rattle.std.proofs.Common.{◌≡◌, Bool, true, false, not, ◌&&◌, ◌||◌, true≢false, refl, sym, ap, ap₂, ◌∙◌, Option, Some, None, is_some, List}
+use Rattle.std.specs.Prelude.{ℤ, pos}
 use Rattle.std.specs.Option.{option_or}
 use Rattle.std.specs.Ordering.{int_eq}
 use Rattle.std.specs.Cmp.{int_eq_equiv, signed_Decides}
@@ -8,14 +8,11 @@ use Rattle.std.proofs.lemmas.Bool.{and_parts}
 use Rattle.flame_ops.specs.declared.integers.Op.{Op}
 use Rattle.flame_ops.specs.declared.integers.Op.TheVariants.{Eq}
 use Rattle.flame_spec.specs.Conditions.{Moment, number_at, compares, in_unit}
-use Rattle.flame_cond.specs.declared.equalities.EqualTo.{EqualTo}
 use Rattle.flame_cond.specs.declared.equalities.Equality.{Equality}
 use Rattle.flame_cond.specs.declared.forms.Term.{Term}
 use Rattle.flame_cond.specs.declared.forms.Term.TheVariants.{Number, Memory, Row}
-use Rattle.flame_cond.specs.declared.forms.Test.{Test}
 use Rattle.flame_cond.specs.TestForms.{TestForm, comparison, both, either, negation, timing, form_of}
-use Rattle.flame_cond.specs.Tests.{moment, term_value, answer}
-use Rattle.flame_cond.specs.Said.{passes}
+use Rattle.flame_cond.specs.Tests.{moment, term_value}
 use Rattle.flame_cond.specs.Equalities.{equal_value, has_value, equality_between, equality_compared, first_equality, is_one_equality, is_remembered, reads_memory, PassingIsEqual, OneEqualityIsAll, OneEqualityIsFirst, UnreadMemoryTellsNothing}
 use Rattle.flame_cond.proofs.FormTruths.{form_truth, answer-form}
 
@@ -53,12 +50,15 @@ form-meets : (form : TestForm) (equality : Equality) (now : Moment)
 form-meets (comparison op a b) equality now e holds = sym (compared-meets op a b equality now e) ∙ holds
 form-meets (both left right) equality now e holds =
     let parts = and_parts (form_truth left now) (form_truth right now) holds in
-    by_case (first_equality left) refl e parts.0 parts.1
+    by_case (λ here one. form-meets left equality now here one) (λ here two. form-meets right equality now here two)
+    (first_equality left) refl e parts.0 parts.1
   where
-    by_case : (first : Option Equality) → first_equality left ≡ first → option_or first (first_equality right) ≡ Some equality
+    by_case : (first_equality left ≡ Some equality → form_truth left now ≡ true → meets equality now ≡ true)
+        → (first_equality right ≡ Some equality → form_truth right now ≡ true → meets equality now ≡ true)
+        → (first : Option Equality) → first_equality left ≡ first → option_or first (first_equality right) ≡ Some equality
         → form_truth left now ≡ true → form_truth right now ≡ true → meets equality now ≡ true
-    by_case None is here one two = form-meets right equality now here two
-    by_case (Some found) is here one two = form-meets left equality now (is ∙ here) one
+    by_case by_left by_right None is here one two = by_right here two
+    by_case by_left by_right (Some found) is here one two = by_left (is ∙ here) one
 form-meets (either left right) equality now e holds = cc
 form-meets (negation part) equality now e holds = cc
 form-meets (timing period phase duration) equality now e holds = cc

@@ -11,7 +11,6 @@ use Rattle.flame_spec.specs.declared.conditions.Operand.{Operand}
 use Rattle.flame_spec.specs.declared.conditions.Operand.TheVariants.{Number, Agent, Message}
 use Rattle.flame_spec.specs.TimeUnits.{unit_length}
 use Rattle.flame_spec.specs.Conditions.{Scope, Moment, operand_value, compares, in_unit, truth}
-use Rattle.flame_cond.specs.declared.forms.Term.{Term}
 use Rattle.flame_cond.specs.declared.forms.Test.{Test, Compare, And, Or, Not, Time, the_lemmas}
 use Rattle.flame_cond.specs.declared.forms.Test.{And', Or', Not', more_of-Test, end_of-Test}
 use Rattle.flame_cond.specs.declared.forms.Test.TheBlock.{shape-the_row-Test-0, hidden-the_row-Test-0}
