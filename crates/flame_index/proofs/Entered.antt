@@ -1,9 +1,10 @@
 -- The entries of rows, their order, and the rows that they stand for.
-use Rattle.std.proofs.Common.{◌≡◌, ℕ, zero, suc, ◌+◌, ◌<◌, Bool, true, false, cond, List, [], ◌∷◌, ◌++◌, map, length, drop, refl, sym, ap, ap₂, ◌∙◌, arith, Ordering, Less, Equal, Greater, All}
+use Rattle.std.proofs.Common.{◌≡◌, ℕ, zero, suc, ◌+◌, ◌<◌, Bool, true, false, cond, List, [], ◌∷◌, ◌++◌, map, length, get_or, take, drop, refl, sym, ap, ap₂, ◌∙◌, arith, Ordering, Less, Equal, Greater, All}
 use Rattle.std.specs.Prelude.{ℤ, slice_index_or}
-use Rattle.std.specs.Ordering.{int_cmp, nat_cmp, flip_args, ordering_then}
+use Rattle.std.specs.Ordering.{nat_cmp, flip_args, ordering_then}
 use Rattle.std.specs.Cmp.{IsTotalOrder, int_cmp_total, nat_cmp_total, on_total, back_total, then_total}
 use Rattle.std.specs.FinMap.{int_cmp-IsAntisymmetric, nat_cmp-IsAntisymmetric}
+use Rattle.std.proofs.lemmas.List.{take_more, length-take-le}
 use Rattle.std.proofs.lemmas.List.Elements.{All-nil, All-cons}
 use Rattle.flame_spec.specs.Conditions.{number_at}
 use Rattle.flame_index.specs.declared.entries.Pair.{Pair}
@@ -21,6 +22,14 @@ entries_from-push column place (first ∷ rows) row =
     ap (λ rest. entry_at column place first ∷ rest)
     (entries_from-push column (suc place) rows row
     ∙ ap (λ n. entries_from column (suc place) rows ++ entry_at column n row ∷ []) along)
+
+pub entries_from-take : (column k : ℕ) (rows : List (List ℤ)) (row : List ℤ) → k < length rows → row ≡ get_or rows k row
+    → entries_from column 0 (take (k + 1) rows) ≡ entries_from column 0 (take k rows) ++ entry_at column k row ∷ []
+entries_from-take column k rows row within at =
+    let all : 0 + length (take k rows) ≡ k = omega (arith, length-take-le k rows (omega (arith, within))) in
+    ap (entries_from column 0) (take_more rows k row within ∙ ap (λ r. take k rows ++ r ∷ []) (sym at))
+    ∙ entries_from-push column 0 (take k rows) row
+    ∙ ap (λ n. entries_from column 0 (take k rows) ++ entry_at column n row ∷ []) all
 
 pub length-entries_from : (column place : ℕ) (rows : List (List ℤ)) → length (entries_from column place rows) ≡ length rows
 length-entries_from column place [] = refl
@@ -117,3 +126,15 @@ entry_tied descending one two e =
     let values : one.value ≡ two.value = directed_tied descending one two parts.0 in
     let places : one.place ≡ two.place = nat_cmp-IsAntisymmetric one.place two.place parts.1 in
     λ i. record { value = values i; place = places i }
+
+-- ---- an index as it lies in memory
+
+module _ (values : List ℤ) (places : List ℕ) (long : length values ≡ length places) (entries : List Entry) (laid : entries_of values places ≡ entries) where
+  pub laid_values : map (λ entry. entry.value) entries ≡ values
+  laid_values = ap (map (λ (entry : Entry). entry.value)) (sym laid) ∙ values-entries_of values places long
+
+  pub laid_places : map (λ entry. entry.place) entries ≡ places
+  laid_places = ap (map (λ (entry : Entry). entry.place)) (sym laid) ∙ places-entries_of values places long
+
+  pub laid_length : length entries ≡ length values
+  laid_length = ap length (sym laid) ∙ length-entries_of values places long

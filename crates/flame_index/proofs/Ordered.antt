@@ -11,11 +11,10 @@ use Rattle.std.proofs.lemmas.Simd.{map-map}
 use Rattle.flame_rows.specs.Order.{row_order}
 use Rattle.flame_rows.specs.Sorted.{IsAscending, sorted_by}
 use Rattle.flame_rows.proofs.BagLaws.{rows_total}
-use Rattle.flame_spec.specs.Conditions.{number_at}
-use Rattle.flame_spec.specs.Views.{Key, column_order, key_order, view_order}
+use Rattle.flame_spec.specs.Views.{Key, column_order, view_order}
 use Rattle.flame_spec.proofs.Viewed.{view_total, view_tied}
-use Rattle.flame_index.specs.FrozenBoards.{FrozenBoard, messages_on}
-use Rattle.flame_index.specs.Indexes.{Entry, IndexTable, entries_from, entry_order, IsIndexOf, places_of, rows_at, IndexOrdersBoard, IndexStaysWithin, IndexIsAsLong}
+use Rattle.flame_index.specs.FrozenBoards.{messages_on}
+use Rattle.flame_index.specs.Indexes.{Entry, IndexTable, entries_from, entry_order, IsIndexOf, rows_at, IndexOrdersBoard, IndexStaysWithin, IndexIsAsLong}
 use Rattle.flame_index.proofs.SortedParts.{IsAscending-at, All-sorted_by, length-sorted_by, sorted_by-seen}
 use Rattle.flame_index.proofs.Entered.{IsEntryOf, row_of, directed, entry_total, entries_are, rows_seen, length-entries_from}
 

@@ -5,7 +5,7 @@ use Rattle.std.specs.Ordering.{is_gt, int_eq, int_cmp, nat_cmp, ordering_then}
 use Rattle.std.specs.Cmp.{int_cmp_total, nat_cmp_is, signed_Decides}
 use Rattle.std.proofs.lemmas.Cmp.{tied_itself}
 use Rattle.std.proofs.lemmas.List.Elements.{All-weaker}
-use Rattle.flame_rows.specs.Sorted.{IsBelowAll, IsAscending, sorted_by}
+use Rattle.flame_rows.specs.Sorted.{IsBelowAll, IsAscending}
 use Rattle.flame_rows.proofs.Sorting.{sorted_by-IsAscending}
 use Rattle.flame_cond.specs.Equalities.{has_value}
 use Rattle.flame_index.specs.Indexes.{Entry, IndexTable, entry_at, entries_from, entry_order, IsIndexOf, places_of, rows_at}

@@ -1,7 +1,7 @@
 -- Searches in the values of an index: what they pass, and how many probes they take.
-use Rattle.std.proofs.Common.{◌≡◌, ℕ, zero, suc, ◌+◌, ◌-◌, ◌*◌, ◌/◌, ◌^◌, ◌<◌, ◌≤◌, ◌↔◌, Bool, true, false, List, map, length, get_or, Some, refl, sym, ap, ◌∙◌, subst, arith, true≢false, Ordering, Less, Equal, Greater, All, ⊎_elim, IsTrue, filter, slice_get, slice_range, option_map}
+use Rattle.std.proofs.Common.{◌≡◌, ℕ, zero, suc, ◌+◌, ◌-◌, ◌/◌, ◌^◌, ◌<◌, ◌≤◌, ◌↔◌, Bool, true, false, List, length, get_or, Some, refl, sym, ap, ◌∙◌, subst, arith, true≢false, Ordering, Less, Equal, Greater, ⊎_elim, IsTrue, filter, slice_get, slice_range, option_map}
 use Rattle.std.specs.Prelude.{ℤ, pos, int_le, int_lt}
-use Rattle.std.specs.Ordering.{is_gt, int_eq, int_cmp, nat_cmp, ordering_then}
+use Rattle.std.specs.Ordering.{is_gt, int_cmp, nat_cmp, ordering_then}
 use Rattle.std.specs.Cmp.{signed_Decides}
 use Rattle.std.proofs.Math.Nat.{pow-succ'}
 use Rattle.std.proofs.lemmas.Bool.{cases_lt}
@@ -47,8 +47,8 @@ passed_down true wanted v w up h = le_down wanted v w up h
 passed_down false wanted v w up h = lt_down wanted v w up h
 
 not_true : (b : Bool) → (b ≡ true → ⊥) → b ≡ false
-not_true true no = absurd (no refl)
-not_true false no = refl
+not_true true never = absurd (never refl)
+not_true false never = refl
 
 -- of values in order a search passes those before a place, or leaves those from there
 module _ (values : List ℤ) (through : Bool) (wanted : ℤ) where

@@ -141,9 +141,9 @@ map-filter f p q (x ∷ xs) all =
     ])
 
 filter-none : {X : Type 0} (p : X → Bool) (xs : List X) → ((at : ℕ) (x : X) → slice_get xs at ≡ Some x → p x ≡ false) → filter p xs ≡ []
-filter-none p [] no = refl
-filter-none p (x ∷ xs) no =
-    ap (λ t. cond t (x ∷ filter p xs) (filter p xs)) (no 0 x refl) ∙ filter-none p xs (λ at y is. no (suc at) y is)
+filter-none p [] fails = refl
+filter-none p (x ∷ xs) fails =
+    ap (λ t. cond t (x ∷ filter p xs) (filter p xs)) (fails 0 x refl) ∙ filter-none p xs (λ at y is. fails (suc at) y is)
 
 pub map-slice_range : {X Y : Type 0} (f : X → Y) (xs : List X) (low high : ℕ)
     → slice_range (map f xs) low high ≡ map f (slice_range xs low high)

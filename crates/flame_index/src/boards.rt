@@ -48,9 +48,9 @@ fn found(indexes: &[Index], by: SortBy) -> Option<&Index>
     ensures stands { (rows : List (List ℤ)) → All (λ index. IsIndexOf index rows) indexes.now
         → IfSome result (λ index. IsIndexOf index.now rows) }
 {
-    for index in indexes {
-        if is_same(by, index.key()) {
-            return Some(index);
+    for kept in indexes {
+        if is_same(by, kept.key()) {
+            return Some(kept);
         }
     }
     None
@@ -135,16 +135,9 @@ impl Frozen {
         ensures key { IfSome result (λ index. index.now.key ≡ key_by by) }
         ensures stands { IfSome result (λ index. StandsFor index.now self.now) }
     {
-        found(self.indexes(), by)
-    }
-
-    fn indexes(&self) -> &[Index]
-        ensures keys { keys_of result.now ≡ self.now.kept.keys }
-        ensures stand { All (λ index. StandsFor index self.now) result.now }
-    {
         match &self.indexes {
-            Some(indexes) => indexes.as_slice(),
-            None => &[],
+            Some(indexes) => found(indexes.as_slice(), by),
+            None => None,
         }
     }
 

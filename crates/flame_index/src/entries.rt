@@ -32,7 +32,7 @@ fn compare(descending: bool, a: Pair, b: Pair) -> Ordering
 }
 
 /// The entry of a row in this place. NoMemory also where 32 bits do not number the place.
-fn pair(row: &Row, column: u32, place: usize) -> Result<Pair, NoMemory>
+fn of_row(row: &Row, column: u32, place: usize) -> Result<Pair, NoMemory>
     ensures { IfOk result (λ pair. entry_of pair ≡ entry_at column place row.now) }
 {
     Ok(Pair {
@@ -47,7 +47,7 @@ fn of_rows(alloc: Global, rows: &[Row], column: u32) -> Result<Vec<Pair>, NoMemo
 {
     let mut pairs = Vec::with_capacity(alloc, rows.len())?;
     for (place, row) in rows.iter().enumerate() {
-        pairs.push(pair(row, column, place)?)?;
+        pairs.push(of_row(row, column, place)?)?;
     }
     Ok(pairs)
 }

@@ -10,9 +10,7 @@ use Rattle.flame_index.proofs.entries.sorted.Goals as goal
 
 pub returns : goal.returns
 returns c =
-    let order = entry_order c.args.descending in
-    let total = entry_total c.args.descending in
-    let ranked =
-    c.sort_unstable_by.ensures.sorted (λ a b. is_lt (order (entry_of a) (entry_of b))) (ranks_by total entry_of)
-    (always_returns_same _ _ _ (λ a r g h. search rules)) in
-    sorted_by-map order total (entry_tied c.args.descending) entry_of _ _ c.sort_unstable_by.ensures.permutation ranked
+    sorted_by-map (entry_order c.args.descending) (entry_total c.args.descending) (entry_tied c.args.descending) entry_of
+    c.args.pairs.items _ c.sort_unstable_by.ensures.permutation
+    (c.sort_unstable_by.ensures.sorted (λ a b. is_lt (entry_order c.args.descending (entry_of a) (entry_of b)))
+    (ranks_by (entry_total c.args.descending) entry_of) (always_returns_same _ _ _ (λ a r g h. search rules)))
