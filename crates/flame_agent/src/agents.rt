@@ -2,9 +2,12 @@
 
 ghost use Rattle.std.specs.Prelude.{◌≡◌, IfOk};
 ghost use Rattle.flame_world.specs.Meaning.{outcome_under};
+ghost use Rattle.flame_world.specs.Settings.{boards_of};
 ghost use Rattle.flame_agent.specs.FunctionFits.{FitsFunction};
+ghost use Rattle.flame_agent.specs.ViewsForAll.{AreForAll};
 
 use crate::codes::code_of;
+use crate::shared::SharedViews;
 use crate::views::views_of;
 use flame_machine::Room;
 use flame_program::Program;
@@ -15,26 +18,28 @@ use flame_world::Setting;
 use std::alloc::Global;
 
 /// What the function of this number does for an agent with this memory, under this setting of the program (FLAME User
-/// Manual). Its code runs over the views of the boards, each of which is made once, before the run; a board that is read
-/// without a filter and a sort is read where it lies, and no row of a board is copied. The memory, the constants and the
-/// messages of the boards are as wide as the model declares. The room's lists are used and kept: whoever runs many agents
-/// keeps one room for all. `NoMemory` comes where none is found, and where 32 bits cannot number the function's inputs.
+/// Manual). Its code runs over the views of the boards: those that all agents share, and its own, each of which is made
+/// once, before the run; no row of a board is copied. The memory, the constants and the messages of the boards are as wide
+/// as the model declares. The room's lists are used and kept: whoever runs many agents keeps one room for all, and makes
+/// shared views once. `NoMemory` comes where none is found, and where 32 bits cannot number the function's inputs.
 pub fn run_agent(
     alloc: Global,
     room: &mut Room,
     program: &Program,
     setting: &Setting<'_>,
     function: u32,
+    shared: &SharedViews<'_>,
     memory: &Row,
 ) -> Result<Outcome, NoMemory>
     requires source { setting.now.source.now ≡ program.now }
     requires fits { FitsFunction program.now.model function setting.now memory.now }
+    requires shared { AreForAll program.now function (boards_of setting.now) shared.now }
     ensures { IfOk result (λ outcome. outcome ≡ outcome_under setting.now function memory.now) }
 {
     programs_mean();
     let _source = program.source();
     let code = code_of(program, setting, function, memory);
-    let mut views = views_of(alloc, program, setting, function, memory)?;
+    let mut views = views_of(alloc, program, setting, function, shared, memory)?;
     let outcome = room.run(
         code,
         program.helpers(),

@@ -3,7 +3,11 @@
 
 mod agents;
 mod codes;
+mod shared;
 mod views;
+mod wants;
 
 pub use agents::run_agent;
 pub use flame_machine::Room;
+pub use shared::{SharedViews, reads_memory};
+pub use wants::wanted_key;

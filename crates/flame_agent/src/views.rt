@@ -1,6 +1,6 @@
 //! What an agent reads: the views of the boards of a function's inputs.
 
-ghost use Rattle.std.specs.Prelude.{◌≡◌, IfOk, map};
+ghost use Rattle.std.specs.Prelude.{◌≡◌, ℤ, List, Some, IfOk, map, option_map};
 ghost use Rattle.flame_code.specs.Feeds.{not_begun};
 ghost use Rattle.flame_meaning.specs.Outcomes.{place_of};
 ghost use Rattle.flame_index.specs.FrozenBoards.{messages_on};
@@ -8,7 +8,9 @@ ghost use Rattle.flame_world.specs.Meaning.{readings_from};
 ghost use Rattle.flame_world.specs.Settings.{boards_of};
 ghost use Rattle.flame_agent.specs.FunctionFits.{FitsFunction};
 ghost use Rattle.flame_agent.specs.InputViews.{IsViewFor};
+ghost use Rattle.flame_agent.specs.ViewsForAll.{AreForAll, IsForAll};
 
+use crate::shared::SharedViews;
 use flame_index::Frozen;
 use flame_lookup::number;
 use flame_program::Program;
@@ -39,22 +41,52 @@ fn view_at<'a>(
     Ok(view)
 }
 
-/// The views of the setting's boards, of which no row has come.
+/// The same view: that which all agents share, if there is one, else the agent's own.
+fn shared_or_own<'a>(
+    alloc: Global,
+    program: &Program,
+    function: u32,
+    input: u32,
+    board: &'a Frozen,
+    shared: Option<&'a View<'a>>,
+    memory: &Row,
+) -> Result<View<'a>, NoMemory>
+    requires { (view : List (List ℤ)) → option_map (λ view. view.now) shared ≡ Some view
+        → IsForAll program.now function input (messages_on board.now) view }
+    ensures { IfOk result (λ view. IsViewFor program.now function input memory.now (messages_on board.now) view) }
+{
+    match shared {
+        Some(view) => Ok(view.shared()),
+        None => view_at(alloc, program, function, input, board, memory),
+    }
+}
+
+/// The views of the setting's boards, of which no row has come. Those that all agents share are not made anew.
 pub(crate) fn views_of<'a>(
     alloc: Global,
     program: &Program,
     setting: &Setting<'a>,
     function: u32,
+    shared: &'a SharedViews<'a>,
     memory: &Row,
 ) -> Result<Views<'a>, NoMemory>
-    requires { FitsFunction program.now.model function setting.now memory.now }
+    requires fits { FitsFunction program.now.model function setting.now memory.now }
+    requires shared { AreForAll program.now function (boards_of setting.now) shared.now }
     ensures { IfOk result (λ views. views ≡ map not_begun
         (readings_from (place_of program.now function) program.now.model memory.now (boards_of setting.now))) }
 {
     let boards = setting.boards.items();
     let mut views = Views::new(alloc);
     for i in 0..boards.len() {
-        let view = view_at(alloc, program, function, number(i)?, &boards[i], memory)?;
+        let view = shared_or_own(
+            alloc,
+            program,
+            function,
+            number(i)?,
+            &boards[i],
+            shared.view(i),
+            memory,
+        )?;
         views.push(view)?;
     }
     Ok(views)

@@ -7,7 +7,7 @@ ghost use Rattle.flame_progress.specs.KeptPools.{bag_of};
 ghost use Rattle.flame_core.specs.KeptFields.{board_bag};
 
 use flame_index::Frozen;
-use flame_progress::Gathering;
+use flame_progress::{Gathering, Want, keep};
 use flame_rows::{Bag, NoMemory, Row};
 use std::alloc::Global;
 use std::mem;
@@ -95,12 +95,17 @@ impl Board {
         }
     }
 
-    /// Freezes the board, and gives it to a reader.
-    pub(crate) fn freeze(&mut self, alloc: Global) -> Result<Arc<Frozen>, NoMemory>
+    /// Freezes the board, and gives it to a reader that wants this kept beside it.
+    pub(crate) fn freeze(
+        &mut self,
+        alloc: Global,
+        want: Option<Want>,
+    ) -> Result<Arc<Frozen>, NoMemory>
         ensures read { IfOk result (λ board. shared_messages board ≡ board_bag self.old) }
         ensures kept { OnOk result (board_bag self.new ≡ board_bag self.old) }
     {
-        let board = mem::replace(self, Board::empty(alloc)).into_frozen(alloc)?;
+        let mut board = mem::replace(self, Board::empty(alloc)).into_frozen(alloc)?;
+        keep(alloc, &mut board, want);
         let read = Arc::try_clone(&board)?;
         *self = Board::Frozen(board);
         Ok(read)

@@ -11,7 +11,7 @@ ghost use Rattle.flame_core.specs.KeptFields.{board_bag};
 
 use crate::boards::Board;
 use flame_index::Frozen;
-use flame_progress::Gathering;
+use flame_progress::{Gathering, Want, want_at};
 use flame_rows::{NoMemory, Row};
 use flame_spec::{Born, Sent};
 use std::alloc::Global;
@@ -101,11 +101,12 @@ pub(crate) fn send(alloc: Global, boards: &mut Vec<Board>, sent: Vec<Sent>) -> R
     Ok(())
 }
 
-/// The boards of these messages, frozen, in this order.
+/// The boards of these messages, frozen, in this order, with what is wanted of each beside it.
 pub(crate) fn freeze(
     alloc: Global,
     boards: &mut Vec<Board>,
     messages: &[u32],
+    wants: &[Option<Want>],
 ) -> Result<Vec<Arc<Frozen>>, NoMemory>
     requires { All (λ message. message < length boards.old.items) messages.now }
     ensures read { IfOk result (λ frozen. map shared_messages frozen.items
@@ -114,7 +115,8 @@ pub(crate) fn freeze(
 {
     let mut frozen = Vec::new(alloc);
     for message in messages {
-        frozen.push(boards[*message as usize].freeze(alloc)?)?;
+        let want = want_at(wants, frozen.len());
+        frozen.push(boards[*message as usize].freeze(alloc, want)?)?;
     }
     Ok(frozen)
 }

@@ -23,7 +23,7 @@ use crate::parting::part;
 use crate::rounds::Round;
 use crate::steps::route_of;
 use crate::takers::fault_of;
-use flame_agent::{Room, run_agent};
+use flame_agent::{Room, SharedViews, run_agent};
 use flame_events::Event;
 use flame_index::Frozen;
 use flame_program::Program;
@@ -114,7 +114,10 @@ fn run_alone(
     ensures { IfOk result (λ o. o ≡ outcome_under setting.now function memory.now) }
 {
     let mut room = Room::new(alloc);
-    let outcome = run_agent(alloc, &mut room, program, setting, function, memory)?;
+    let shared = SharedViews::of(alloc, program, setting, function, 1)?;
+    let outcome = run_agent(
+        alloc, &mut room, program, setting, function, &shared, memory,
+    )?;
     Ok(outcome)
 }
 

@@ -16,13 +16,15 @@ ghost use Rattle.flame_core.specs.KeptShares.{IsFed};
 
 use crate::rounds::Round;
 use crate::steps::route_of;
+use crate::wants::{single_readers, wants_of};
 use flame_index::Frozen;
 use flame_progress::{Progress, share};
 use flame_rows::{NoMemory, Seq};
 use std::alloc::Global;
 use std::sync::Arc;
 
-/// The boards of the inputs of a function that began, in their order. Nothing else changes.
+/// The boards of the inputs of a function that began, in their order, with what helps its agents to find their messages
+/// beside them. Nothing else changes.
 pub(crate) fn input_boards(
     alloc: Global,
     round: &Round<'_>,
@@ -42,5 +44,8 @@ pub(crate) fn input_boards(
         → Came round.now.program.now.model (core_of progress.old) progress.new counts }
 {
     let route = route_of(round, function);
-    Ok(Seq::of(share(alloc, &mut progress.boards, route.inputs.items())?))
+    let inputs = route.inputs.items();
+    let readers = single_readers(progress, function);
+    let wants = wants_of(alloc, round.program, function, inputs.len(), readers);
+    Ok(Seq::of(share(alloc, &mut progress.boards, inputs, &wants)?))
 }

@@ -17,6 +17,7 @@ mod runners;
 mod starting;
 mod steps;
 mod takers;
+mod wants;
 
 pub use cores::Core;
 pub use faults::StepFault;

@@ -23,6 +23,7 @@ use crate::fields::{Field, arrive, bear, exchange, freeze, send};
 use crate::parting::part;
 use crate::rounds::Round;
 use crate::takers::{Left, Ran, run_named};
+use crate::wants::{Readers, wants_of};
 use flame_index::Frozen;
 use flame_progress::Gathering;
 use flame_route::Route;
@@ -142,8 +143,14 @@ pub(crate) fn step(
 {
     let mut field = field;
     let route = route_of(round, function);
-    let boards = freeze(alloc, &mut field.boards, route.inputs.items())?;
     let takers = leave(alloc, round, function, route, &mut field.pools)?;
+    let inputs = route.inputs.items();
+    let readers = Readers {
+        agents: takers.rows().len(),
+        pieces: 1,
+    };
+    let wants = wants_of(alloc, round.program, function, inputs.len(), readers);
+    let boards = freeze(alloc, &mut field.boards, inputs, &wants)?;
     match run(alloc, round, function, &takers, boards)? {
         Ran::Faulted(fault) => Ok(Stepped::Faulted(fault)),
         Ran::Left(left) => Ok(Stepped::On(settle(alloc, route, field, left)?)),

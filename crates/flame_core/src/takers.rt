@@ -11,7 +11,7 @@ ghost use Rattle.flame_world.specs.Meaning.{outcome_under};
 ghost use Rattle.flame_world.specs.Settings.{boards_of};
 ghost use Rattle.flame_core.specs.TakerRuns.{Leaves};
 
-use flame_agent::{Room, run_agent};
+use flame_agent::{Room, SharedViews, run_agent};
 use flame_program::Program;
 use flame_rows::{NoMemory, Row};
 use flame_spec::{Born, Effect, Fault, Outcome, Sent};
@@ -105,8 +105,11 @@ fn run_takers(
 {
     let mut left = Left::nothing(alloc);
     let mut room = Room::new(alloc);
+    let shared = SharedViews::of(alloc, program, setting, function, takers.len())?;
     for memory in takers {
-        match run_agent(alloc, &mut room, program, setting, function, memory)? {
+        match run_agent(
+            alloc, &mut room, program, setting, function, &shared, memory,
+        )? {
             Outcome::Ended(effect) => left.add(effect)?,
             Outcome::Faulted(fault) => {
                 let fault = fault_of(setting, function, memory, fault)?;

@@ -2,9 +2,11 @@
 
 ghost use Rattle.std.specs.Prelude.{◌≡◌, [], true, false, Some, None, IfOk, OnOk, OnErr, option_map, if◌then◌else◌};
 ghost use Rattle.std.specs.Arc.{arc_value};
+ghost use Rattle.flame_rows.specs.Bags.{ascending};
 ghost use Rattle.flame_index.specs.FrozenBoards.{messages_on, shared_messages};
 ghost use Rattle.flame_progress.specs.KeptBoards.{board_bag, is_board_frozen, is_board_shared};
 
+use crate::keeping::{Want, keep};
 use flame_index::Frozen;
 use flame_rows::{Bag, NoMemory, Row};
 use std::alloc::Global;
@@ -20,6 +22,13 @@ pub enum Board {
     Frozen(Frozen),
     /// The same, where those who read it may share it.
     Shared(Arc<Frozen>),
+}
+
+/// Puts rows in order, where memory is found. std's sort keeps the runs that ascend already, and merges them.
+fn put_in_order(rows: &mut Vec<Row>)
+    ensures { ascending rows.new.items ≡ ascending rows.old.items }
+{
+    let _sorted = rows.sort();
 }
 
 /// The board, moved to where it may be shared.
@@ -74,7 +83,20 @@ impl Board {
         }
     }
 
-    /// No message comes any more: the board is put in order, which takes no memory.
+    /// Puts the messages that gathered so far in order, where memory is found.
+    pub(crate) fn put_in_order(&mut self)
+        ensures bag { board_bag self.new ≡ board_bag self.old }
+        ensures frozen { is_board_frozen self.new ≡ is_board_frozen self.old }
+    {
+        match self {
+            Board::Gathering(rows) => put_in_order(rows),
+            Board::Frozen(_) => {}
+            Board::Shared(_) => {}
+        }
+    }
+
+    /// No message comes any more: the board is put in order, which takes no memory. Where it is in order already, as
+    /// the last piece to hand in leaves it, this goes over it once.
     pub(crate) fn freeze(&mut self)
         ensures bag { board_bag self.new ≡ board_bag self.old }
         ensures frozen { is_board_frozen self.new ≡ true }
@@ -112,14 +134,33 @@ impl Board {
         }
     }
 
-    /// The board, which is frozen, to be read.
-    pub(crate) fn share(&mut self, alloc: Global) -> Result<Arc<Frozen>, NoMemory>
+    /// Keeps beside a board that may be shared what is wanted.
+    fn keep(&mut self, alloc: Global, want: Option<Want>)
+        requires { is_board_shared self.old ≡ true }
+        ensures bag { board_bag self.new ≡ board_bag self.old }
+        ensures frozen { is_board_frozen self.new ≡ true }
+        ensures shared { is_board_shared self.new ≡ true }
+    {
+        match self {
+            Board::Gathering(_) => unreachable!(),
+            Board::Frozen(_) => unreachable!(),
+            Board::Shared(board) => keep(alloc, board, want),
+        }
+    }
+
+    /// The board, which is frozen, to be read by those who want this kept beside it.
+    pub(crate) fn share(
+        &mut self,
+        alloc: Global,
+        want: Option<Want>,
+    ) -> Result<Arc<Frozen>, NoMemory>
         requires { is_board_frozen self.old ≡ true }
         ensures read { IfOk result (λ board. shared_messages board ≡ board_bag self.old) }
         ensures bag { board_bag self.new ≡ board_bag self.old }
         ensures frozen { is_board_frozen self.new ≡ true }
     {
         self.make_shared(alloc)?;
+        self.keep(alloc, want);
         self.reader()
     }
 

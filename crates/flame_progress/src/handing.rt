@@ -75,6 +75,24 @@ fn hand_over_piece(
     Ok(())
 }
 
+/// Whether the piece handed in its messages of this type.
+fn has_handed_in(work: &Work, message: u32) -> bool {
+    work.outputs
+        .iter()
+        .all(|output| output.message != message || output.handed)
+}
+
+/// Puts a board in order once all these pieces handed in their messages of this type, so that nothing is left to do for it
+/// where no memory may be taken. Pieces hand in from the first to the last mostly, so the last is asked first.
+fn order_at_last(works: &[Work], message: u32, board: &mut Board)
+    ensures bag { board_bag board.new ≡ board_bag board.old }
+    ensures frozen { is_board_frozen board.new ≡ is_board_frozen board.old }
+{
+    if works.iter().rev().all(|work| has_handed_in(work, message)) {
+        board.put_in_order();
+    }
+}
+
 /// The same of a piece of a function that is this far.
 fn hand_over_function(
     alloc: Global,
@@ -105,6 +123,7 @@ fn hand_over_function(
         Status::Waiting => unreachable!(),
         Status::Open(works) => {
             hand_over_piece(alloc, works, piece, message, board)?;
+            order_at_last(works, message, board);
             Ok(())
         }
         Status::Shut => unreachable!(),

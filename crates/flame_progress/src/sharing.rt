@@ -6,16 +6,19 @@ ghost use Rattle.flame_index.specs.FrozenBoards.{shared_messages};
 ghost use Rattle.flame_progress.specs.KeptBoards.{board_bag, is_board_frozen};
 
 use crate::boards::Board;
+use crate::keeping::{Want, want_at};
 use flame_index::Frozen;
 use flame_rows::NoMemory;
 use std::alloc::Global;
 use std::sync::Arc;
 
-/// The boards of these messages, which are frozen, to be read, in this order.
+/// The boards of these messages, which are frozen, to be read, in this order. Beside each is kept what is wanted of it, in
+/// the same order, where that pays, memory is found, and nobody else reads the board.
 pub fn share(
     alloc: Global,
     boards: &mut Vec<Board>,
     messages: &[u32],
+    wants: &[Option<Want>],
 ) -> Result<Vec<Arc<Frozen>>, NoMemory>
     requires known { All (λ message. message < length boards.old.items) messages.now }
     requires frozen { All (λ message. slice_index_or (map is_board_frozen boards.old.items) message false ≡ true)
@@ -27,7 +30,8 @@ pub fn share(
 {
     let mut shared = Vec::new(alloc);
     for message in messages {
-        shared.push(boards[*message as usize].share(alloc)?)?;
+        let want = want_at(wants, shared.len());
+        shared.push(boards[*message as usize].share(alloc, want)?)?;
     }
     Ok(shared)
 }

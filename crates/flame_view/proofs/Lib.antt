@@ -1,3 +1,7 @@
-pub mod Unsorted
+pub mod Filtered
+pub mod Alike
+pub mod FirstColumns
+pub mod Placed
+pub mod Narrowed
 pub mod AsWritten
 pub mod Moving

@@ -4,3 +4,4 @@ pub mod Compiled
 pub mod Cursors
 -- The words that only bodies and proofs use.
 pub mod ViewRows
+pub mod ViewWays

@@ -4,7 +4,11 @@
 mod inputs;
 pub mod laws;
 mod order;
+mod picks;
+mod ranges;
 mod shown;
+mod viewing;
+mod ways;
 
 pub use inputs::Views;
 pub use shown::View;

@@ -21,13 +21,13 @@ route_of-route-requires c = c.requires.fed.there c.requires.began
 
 pub share-requires-clause-known : goal.share-requires-clause-known
 share-requires-clause-known c =
-    subst (All (λ m. m < length c.args.progress.now.boards.items)) (sym c.items.ensures)
+    subst (All (λ m. m < length c.args.progress.now.boards.items)) (sym c.items-inputs.ensures)
     (fed_known c.args.round.now.program.now.model c.args.progress.now c.args.function c.route_of-route.result.now
     c.route_of-route.ensures c.requires.fed c.requires.began)
 
 pub share-requires-clause-frozen : goal.share-requires-clause-frozen
 share-requires-clause-frozen c =
-    subst (All (λ m. is_frozen (core_of c.args.progress.now) m ≡ true)) (sym c.items.ensures)
+    subst (All (λ m. is_frozen (core_of c.args.progress.now) m ≡ true)) (sym c.items-inputs.ensures)
     (fed_frozen c.args.round.now.program.now.model c.args.progress.now c.args.function c.route_of-route.result.now
     c.route_of-route.ensures c.requires.fed c.requires.began)
 
@@ -37,7 +37,7 @@ returns-clause-read c =
     let boards = map board_bag c.args.progress.now.boards.items in
     let goes = c.route_of-route.ensures in
     let read = ap (map shared_messages) c.of.ensures ∙ c.in_ok-share.ensures.read
-    ∙ ap (map (λ message. slice_index_or boards message [])) c.items.ensures in
+    ∙ ap (map (λ message. slice_index_or boards message [])) c.items-inputs.ensures in
     frozen-named source c.args.function goes.place c.route_of-route.result.now.inputs boards _ goes.there
     goes.routed.inputs read
 
@@ -47,7 +47,7 @@ returns-clause-wide c = λ place at fits.
     let boards = map board_bag c.args.progress.now.boards.items in
     let goes = c.route_of-route.ensures in
     let read = ap (map shared_messages) c.of.ensures ∙ c.in_ok-share.ensures.read
-    ∙ ap (map (λ message. slice_index_or boards message [])) c.items.ensures in
+    ∙ ap (map (λ message. slice_index_or boards message [])) c.items-inputs.ensures in
     let wide = frozen-wide model goes.place c.route_of-route.result.now.inputs boards _ fits goes.routed.inputs read in
     subst (λ (p : Place). AreBoardsFor model p.function.inputs (map shared_messages c.of.result))
     (some_place _ _ (sym goes.there ∙ at)) wide

@@ -33,8 +33,8 @@ freeze-requires c =
     let count : length model.messages ≡ length c.args.field.boards.items =
     zip-length _ model.messages (map board_bag c.args.field.boards.items) c.requires.fits.boards
     ∙ length-map c.args.field.boards.items board_bag in
-    subst (λ n. All (λ number. number < n) c.items.result.now) count
-    (subst (λ list. All (λ number. number < length model.messages) list) (sym c.items.ensures) all)
+    subst (λ n. All (λ number. number < n) c.items-inputs.result.now) count
+    (subst (λ list. All (λ number. number < length model.messages) list) (sym c.items-inputs.ensures) all)
 
 pub leave-requires-clause-pools : goal.leave-requires-clause-pools
 leave-requires-clause-pools c =
@@ -45,7 +45,7 @@ pub run-requires : goal.run-requires
 run-requires c =
     let model = c.args.round.now.program.now.model in
     let goes = c.route_of-route.ensures in
-    let read = c.in_ok-boards.ensures.read ∙ ap (map (λ message. slice_index_or (map board_bag c.args.field.boards.items) message [])) c.items.ensures in
+    let read = c.in_ok-boards.ensures.read ∙ ap (map (λ message. slice_index_or (map board_bag c.args.field.boards.items) message [])) c.items-inputs.ensures in
     record {
       fits = record {
         place = goes.place;
@@ -80,7 +80,7 @@ settle-requires-clause-births c =
     let source = round.program.now in
     let goes = c.route_of-route.ensures in
     let all = map board_bag c.args.field.boards.items in
-    let read = c.in_ok-boards.ensures.read ∙ ap (map (λ message. slice_index_or all message [])) c.items.ensures in
+    let read = c.in_ok-boards.ensures.read ∙ ap (map (λ message. slice_index_or all message [])) c.items-inputs.ensures in
     let named = frozen-named source c.args.function goes.place c.route_of-route.result.now.inputs all _ goes.there goes.routed.inputs read in
     let run : List ℤ → Outcome = λ memory. outcome source c.args.function memory all round.constants.now round.iteration round.fuel in
     let left : Leaves round.iteration c.args.function run c.in_ok-takers.takers (Left c.in-Left.left) =
@@ -97,7 +97,7 @@ settle-requires-clause-messages c =
     let source = round.program.now in
     let goes = c.route_of-route.ensures in
     let all = map board_bag c.args.field.boards.items in
-    let read = c.in_ok-boards.ensures.read ∙ ap (map (λ message. slice_index_or all message [])) c.items.ensures in
+    let read = c.in_ok-boards.ensures.read ∙ ap (map (λ message. slice_index_or all message [])) c.items-inputs.ensures in
     let named = frozen-named source c.args.function goes.place c.route_of-route.result.now.inputs all _ goes.there goes.routed.inputs read in
     let run : List ℤ → Outcome = λ memory. outcome source c.args.function memory all round.constants.now round.iteration round.fuel in
     let left : Leaves round.iteration c.args.function run c.in_ok-takers.takers (Left c.in-Left.left) =
@@ -117,7 +117,7 @@ returns-in-Faulted c =
     let goes = c.route_of-route.ensures in
     let field = field_of c.args.field in
     let all = map board_bag c.args.field.boards.items in
-    let read = c.in_ok-boards.ensures.read ∙ ap (map (λ message. slice_index_or all message [])) c.items.ensures in
+    let read = c.in_ok-boards.ensures.read ∙ ap (map (λ message. slice_index_or all message [])) c.items-inputs.ensures in
     let named = frozen-named source c.args.function goes.place c.route_of-route.result.now.inputs all _ goes.there goes.routed.inputs read in
     let run : List ℤ → Outcome = outcome_in (round_of round) c.args.function field in
     let took : c.in_ok-takers.takers ≡ taking (round_of round) c.args.function goes.place field =
@@ -135,7 +135,7 @@ returns-in_ok-settle-in-Left c =
     let route = c.route_of-route.result.now in
     let field = field_of c.args.field in
     let all = map board_bag c.args.field.boards.items in
-    let read = c.in_ok-boards.ensures.read ∙ ap (map (λ message. slice_index_or all message [])) c.items.ensures in
+    let read = c.in_ok-boards.ensures.read ∙ ap (map (λ message. slice_index_or all message [])) c.items-inputs.ensures in
     let named = frozen-named source c.args.function goes.place route.inputs all _ goes.there goes.routed.inputs read in
     let run : List ℤ → Outcome = outcome_in (round_of round) c.args.function field in
     let took : c.in_ok-takers.takers ≡ taking (round_of round) c.args.function goes.place field =

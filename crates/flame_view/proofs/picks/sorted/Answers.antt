@@ -6,7 +6,7 @@ use Rattle.flame_rows.proofs.Sorting.{sorted_by-map}
 use Rattle.flame_spec.specs.Views.{view_order}
 use Rattle.flame_spec.proofs.Viewed.{view_total, view_tied}
 use Rattle.flame_cond.specs.Said.{key_by}
-use Rattle.flame_view.proofs.shown.sorted.Goals as goal
+use Rattle.flame_view.proofs.picks.sorted.Goals as goal
 
 pub returns : goal.returns
 returns c =

@@ -1,7 +1,7 @@
 use Rattle.std.proofs.Common.{◌≡◌, take, map}
 use Rattle.std.specs.Option.{option_copied}
 use Rattle.flame_view.specs.Compiled.{picked_by}
-use Rattle.flame_view.proofs.shown.picked.Given as goal
+use Rattle.flame_view.proofs.picks.picked.Given as goal
 
 abbrev pub invariant-loop-row : goal.invariant-loop-row
 invariant-loop-row l =

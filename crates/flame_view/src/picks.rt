@@ -1,0 +1,107 @@
+//! Rows that pass a filter, and rows that are sorted.
+
+ghost use Rattle.std.specs.Prelude.{◌≡◌, map, Some, IfOk};
+ghost use Rattle.std.specs.Option.{option_copied};
+ghost use Rattle.flame_rows.specs.Sorted.{sorted_by};
+ghost use Rattle.flame_spec.specs.Views.{view_order};
+ghost use Rattle.flame_cond.specs.Said.{key_by};
+ghost use Rattle.flame_view.specs.Compiled.{picked_by};
+ghost use Rattle.flame_view.specs.ViewWays.{in_order_of};
+
+use crate::order::compare;
+use crate::shown::View;
+use flame_cond::{Filter, SortBy};
+use flame_rows::{NoMemory, Row};
+use std::alloc::Global;
+use std::cmp::Ordering;
+
+/// The rows that pass the filter with this memory, in the order in which they lie.
+fn picked<'a>(
+    alloc: Global,
+    rows: &'a [Row],
+    filter: Option<&Filter>,
+    memory: &Row,
+) -> Result<Vec<&'a Row>, NoMemory>
+    ensures { IfOk result (λ picked.
+        map (λ row. row.now) picked.items ≡ picked_by (option_copied filter.entry) memory.now rows.now) }
+{
+    let mut picked: Vec<&'a Row> = Vec::new(alloc);
+    for row in rows {
+        if filter.is_none_or(|filter| filter.passes(memory, row)) {
+            picked.push(row)?;
+        }
+    }
+    Ok(picked)
+}
+
+/// The same of rows that need not lie beside each other.
+fn picked_of<'a>(
+    alloc: Global,
+    rows: &View<'a>,
+    filter: Option<&Filter>,
+    memory: &Row,
+) -> Result<Vec<&'a Row>, NoMemory>
+    ensures { IfOk result (λ passed.
+        map (λ row. row.now) passed.items ≡ picked_by (option_copied filter.entry) memory.now rows.now) }
+{
+    let mut passed: Vec<&'a Row> = Vec::new(alloc);
+    for place in 0..rows.len() {
+        let row = rows.row(place);
+        if filter.is_none_or(|filter| filter.passes(memory, row)) {
+            passed.push(row)?;
+        }
+    }
+    Ok(passed)
+}
+
+/// The rows of a view that pass, in its order.
+fn passed<'a>(
+    alloc: Global,
+    rows: &View<'a>,
+    filter: Option<&Filter>,
+    memory: &Row,
+) -> Result<Vec<&'a Row>, NoMemory>
+    ensures { IfOk result (λ passed.
+        map (λ row. row.now) passed.items ≡ picked_by (option_copied filter.entry) memory.now rows.now) }
+{
+    match rows.lying() {
+        Some(lying) => picked(alloc, lying, filter, memory),
+        None => picked_of(alloc, rows, filter, memory),
+    }
+}
+
+/// The rows in the order of the key.
+fn sorted<'a>(rows: Vec<&'a Row>, by: SortBy) -> Result<Vec<&'a Row>, NoMemory>
+    ensures { IfOk result (λ sorted. map (λ row. row.now) sorted.items
+        ≡ sorted_by (view_order (Some (key_by by))) (map (λ row. row.now) rows.entry.items)) }
+{
+    let mut rows = rows;
+    rows.sort_by(
+        |a: &&Row, b: &&Row| -> Ordering
+            ensures { result ≡ view_order (Some (key_by by)) a.now.now b.now.now }
+        { compare(by, a, b) },
+    )?;
+    Ok(rows)
+}
+
+/// The rows of a view that pass what is left of a filter, in its order or sorted anew. Where there is neither a filter
+/// nor a sort no memory is taken.
+pub fn narrowed<'a>(
+    alloc: Global,
+    rows: View<'a>,
+    filter: Option<&Filter>,
+    sort: Option<SortBy>,
+    memory: &Row,
+) -> Result<View<'a>, NoMemory>
+    ensures { IfOk result (λ view.
+        view ≡ in_order_of sort (picked_by (option_copied filter.entry) memory.now rows.entry)) }
+{
+    if let Some(by) = sort {
+        let passed = passed(alloc, &rows, filter, memory)?;
+        return Ok(View::picked(sorted(passed, by)?));
+    }
+    if filter.is_none() {
+        return Ok(rows);
+    }
+    Ok(View::picked(passed(alloc, &rows, filter, memory)?))
+}
