@@ -6,7 +6,7 @@ use Rattle.std.specs.Cmp.{signed_Decides}
 use Rattle.std.proofs.Math.Nat.{pow-succ'}
 use Rattle.std.proofs.lemmas.Bool.{cases_lt}
 use Rattle.std.proofs.lemmas.Int.{ints}
-use Rattle.std.proofs.lemmas.Option.{slice_get-map, slice_get-get_or, slice_get_within}
+use Rattle.std.proofs.lemmas.Option.{slice_get-map, slice_get-get_or}
 use Rattle.flame_rows.specs.Sorted.{IsAscending}
 use Rattle.flame_rows.proofs.Sorting.{IsAscending-sorted_by}
 use Rattle.flame_cond.specs.Equalities.{has_value}
@@ -58,12 +58,6 @@ module _ (values : List ℤ) (through : Bool) (wanted : ℤ) where
   abbrev pub IsLeftFrom : ℕ → Type 0
   IsLeftFrom high = (at : ℕ) (value : ℤ) → slice_get values at ≡ Some value → high ≤ at → is_passed through wanted value ≡ false
 
-  pub none_passed : IsPassedBelow 0
-  none_passed at value there less = absurd (omega (arith, less))
-
-  pub none_left : IsLeftFrom (length values)
-  none_left at value there least = absurd (omega (arith, least, slice_get_within values at value there))
-
   module _ (up : IsAscending int_cmp values) (middle : ℕ) (found : ℤ) (there : slice_get values middle ≡ Some found) where
     pub passed_to : is_passed through wanted found ≡ true → IsPassedBelow (middle + 1)
     passed_to passed at value here less =
@@ -90,16 +84,6 @@ module _ (values : List ℤ) (through : Bool) (wanted : ℤ) where
         subst (λ v. is_passed through wanted v ≡ false) equal stays)
         (cases_lt middle at)
 
-  -- where both meet, a place lies before it exactly where its value is passed
-  pub both_sides : (bound : ℕ) → IsPassedBelow bound → IsLeftFrom bound
-      → (at : ℕ) (value : ℤ) → slice_get values at ≡ Some value → (at < bound) ↔ IsTrue (is_passed through wanted value)
-  both_sides bound passed stays at value there = (
-    passed at value there,
-    λ h. ⊎_elim
-        (λ (less : at < bound). less)
-        (λ (least : bound ≤ at). absurd (true≢false (sym h ∙ stays at value there least)))
-        (cases_lt at bound),
-  )
 
 -- ---- how many probes it takes
 
@@ -108,9 +92,6 @@ pub record IsLeft (d old now low high : ℕ) : Type 0 where
   pub left : ℕ
   pub bound : now + left ≤ old + d
   pub width : high < low + 2 ^ left
-
-pub all_left : (d now length : ℕ) → length < 2 ^ d → IsLeft d now now 0 length
-all_left d now length less = record { left = d; bound = omega arith; width = omega (arith, less) }
 
 above : (d old now low high left : ℕ) → low < high → now + left ≤ old + d → high < low + 2 ^ left → IsLeft d old (now + 1) (low + (high - low) / 2 + 1) high
 above d old now low high zero less bound width = absurd (omega (arith, less, width))
@@ -127,9 +108,6 @@ left_above d old now low high less so = above d old now low high so.left less so
 
 pub left_below : (d old now low high : ℕ) → low < high → IsLeft d old now low high → IsLeft d old (now + 1) low (low + (high - low) / 2)
 left_below d old now low high less so = below d old now low high so.left less so.bound so.width
-
-pub none_over : (d old now low high : ℕ) → IsLeft d old now low high → now ≤ old + d
-none_over d old now low high so = omega (arith, so.bound)
 
 -- ---- the range of one value
 
