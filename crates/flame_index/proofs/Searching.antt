@@ -84,7 +84,6 @@ module _ (values : List ℤ) (through : Bool) (wanted : ℤ) where
         subst (λ v. is_passed through wanted v ≡ false) equal stays)
         (cases_lt middle at)
 
-
 -- ---- how many probes it takes
 
 -- so many are left of d probes, since there were old ones, and they halve what lies between the bounds to nothing
