@@ -248,7 +248,7 @@ pub(crate) fn happen(
             Ok(())
         }
         Event::HandIn(function, piece, message) => {
-            hand_in(alloc, progress, function, piece, message)?;
+            hand_in(alloc, progress, &counts.outputs, function, piece, message)?;
             Ok(())
         }
         Event::Shut(function) => {

@@ -1,10 +1,10 @@
 //! What waits for what.
 
-ghost use Rattle.std.specs.Prelude.{◌≡◌, ℕ, ◌+◌, ◌<◌, ◌≤◌, false, IfOk, OnOk, OnErr, length, map, replicate};
+ghost use Rattle.std.specs.Prelude.{◌≡◌, ℕ, ◌+◌, ◌<◌, ◌≤◌, nat_le, false, IfOk, OnOk, OnErr, length, map, replicate};
 ghost use Rattle.std.specs.Prelude.{slice_index};
-ghost use Rattle.std.specs.List.{All};
+ghost use Rattle.std.specs.List.{All, sum_by};
 ghost use Rattle.flame_spec.specs.Below.{times};
-ghost use Rattle.flame_pieces.specs.Waiting.{awaited, thing_at, is_free, unwaited, waited_by, with_waiter, with_done};
+ghost use Rattle.flame_pieces.specs.Waiting.{awaited, thing_at, is_free, open_times, unwaited, waited_by, with_waiter, with_done};
 
 use flame_rows::NoMemory;
 use std::alloc::Global;
@@ -119,5 +119,22 @@ impl Waits {
         ensures { result ≡ is_free self.now waiter }
     {
         self.counts[waiter as usize] == 0
+    }
+
+    /// Whether the one of this number waits for one thing at most that is not done, and was told so once.
+    pub fn is_nearly_free(&self, waiter: u32) -> bool
+        ensures { result ≡ nat_le (sum_by (open_times waiter) self.now.things) 1 }
+    {
+        self.count(waiter) <= 1
+    }
+
+    /// How many things it waits for that are not done, each as often as it was told.
+    fn count(&self, waiter: u32) -> u32
+        ensures { result ≡ sum_by (open_times waiter) self.now.things }
+    {
+        match self.counts.get(waiter as usize) {
+            Some(count) => *count,
+            None => 0,
+        }
     }
 }

@@ -96,7 +96,7 @@ impl Board {
     }
 
     /// No message comes any more: the board is put in order, which takes no memory. Where it is in order already, as
-    /// the last piece to hand in leaves it, this goes over it once.
+    /// the last piece to hand in mostly leaves it, this goes over it once.
     pub(crate) fn freeze(&mut self)
         ensures bag { board_bag self.new ≡ board_bag self.old }
         ensures frozen { is_board_frozen self.new ≡ true }

@@ -14,6 +14,7 @@ ghost use Rattle.flame_progress.specs.Tallying.{Came, Tallies};
 
 use crate::counts::Counts;
 use crate::progress::Progress;
+use flame_pieces::Waits;
 use flame_rows::NoMemory;
 use std::alloc::Global;
 
@@ -46,10 +47,12 @@ pub fn freeze(progress: &mut Progress, counts: &mut Counts, message: u32)
     counts.freeze(message);
 }
 
-/// A piece of a function hands in its messages of this type, whose board gathers.
+/// A piece of a function hands in its messages of this type, whose board gathers and waits for these functions that output
+/// them.
 pub fn hand_in(
     alloc: Global,
     progress: &mut Progress,
+    outputs: &Waits,
     function: u32,
     piece: u32,
     message: u32,
@@ -68,6 +71,7 @@ pub fn hand_in(
         → Tallies round.source.model progress.old counts
         → Came round.source.model (core_of progress.old) progress.new counts) }
 {
-    progress.hand_in(alloc, function, piece, message)?;
+    let is_last = outputs.is_nearly_free(message);
+    progress.hand_in(alloc, function, piece, message, is_last)?;
     Ok(())
 }

@@ -82,24 +82,26 @@ fn has_handed_in(work: &Work, message: u32) -> bool {
         .all(|output| output.message != message || output.handed)
 }
 
-/// Puts a board in order once all these pieces handed in their messages of this type, so that nothing is left to do for it
-/// where no memory may be taken. Pieces hand in from the first to the last mostly, so the last is asked first.
-fn order_at_last(works: &[Work], message: u32, board: &mut Board)
+/// Puts a board in order once all these pieces handed in their messages of this type, where no other function may send more,
+/// so that nothing is left to do for it where no memory may be taken. Pieces hand in from the first to the last mostly, so
+/// the last is asked first.
+fn order_at_last(works: &[Work], message: u32, board: &mut Board, is_last: bool)
     ensures bag { board_bag board.new ≡ board_bag board.old }
     ensures frozen { is_board_frozen board.new ≡ is_board_frozen board.old }
 {
-    if works.iter().rev().all(|work| has_handed_in(work, message)) {
+    if is_last && works.iter().rev().all(|work| has_handed_in(work, message)) {
         board.put_in_order();
     }
 }
 
-/// The same of a piece of a function that is this far.
+/// The same of a piece of a function that is this far, which may be the last that sends messages of this type.
 fn hand_over_function(
     alloc: Global,
     status: &mut Status,
     piece: u32,
     message: u32,
     board: &mut Board,
+    is_last: bool,
 ) -> Result<(), NoMemory>
     requires there { piece < length (works_of (status_of status.old)) }
     requires once { OutputsOnce status.old }
@@ -123,7 +125,7 @@ fn hand_over_function(
         Status::Waiting => unreachable!(),
         Status::Open(works) => {
             hand_over_piece(alloc, works, piece, message, board)?;
-            order_at_last(works, message, board);
+            order_at_last(works, message, board, is_last);
             Ok(())
         }
         Status::Shut => unreachable!(),
@@ -138,6 +140,7 @@ pub(crate) fn hand_over_at(
     piece: u32,
     message: u32,
     boards: &mut Vec<Board>,
+    is_last: bool,
 ) -> Result<(), NoMemory>
     requires there { piece < length (works_of (status_of status.old)) }
     requires known { message < length boards.old.items }
@@ -158,6 +161,13 @@ pub(crate) fn hand_over_at(
     ensures same_boards { OnErr result (map board_bag boards.new.items ≡ map board_bag boards.old.items) }
     ensures same_status { OnErr result (status_of status.new ≡ status_of status.old) }
 {
-    hand_over_function(alloc, status, piece, message, &mut boards[message as usize])?;
+    hand_over_function(
+        alloc,
+        status,
+        piece,
+        message,
+        &mut boards[message as usize],
+        is_last,
+    )?;
     Ok(())
 }

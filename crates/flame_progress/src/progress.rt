@@ -225,13 +225,15 @@ impl Progress {
         Ok(())
     }
 
-    /// A piece of a function hands in its messages of this type, whose board gathers.
+    /// A piece of a function hands in its messages of this type, whose board gathers. Where no other function may send
+    /// more, the last piece puts the board in order, if memory is found.
     pub(crate) fn hand_in(
         &mut self,
         alloc: Global,
         function: u32,
         piece: u32,
         message: u32,
+        is_last: bool,
     ) -> Result<(), NoMemory>
         requires known { function < length self.old.statuses.items }
         requires there { piece < length (works_of (status_of (core_of self.old) function)) }
@@ -258,6 +260,7 @@ impl Progress {
             piece,
             message,
             &mut self.boards,
+            is_last,
         )?;
         Ok(())
     }
