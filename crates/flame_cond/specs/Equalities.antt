@@ -23,8 +23,8 @@ equal_value (Memory column) memory = number_at memory column
 abbrev pub has_value : ℕ → ℤ → List ℤ → Bool
 has_value column value row = int_eq (number_at row column) value
 
--- what two things are compared for that are to be equal: a column of the row, on either side, and a number or a column of
--- the memory; any other two fix no column [own]
+-- what two things ask for where they are to be equal: a column of the row, on either side, is to have a number or the
+-- number in a column of the memory; any other two fix no column [own]
 abbrev pub equality_between : Term → Term → Option Equality
 equality_between (Row column) (Literal number) = Some (record { column = column; equal = Number number })
 equality_between (Row column) (Remembered place) = Some (record { column = column; equal = Memory place })
@@ -69,7 +69,7 @@ reads_memory (timing period phase duration) = is_remembered phase
 
 -- ---- laws
 
--- a row that passes has the number that is asked for in the column of the first equality
+-- a row that passes has the number that is asked for in the column of the first equality [own]
 abbrev pub PassingIsEqual : Type 0
 PassingIsEqual =
     (test : Test) (equality : Equality) (memory row : List ℤ)
@@ -77,7 +77,7 @@ PassingIsEqual =
     → IsTrue (passes test memory row)
     → number_at row equality.column ≡ equal_value equality.equal memory
 
--- under a test that is one equality a row passes exactly where it has that number
+-- under a test that is one equality a row passes exactly where it has that number [own]
 abbrev pub OneEqualityIsAll : Type 0
 OneEqualityIsAll =
     (test : Test) (equality : Equality) (memory row : List ℤ)
@@ -85,12 +85,12 @@ OneEqualityIsAll =
     → first_equality (form_of test) ≡ Some equality
     → passes test memory row ≡ has_value equality.column (equal_value equality.equal memory) row
 
--- a test that is one equality has a first one
+-- a test that is one equality has a first one [own]
 abbrev pub OneEqualityIsFirst : Type 0
 OneEqualityIsFirst =
     (test : Test) → IsTrue (is_one_equality (form_of test)) → IsTrue (is_some (first_equality (form_of test)))
 
--- a test in which no number of the memory stands passes the same rows with every memory
+-- a test in which no number of the memory stands passes the same rows with every memory [own]
 abbrev pub UnreadMemoryTellsNothing : Type 0
 UnreadMemoryTellsNothing =
     (test : Test) (memory other row : List ℤ)

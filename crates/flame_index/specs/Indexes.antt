@@ -59,7 +59,7 @@ rows_at places rows = map (λ place. slice_index_or rows place []) places
 
 -- ---- laws
 
--- the rows at the places of an index are the board in the order of its key, in both directions
+-- the rows at the places of an index are the board in the order of its key, in both directions [own]
 abbrev pub IndexOrdersBoard : Type 0
 IndexOrdersBoard =
     (index : IndexTable) (board : FrozenBoard)
@@ -67,14 +67,14 @@ IndexOrdersBoard =
     → StandsFor index board
     → rows_at (places_of index) (messages_on board) ≡ sorted_by (view_order (Some index.key)) (messages_on board)
 
--- the places of an index are places of the board
+-- the places of an index are places of the board [own]
 abbrev pub IndexStaysWithin : Type 0
 IndexStaysWithin =
     (index : IndexTable) (board : FrozenBoard)
     → StandsFor index board
     → All (λ place. place < length (messages_on board)) (places_of index)
 
--- an index has as many entries as the board has messages
+-- an index has as many entries as the board has messages [own]
 abbrev pub IndexIsAsLong : Type 0
 IndexIsAsLong =
     (index : IndexTable) (board : FrozenBoard)
