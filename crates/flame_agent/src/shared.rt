@@ -9,10 +9,9 @@ ghost use Rattle.flame_agent.specs.ViewsForAll.{reads_memory, AreForAll, IsForAl
 use flame_cond::Filter;
 use flame_cond::laws::unread_memory_tells_nothing;
 use flame_index::Frozen;
-use flame_lookup::number;
 use flame_program::Program;
 use flame_program::laws::accepted_are_runnable;
-use flame_rows::{NoMemory, Row};
+use flame_rows::{NoMemory, Row, number};
 use flame_view::View;
 use flame_view::laws::views_are_as_written;
 use flame_world::Setting;

@@ -12,10 +12,9 @@ ghost use Rattle.flame_agent.specs.ViewsForAll.{AreForAll, IsForAll};
 
 use crate::shared::SharedViews;
 use flame_index::Frozen;
-use flame_lookup::number;
 use flame_program::Program;
 use flame_program::laws::accepted_are_runnable;
-use flame_rows::{NoMemory, Row};
+use flame_rows::{NoMemory, Row, number};
 use flame_view::laws::views_are_as_written;
 use flame_view::{View, Views};
 use flame_world::Setting;

@@ -3,9 +3,9 @@
 use flame_case_codes::{Scene, print_run};
 use flame_code::{Code, Helpers};
 use flame_index::Frozen;
-use flame_lookup::{Tables, number};
+use flame_lookup::Tables;
 use flame_program::Program;
-use flame_rows::{Bag, NoMemory, Row, Seq};
+use flame_rows::{Bag, NoMemory, Row, Seq, number};
 use flame_spec::{Input, Model};
 use flame_view::View;
 use std::alloc::{AllocError, Global};

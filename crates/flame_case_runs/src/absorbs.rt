@@ -6,9 +6,8 @@ use crate::beginnings::Beginning;
 use crate::changes::{Change, change_in, number_first};
 use crate::shares::{boards_read, inputs_of, share_of};
 use flame_core::{Core, StepFault};
-use flame_lookup::number;
 use flame_program::Program;
-use flame_rows::{Bag, NoMemory, Row, Seq};
+use flame_rows::{Bag, NoMemory, Row, Seq, number};
 use flame_world::{Piece, Setting};
 use std::alloc::Global;
 

@@ -37,6 +37,37 @@ fn refuse(alloc: Global, tables: &Tables<'_>) -> Result<(), Fail<CheckFault>>
     clean_bodies(alloc, tables)
 }
 
+/// The bodies of function files without a fault, so nothing but want of memory fails.
+fn numbered(
+    alloc: Global,
+    tables: &Tables<'_>,
+    rows: &Rows<'_>,
+) -> Result<Checked, Fail<CheckFault>>
+    requires rows { rows.now ≡ tables.now.model }
+    requires clean { check_faults tables.now.model tables.now.units ≡ [] }
+    ensures bodies { IfOk result (λ checked. checked.bodies ≡ function_bodies tables.now.model tables.now.units) }
+    ensures helpers { IfOk result (λ checked. checked.helpers ≡ helper_bodies tables.now.model tables.now.units) }
+    ensures none { IfErr result (FailsFirst []) }
+{
+    let bodies = numbered_functions(alloc, tables, rows)?;
+    let helpers = numbered_helpers(alloc, tables, rows)?;
+    Ok(Checked { bodies, helpers })
+}
+
+/// Checks the function files that these tables are made of, as `check` does.
+fn check_by(alloc: Global, model: &Model, tables: &Tables<'_>) -> Result<Checked, Fail<CheckFault>>
+    requires { tables.now.model ≡ model.now }
+    ensures accepted { OnOk result (check_faults tables.now.model tables.now.units ≡ []) }
+    ensures bodies { IfOk result (λ checked. checked.bodies ≡ function_bodies tables.now.model tables.now.units) }
+    ensures helpers { IfOk result (λ checked. checked.helpers ≡ helper_bodies tables.now.model tables.now.units) }
+    ensures first { IfErr result (FailsFirst (check_faults tables.now.model tables.now.units)) }
+{
+    refuse(alloc, tables)?;
+    let rows = Rows::of(alloc, model)?;
+    let checked = numbered(alloc, tables, &rows)?;
+    Ok(checked)
+}
+
 /// Checks the function files of a model, which are numbered in the order in which they are given, and gives the bodies
 /// of the model's functions and of the helpers with numbers in place of names. A helper is a C function with parameters
 /// that has no name of a function of the model.
@@ -59,9 +90,5 @@ pub fn check(alloc: Global, model: &Model, units: &Seq<Unit>) -> Result<Checked,
     ensures first { IfErr result (FailsFirst (check_faults model.now units.now)) }
 {
     let tables = Tables::of(alloc, model, units)?;
-    refuse(alloc, &tables)?;
-    let rows = Rows::of(alloc, model)?;
-    let bodies = numbered_functions(alloc, &tables, &rows)?;
-    let helpers = numbered_helpers(alloc, &tables, &rows)?;
-    Ok(Checked { bodies, helpers })
+    check_by(alloc, model, &tables)
 }

@@ -17,9 +17,9 @@ ghost use Rattle.flame_numbering.specs.WordPlaces.{words_at};
 use crate::rows::Rows;
 use flame_body::Body;
 use flame_body::laws::definitions_fit;
-use flame_lookup::{CFunction, Tables, Transition, Words, number};
+use flame_lookup::{CFunction, Tables, Transition, Words};
 use flame_numbering::definition;
-use flame_rows::{Fail, Seq};
+use flame_rows::{Fail, Seq, number};
 use flame_spec::{CheckFault, Function, Widths};
 use std::alloc::Global;
 

@@ -7,8 +7,8 @@ ghost use Rattle.flame_spec.specs.KnownNames.{variables_in};
 ghost use Rattle.flame_lookup.specs.WordsFound.{place_found};
 ghost use Rattle.flame_body.specs.FunctionBodies.{widths_in, input_width};
 
-use flame_lookup::{Table, Transition, number, put, width};
-use flame_rows::{NoMemory, Seq};
+use flame_lookup::{Table, Transition, put, width};
+use flame_rows::{NoMemory, Seq, number};
 use flame_spec::{AgentType, Input, MessageType, Widths};
 use std::alloc::Global;
 use std::collections::HashMap;

@@ -8,10 +8,9 @@ ghost use Rattle.flame_core.specs.KeptSteps.{GoesBy, round_of};
 
 use crate::rounds::Round;
 use crate::steps::out_of;
-use flame_lookup::number;
 use flame_pool::{choose_here, take};
 use flame_route::Route;
-use flame_rows::{Bag, NoMemory};
+use flame_rows::{Bag, NoMemory, number};
 use std::alloc::Global;
 
 /// The agents of the pool that take the function which goes by this route, and the others.

@@ -1,10 +1,9 @@
 //! What the agents of a function want kept beside the boards that they read.
 
 use flame_agent::{reads_memory, wanted_key};
-use flame_lookup::number;
 use flame_program::Program;
 use flame_progress::{Progress, Want};
-use flame_rows::NoMemory;
+use flame_rows::{NoMemory, number};
 use std::alloc::Global;
 
 /// Who reads the boards of a function: so many agents, in so many pieces, each of which makes once the views that no

@@ -1,5 +1,5 @@
 -- Indexes as they lie in memory: values and places in two lists, beside each other.
-use Rattle.std.specs.Prelude.{ℕ, ℤ, List, [], ◌∷◌, map, Bool, Option, None, Some, if◌then◌else◌, int_le, int_lt}
+use Rattle.std.specs.Prelude.{◌≡◌, ℕ, ◌<◌, ◌≤◌, ◌↔◌, ℤ, pos, ◌+ℤ◌, List, [], ◌∷◌, map, length, slice_get, Bool, Option, None, Some, IsTrue, if◌then◌else◌, int_le, int_lt}
 use Rattle.std.specs.declared.vec.Vec.{Vec}
 use Rattle.flame_spec.specs.Views.{Key}
 use Rattle.flame_index.specs.declared.entries.Pair.{Pair}
@@ -18,6 +18,27 @@ entries_of (value ∷ values) (place ∷ places) = record { value = value; place
 -- whether a search from the left goes past a value: it is less, or no greater where equal ones are passed too [own]
 abbrev pub is_passed : Bool → ℤ → ℤ → Bool
 is_passed through wanted value = if through then int_le value wanted else int_lt value wanted
+
+-- of values in order so many are less than a number: those that stand before this place [own]
+pub record IsStartOf (wanted : ℤ) (values : List ℤ) (place : ℕ) : Type 0 where
+  pub within : place ≤ length values
+  pub sides : (at : ℕ) (value : ℤ) → slice_get values at ≡ Some value → (at < place) ↔ IsTrue (int_lt value wanted)
+
+-- a table of starts stands for values: each count is how many values are less than the least one and its place in the
+-- table together; a table without counts stands for any values [own]
+abbrev pub AreStartsOf : ℤ → List ℕ → List ℤ → Type 0
+AreStartsOf least counts values =
+    (place count : ℕ) → slice_get counts place ≡ Some count → IsStartOf (least +ℤ pos place) values count
+
+-- the values before a place are less than a number [own]
+abbrev pub IsLessBelow : ℤ → List ℤ → ℕ → Type 0
+IsLessBelow wanted values low =
+    (at : ℕ) (value : ℤ) → slice_get values at ≡ Some value → at < low → IsTrue (int_lt value wanted)
+
+-- a search for a number goes past so many values: those that stand before this place [own]
+pub record IsBoundOf (through : Bool) (wanted : ℤ) (values : List ℤ) (place : ℕ) : Type 0 where
+  pub within : place ≤ length values
+  pub sides : (at : ℕ) (value : ℤ) → slice_get values at ≡ Some value → (at < place) ↔ IsTrue (is_passed through wanted value)
 
 -- the keys of indexes [own]
 abbrev pub keys_of : List IndexTable → List Key

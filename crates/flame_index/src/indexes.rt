@@ -1,15 +1,16 @@
 //! Indexes of boards.
 
-ghost use Rattle.std.specs.Prelude.{◌≡◌, ℕ, ◌+◌, ◌*◌, ◌^◌, ◌<◌, ◌≤◌, ◌↔◌, false, ℤ, IfOk, length, slice_get, slice_range, IsTrue};
+ghost use Rattle.std.specs.Prelude.{◌≡◌, ℕ, ◌+◌, ◌*◌, ◌^◌, ◌<◌, ◌≤◌, ◌↔◌, false, ℤ, IfOk, IfSome, length, slice_get, slice_range, IsTrue};
 ghost use Rattle.std.specs.List.{filter};
 ghost use Rattle.flame_cond.specs.Said.{key_by};
 ghost use Rattle.flame_cond.specs.Equalities.{has_value};
 ghost use Rattle.flame_index.specs.FrozenBoards.{FrozenBoard, ascending_by, messages_on};
 ghost use Rattle.flame_index.specs.Indexes.{StandsFor, places_of, rows_at, values_of};
-ghost use Rattle.flame_index.specs.IndexBodies.{is_passed};
+ghost use Rattle.flame_index.specs.IndexBodies.{IsBoundOf, is_passed};
 
 use crate::boards::Frozen;
 use crate::entries;
+use crate::starts::Starts;
 use crate::steps::Steps;
 use flame_cond::SortBy;
 use flame_rows::NoMemory;
@@ -25,19 +26,21 @@ pub struct Index {
     by: SortBy,
     values: Vec<i32>,
     places: Vec<u32>,
+    starts: Starts,
 }
 
 impl Model for Index {
     ghost use Rattle.std.specs.Prelude.{◌≡◌, length};
     ghost use Rattle.flame_cond.specs.Said.{key_by};
     ghost use Rattle.flame_index.specs.Indexes.{IndexTable};
-    ghost use Rattle.flame_index.specs.IndexBodies.{entries_of};
+    ghost use Rattle.flame_index.specs.IndexBodies.{AreStartsOf, entries_of};
 
     ghost Value = { IndexTable };
 
     ghost view = { λ a. record { key = key_by a.by; entries = entries_of a.values.items a.places.items } };
 
-    ghost invariant = { λ a. length a.values.items ≡ length a.places.items };
+    ghost invariant = { λ a. (length a.values.items ≡ length a.places.items)
+        × AreStartsOf a.starts.least a.starts.counts.items a.values.items };
 }
 
 impl Index {
@@ -65,7 +68,17 @@ impl Index {
         let pairs = entries::ordered(alloc, board.bag().rows(), by)?;
         let values = entries::values(alloc, &pairs)?;
         let places = entries::places(alloc, &pairs)?;
-        Ok(Index { by, values, places })
+        let starts = if by.descending {
+            Starts::none(alloc)
+        } else {
+            Starts::of(alloc, &values)
+        };
+        Ok(Index {
+            by,
+            values,
+            places,
+            starts,
+        })
     }
 
     /// Its key.
@@ -122,10 +135,39 @@ impl Index {
         low
     }
 
+    /// What `bound` gives, where the table of starts tells it.
+    fn told(&self, wanted: i32, through: bool) -> Option<usize>
+        ensures { IfSome result (λ place. IsBoundOf through wanted (values_of self.now) place) }
+    {
+        self.starts.passed(wanted, through)
+    }
+
+    /// What `bound` gives, by the table of starts where it tells, else by a search.
+    fn passed<L: Ledger>(
+        &self,
+        board: &Frozen,
+        wanted: i32,
+        through: bool,
+        steps: &mut Steps<L>,
+    ) -> usize
+        requires stands { StandsFor self.now board.now }
+        requires ascending { self.now.key.descending ≡ false }
+        ensures within { result ≤ length self.now.entries }
+        ensures sides { (at : ℕ) (value : ℤ) → slice_get (values_of self.now) at ≡ Some value
+            → (at < result) ↔ IsTrue (is_passed through wanted value) }
+        ensures cost { (d : ℕ) → length self.now.entries < 2 ^ d → steps.new ≤ steps.old + d }
+    {
+        match self.told(wanted, through) {
+            Some(place) => place,
+            None => self.bound(board, wanted, through, steps),
+        }
+    }
+
     /// The places of the index whose messages have this number in its column: from the first up to the second. The index
-    /// stands for this board, and its key ascends, as those of `Index::of` and `Frozen::indexed` do. Takes at most 2d
-    /// steps, where d is how many binary digits the number of messages has. That numbers are read by `probe` alone, no
-    /// clause says.
+    /// stands for this board, and its key ascends, as those of `Index::of` and `Frozen::indexed` do. Where the numbers of
+    /// the board are dense, a table tells the range without a step; else, and for a number that the table does not reach,
+    /// it takes at most 2d steps, where d is how many binary digits the number of messages has. That numbers are read by
+    /// `probe` alone, and when the table tells, no clause says.
     pub fn equal<L: Ledger>(
         &self,
         board: &Frozen,
@@ -142,8 +184,8 @@ impl Index {
             ≡ filter (has_value self.now.key.column value) (messages_on board.now) }
         ensures cost { (d : ℕ) → length self.now.entries < 2 ^ d → steps.new ≤ steps.old + 2 * d }
     {
-        let from = self.bound(board, value, false, steps);
-        let to = self.bound(board, value, true, steps);
+        let from = self.passed(board, value, false, steps);
+        let to = self.passed(board, value, true, steps);
         (from, to)
     }
 

@@ -5,6 +5,7 @@ mod boards;
 mod entries;
 mod indexes;
 pub mod laws;
+mod starts;
 mod steps;
 
 pub use boards::Frozen;

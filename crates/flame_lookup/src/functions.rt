@@ -10,8 +10,8 @@ ghost use Rattle.flame_lookup.specs.WordsFound.{place_found, definition_found};
 ghost use Rattle.flame_lookup.specs.WordTables.{numbers_under, helps_beside};
 
 use crate::found::{CFunction, Transition};
-use crate::table::{Table, number};
-use flame_rows::NoMemory;
+use crate::table::Table;
+use flame_rows::{NoMemory, number};
 use flame_spec::{AgentType, Unit};
 use std::alloc::Global;
 use std::collections::HashMap;

@@ -12,5 +12,5 @@ mod words;
 
 pub use found::{Act, CFunction, Found, Helper, Meant, Transition};
 pub use sources::Tables;
-pub use table::{Table, messages_by_name, number, put, width};
+pub use table::{Table, messages_by_name, put, width};
 pub use words::Words;

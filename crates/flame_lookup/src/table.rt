@@ -10,7 +10,7 @@ ghost use Rattle.flame_lookup.specs.WrittenForms.{written};
 
 use crate::forms::Form;
 use crate::found::{CFunction, Found, Helper};
-use flame_rows::{NoMemory, Text};
+use flame_rows::{NoMemory, Text, number};
 use flame_spec::{AgentType, Input, MessageType, Variable};
 use std::alloc::Global;
 use std::collections::HashMap;
@@ -56,16 +56,6 @@ impl Named for Input {
 
     fn name(&self) -> &str {
         self.message.as_str()
-    }
-}
-
-/// The count as a number of 32 bits. `NoMemory` comes where it has more.
-pub fn number(count: usize) -> Result<u32, NoMemory>
-    ensures { IfOk result (λ number. number ≡ count) }
-{
-    match u32::try_from(count) {
-        Ok(number) => Ok(number),
-        Err(_) => Err(NoMemory),
     }
 }
 

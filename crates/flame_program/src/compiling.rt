@@ -8,8 +8,8 @@ ghost use Rattle.flame_lookup.specs.WordsFound.{definition_found};
 use flame_body::Body;
 use flame_code::Code;
 use flame_compile::compile;
-use flame_lookup::{CFunction, number};
-use flame_rows::{NoMemory, Seq};
+use flame_lookup::CFunction;
+use flame_rows::{NoMemory, Seq, number};
 use std::alloc::Global;
 
 /// The codes of these bodies.

@@ -1,7 +1,8 @@
 //! What is made of a source.
 
-ghost use Rattle.std.specs.Prelude.{◌≡◌, IfOk, map};
+ghost use Rattle.std.specs.Prelude.{◌≡◌, IfOk, IsTrue, map};
 ghost use Rattle.flame_spec.specs.Accepted.{IsAccepted};
+ghost use Rattle.flame_spec.specs.Counted.{is_counted};
 ghost use Rattle.flame_spec.specs.Definitions.{helpers};
 ghost use Rattle.flame_body.specs.FunctionBodies.{function_bodies, helper_bodies};
 ghost use Rattle.flame_lookup.specs.WordsFound.{definition_found};
@@ -48,6 +49,35 @@ fn helpers_of(
     Ok(Helpers::make(Seq::of(codes), Seq::of(parameters)))
 }
 
+/// The parts of an accepted source that can be numbered, by its tables and the bodies.
+fn parts_by(
+    alloc: Global,
+    source: &Source,
+    tables: &Tables<'_>,
+    checked: Checked,
+) -> Result<Parts, NoMemory>
+    requires accepted { IsAccepted source.now }
+    requires counted { IsTrue (is_counted source.now.model) }
+    requires tables { tables.now ≡ record { model = source.now.model; units = source.now.units } }
+    requires bodies { checked.bodies ≡ function_bodies source.now.model source.now.units }
+    requires helpers { checked.helpers ≡ helper_bodies source.now.model source.now.units }
+    ensures { IfOk result (λ parts.
+        ArePartsOf source.now parts.codes parts.helpers parts.conditions parts.selectors parts.routes) }
+{
+    let codes = codes_of(alloc, checked.bodies)?;
+    let helpers = helpers_of(alloc, source, checked.helpers, tables.helpers())?;
+    let conditions = conditions_of(alloc, &source.model, tables.transitions())?;
+    let selectors = selectors_of(alloc, &source.model, tables.transitions())?;
+    let routes = Routes::of(alloc, &source.model)?;
+    Ok(Parts {
+        codes: Seq::of(codes),
+        helpers,
+        conditions: Seq::of(conditions),
+        selectors: Seq::of(selectors),
+        routes,
+    })
+}
+
 /// The parts of an accepted source, of which these are the bodies. `NoMemory` comes too where 32 bits cannot number the
 /// parts of the model, the C functions, the parameters of a helper or the instructions of a body.
 pub(crate) fn parts_of(alloc: Global, source: &Source, checked: Checked) -> Result<Parts, NoMemory>
@@ -61,16 +91,5 @@ pub(crate) fn parts_of(alloc: Global, source: &Source, checked: Checked) -> Resu
         return Err(NoMemory);
     }
     let tables = Tables::of(alloc, &source.model, &source.units)?;
-    let codes = codes_of(alloc, checked.bodies)?;
-    let helpers = helpers_of(alloc, source, checked.helpers, tables.helpers())?;
-    let conditions = conditions_of(alloc, &source.model, tables.transitions())?;
-    let selectors = selectors_of(alloc, &source.model, tables.transitions())?;
-    let routes = Routes::of(alloc, &source.model)?;
-    Ok(Parts {
-        codes: Seq::of(codes),
-        helpers,
-        conditions: Seq::of(conditions),
-        selectors: Seq::of(selectors),
-        routes,
-    })
+    parts_by(alloc, source, &tables, checked)
 }

@@ -11,9 +11,9 @@ ghost use Rattle.flame_spec.specs.Lists.{each};
 
 use crate::listings::push_instrs;
 use flame_code::Instr;
-use flame_lookup::{CFunction, Tables, Transition, number};
+use flame_lookup::{CFunction, Tables, Transition};
 use flame_program::Program;
-use flame_rows::{Blob, NoMemory};
+use flame_rows::{Blob, NoMemory, number};
 use std::alloc::Global;
 use std::fmt::Write;
 
@@ -101,6 +101,25 @@ fn push_helpers(
     Ok(())
 }
 
+/// Adds the listings of the program's functions and helpers, which these tables tell.
+fn push_listings(text: &mut String, program: &Program, tables: &Tables<'_>) -> Result<(), NoMemory>
+    requires { tables.now ≡ record { model = program.now.model; units = program.now.units } }
+    ensures { OnOk result (string_bytes text.new ≡ string_bytes text.old ++ code_lines program.now) }
+{
+    push_functions(text, program, tables.transitions())?;
+    push_helpers(text, program, tables.helpers())?;
+    Ok(())
+}
+
+/// Adds the listings of the program's functions and helpers.
+fn push_program(alloc: Global, text: &mut String, program: &Program) -> Result<(), NoMemory>
+    ensures { OnOk result (string_bytes text.new ≡ string_bytes text.old ++ code_lines program.now) }
+{
+    let source = program.source();
+    let tables = Tables::of(alloc, &source.model, &source.units)?;
+    push_listings(text, program, &tables)
+}
+
 /// The text of `code`: the listing of each function in document order, under `Type.function`, and then of each helper in
 /// source order, under `helper NAME`. An instruction has a line: its place from 0, its name and its arguments. The text of a
 /// model without functions and helpers is empty. The error is want of memory; it comes too where 32 bits cannot number the
@@ -108,10 +127,7 @@ fn push_helpers(
 pub fn code_text(alloc: Global, program: &Program) -> Result<Blob, NoMemory>
     ensures { IfOk result (λ text. text ≡ code_lines program.now) }
 {
-    let source = program.source();
-    let tables = Tables::of(alloc, &source.model, &source.units)?;
     let mut text = String::new(alloc);
-    push_functions(&mut text, program, tables.transitions())?;
-    push_helpers(&mut text, program, tables.helpers())?;
+    push_program(alloc, &mut text, program)?;
     Ok(Blob::of(text.into_bytes()))
 }

@@ -5,8 +5,8 @@ ghost use Rattle.flame_lookup.specs.WordsFound.{place_found};
 ghost use Rattle.flame_spec.specs.Functions.{at_type, functions};
 ghost use Rattle.flame_report.specs.LineParts.{name_among, type_name, function_file};
 
-use flame_lookup::{Transition, number};
-use flame_rows::NoMemory;
+use flame_lookup::Transition;
+use flame_rows::{NoMemory, number};
 use flame_spec::{AgentType, Model};
 use std::alloc::Global;
 use std::fmt::Write;

@@ -14,21 +14,8 @@ use Rattle.flame_spec.specs.Functions.{at_type}
 use Rattle.flame_spec.specs.States.{states}
 use Rattle.flame_route.specs.declared.routes.Route.{Route}
 use Rattle.flame_route.specs.ModelRoutes.{IsRouteOf}
-use Rattle.flame_route.specs.TypeRoutes.{numbers_out, AreTypeRoutes}
+use Rattle.flame_route.specs.TypeRoutes.{numbers_out, AreTaken, AreTypeRoutes}
 use Rattle.flame_route.proofs.Places.{zip-taken, of-either, behind-there}
-
--- those of the first i functions, where these numbers stand under each state
-pub record AreTaken
-    (model : Model) (agent : ℕ) (type : AgentType) (first i : ℕ) (routes : List Route) (under : List ℕ → List ℕ) :
-    Type 0 where
-  pub each : AllZip (IsRouteOf model) (take i (map (at_type agent type) type.functions)) routes
-  pub count : length routes ≡ i
-  pub choices : (j : ℕ) (function : Function) (route : Route)
-      → slice_get type.functions j ≡ Some function
-      → slice_get routes j ≡ Some route
-      → slice_get (numbers_out first type.functions function.current) route.choice ≡ Some (first + j)
-  pub rest : (state : List ℕ)
-      → under state ++ numbers_out (first + i) (drop i type.functions) state ≡ numbers_out first type.functions state
 
 -- at first there are none
 pub none-taken :

@@ -1,5 +1,5 @@
 -- The routes of the functions of one agent type.
-use Rattle.std.specs.Prelude.{◌≡◌, ℕ, ◌+◌, List, map, Some, slice_get}
+use Rattle.std.specs.Prelude.{◌≡◌, ℕ, ◌+◌, List, ◌++◌, length, map, take, drop, Some, slice_get}
 use Rattle.std.specs.List.{AllZip}
 use Rattle.std.specs.Str.{bytes_eq}
 use Rattle.flame_spec.specs.declared.models.AgentType.{AgentType}
@@ -31,3 +31,16 @@ pub record AreTypeRoutes
       → slice_get routes i ≡ Some route
       → slice_get (numbers_out first type.functions function.current) route.choice ≡ Some (first + i)
   pub lists : leaving ≡ map (numbers_out first type.functions) (states type.functions)
+
+-- the routes of the first i of these functions, where these numbers stand under each state [own]
+pub record AreTaken
+    (model : Model) (agent : ℕ) (type : AgentType) (first i : ℕ) (routes : List Route) (under : List ℕ → List ℕ) :
+    Type 0 where
+  pub each : AllZip (IsRouteOf model) (take i (map (at_type agent type) type.functions)) routes
+  pub count : length routes ≡ i
+  pub choices : (j : ℕ) (function : Function) (route : Route)
+      → slice_get type.functions j ≡ Some function
+      → slice_get routes j ≡ Some route
+      → slice_get (numbers_out first type.functions function.current) route.choice ≡ Some (first + j)
+  pub rest : (state : List ℕ)
+      → under state ++ numbers_out (first + i) (drop i type.functions) state ≡ numbers_out first type.functions state

@@ -4,8 +4,8 @@ ghost use Rattle.std.specs.Prelude.{◌≡◌, ◌++◌, ℕ, List, [], ◌∷�
 ghost use Rattle.std.specs.Str.{bytes_eq};
 ghost use Rattle.flame_lookup.specs.WordTables.{numbers_under};
 
-use flame_lookup::{Table, number};
-use flame_rows::{NoMemory, Seq};
+use flame_lookup::Table;
+use flame_rows::{NoMemory, Seq, number};
 use std::alloc::Global;
 
 /// Notes the function under the state.

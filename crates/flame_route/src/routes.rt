@@ -6,8 +6,7 @@ ghost use Rattle.flame_route.specs.ModelRoutes.{ReadMessages, AreRoutesOf};
 use crate::messages::Messages;
 use crate::starts::starts_of;
 use crate::types::routes_of;
-use flame_lookup::number;
-use flame_rows::{NoMemory, Seq};
+use flame_rows::{NoMemory, Seq, number};
 use flame_spec::Model;
 use std::alloc::Global;
 

@@ -7,8 +7,7 @@ ghost use Rattle.flame_route.specs.ModelRoutes.{start_place};
 
 use crate::states::states_of;
 use flame_depend::entered_states;
-use flame_lookup::number;
-use flame_rows::NoMemory;
+use flame_rows::{NoMemory, number};
 use flame_spec::{AgentType, Function};
 use std::alloc::Global;
 

@@ -1,6 +1,6 @@
 //! The states of an agent type.
 
-ghost use Rattle.std.specs.Prelude.{◌≡◌, ◌++◌, IfOk, OnOk};
+ghost use Rattle.std.specs.Prelude.{◌≡◌, ◌++◌, [], IfOk, OnOk};
 ghost use Rattle.flame_spec.specs.States.{distinct_after, ends, states};
 
 use flame_name_sets::Names;
@@ -19,15 +19,24 @@ fn add_ends<'a>(own: &mut Names<'a>, functions: &'a [Function]) -> Result<(), No
     Ok(())
 }
 
+/// Adds the states of a type with these functions where there are no names yet.
+fn add_states<'a>(own: &mut Names<'a>, functions: &'a [Function]) -> Result<(), NoMemory>
+    requires { own.old ≡ [] }
+    ensures { OnOk result (own.new ≡ states functions.now) }
+{
+    if functions.is_empty() {
+        let _added = own.add("start")?;
+        return Ok(());
+    }
+    add_ends(own, functions)?;
+    Ok(())
+}
+
 /// The states of a type with these functions, each once, in the order in which they come.
 pub(crate) fn states_of(alloc: Global, functions: &[Function]) -> Result<Names<'_>, NoMemory>
     ensures { IfOk result (λ found. found ≡ states functions.now) }
 {
     let mut found = Names::new(alloc);
-    if functions.is_empty() {
-        let _added = found.add("start")?;
-        return Ok(found);
-    }
-    add_ends(&mut found, functions)?;
+    add_states(&mut found, functions)?;
     Ok(found)
 }

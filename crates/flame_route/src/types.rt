@@ -1,18 +1,19 @@
 //! The routes of the functions of an agent type.
 
-ghost use Rattle.std.specs.Prelude.{◌≡◌, IfOk};
+ghost use Rattle.std.specs.Prelude.{◌≡◌, ℕ, List, [], IfOk, length};
 ghost use Rattle.flame_spec.specs.Functions.{at_type};
 ghost use Rattle.flame_spec.specs.States.{states};
 ghost use Rattle.flame_route.specs.ModelRoutes.{ReadsEach, IsRouteOf};
-ghost use Rattle.flame_route.specs.TypeRoutes.{ReadsAll, AreTypeRoutes};
+ghost use Rattle.flame_route.specs.TypeRoutes.{ReadsAll, AreTaken, AreTypeRoutes};
+ghost use Rattle.flame_lookup.specs.WordTables.{numbers_under};
 
 use crate::leaving::{lists_of, next_choice};
 use crate::messages::Messages;
 use crate::routes::Route;
 use crate::states::states_of;
-use flame_lookup::number;
+use flame_lookup::Table;
 use flame_name_sets::Names;
-use flame_rows::{NoMemory, Seq};
+use flame_rows::{NoMemory, Seq, number};
 use flame_spec::{AgentType, Function};
 use std::alloc::Global;
 use std::collections::HashMap;
@@ -53,6 +54,34 @@ fn route_of(
     })
 }
 
+/// The routes of the functions of the type of this number, of which the first has this number; notes each function
+/// under the state that it leaves.
+fn chosen_routes(
+    alloc: Global,
+    messages: &Messages<'_>,
+    own: &Names<'_>,
+    at: u32,
+    agent: &AgentType,
+    first: u32,
+    table: &mut Table<Vec<u32>>,
+) -> Result<Vec<Route>, NoMemory>
+    requires states { own.now ≡ states agent.now.functions }
+    requires reads { ReadsAll messages.now agent.now.functions }
+    requires none { (state : List ℕ) → numbers_under table.old state ≡ [] }
+    ensures { IfOk result (λ routes. AreTaken messages.now at agent.now first (length agent.now.functions)
+        routes.items (numbers_under table.new)) }
+{
+    let functions = agent.functions.items();
+    let mut routes = Vec::new(alloc);
+    for (i, function) in functions.iter().enumerate() {
+        let here = number(first as usize + i)?;
+        let choice = next_choice(alloc, table, function.current.as_str(), here)?;
+        let route = route_of(alloc, messages, own, at, agent, function, choice)?;
+        routes.push(route)?;
+    }
+    Ok(routes)
+}
+
 /// The routes of the functions of the type of this number, of which the first has this number.
 pub(crate) fn routes_of(
     alloc: Global,
@@ -67,13 +96,7 @@ pub(crate) fn routes_of(
     let functions = agent.functions.items();
     let own = states_of(alloc, functions)?;
     let mut table = HashMap::new(alloc);
-    let mut routes = Vec::new(alloc);
-    for (i, function) in functions.iter().enumerate() {
-        let here = number(first as usize + i)?;
-        let choice = next_choice(alloc, &mut table, function.current.as_str(), here)?;
-        let route = route_of(alloc, messages, &own, at, agent, function, choice)?;
-        routes.push(route)?;
-    }
+    let routes = chosen_routes(alloc, messages, &own, at, agent, first, &mut table)?;
     let leaving = lists_of(alloc, &table, own.items())?;
     Ok(TypeRoutes {
         routes,

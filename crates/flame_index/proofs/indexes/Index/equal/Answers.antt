@@ -12,23 +12,23 @@ returns-clause-order g c =
     let index = c.args.self.now in
     let values = values_of index in
     let number = to_z-of_z w32 c.args.value c.ranges.value in
-    let lower : Parts values false c.args.value c.bound-from.result =
-    subst (λ v. Parts values false v c.bound-from.result) number c.bound-from.ensures.sides in
-    let upper : Parts values true c.args.value c.bound-to.result =
-    subst (λ v. Parts values true v c.bound-to.result) number c.bound-to.ensures.sides in
+    let lower : Parts values false c.args.value c.passed-from.result =
+    subst (λ v. Parts values false v c.passed-from.result) number c.passed-from.ensures.sides in
+    let upper : Parts values true c.args.value c.passed-to.result =
+    subst (λ v. Parts values true v c.passed-to.result) number c.passed-to.ensures.sides in
     let long : length values ≡ length index.entries = length-map index.entries (λ (entry : Entry). entry.value) in
-    let within : c.bound-from.result ≤ length values = omega (arith, long, c.bound-from.ensures.within) in
-    range_order values c.args.value c.bound-from.result c.bound-to.result within lower upper
+    let within : c.passed-from.result ≤ length values = omega (arith, long, c.passed-from.ensures.within) in
+    range_order values c.args.value c.passed-from.result c.passed-to.result within lower upper
 
 pub returns-clause-values : goal.returns-clause-values
 returns-clause-values g c =
     let values = values_of c.args.self.now in
     let number = to_z-of_z w32 c.args.value c.ranges.value in
-    range_values values c.args.value c.bound-from.result c.bound-to.result
-    (subst (λ v. Parts values false v c.bound-from.result) number c.bound-from.ensures.sides)
-    (subst (λ v. Parts values true v c.bound-to.result) number c.bound-to.ensures.sides)
+    range_values values c.args.value c.passed-from.result c.passed-to.result
+    (subst (λ v. Parts values false v c.passed-from.result) number c.passed-from.ensures.sides)
+    (subst (λ v. Parts values true v c.passed-to.result) number c.passed-to.ensures.sides)
 
 pub returns-clause-rows : goal.returns-clause-rows
 returns-clause-rows g c =
-    rows_by_values c.args.self.now (messages_on c.args.board.now) c.args.value c.bound-from.result c.bound-to.result c.requires.stands
-    (returns-clause-order g c) c.bound-to.ensures.within (returns-clause-values g c)
+    rows_by_values c.args.self.now (messages_on c.args.board.now) c.args.value c.passed-from.result c.passed-to.result c.requires.stands
+    (returns-clause-order g c) c.passed-to.ensures.within (returns-clause-values g c)

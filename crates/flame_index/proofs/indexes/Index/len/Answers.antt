@@ -6,5 +6,5 @@ pub returns : goal.returns
 returns c =
     let inside = c.self.inside in
     let long : vec_len inside.values ≡ length inside.values.items = search rules in
-    let size = laid_length inside.values.items inside.places.items c.self.invariant c.args.self.now.entries (ap (λ t. t.entries) c.self.view_is) in
+    let size = laid_length inside.values.items inside.places.items c.self.invariant.0 c.args.self.now.entries (ap (λ t. t.entries) c.self.view_is) in
     omega (arith, long, size, c.len.ensures)

@@ -10,14 +10,14 @@ pub index-requires : goal.index-requires
 index-requires c =
     let inside = c.self.inside in
     let long : vec_len inside.places ≡ length inside.places.items = search rules in
-    let even : length inside.values.items ≡ length inside.places.items = c.self.invariant in
+    let even : length inside.values.items ≡ length inside.places.items = c.self.invariant.0 in
     let size = laid_length inside.values.items inside.places.items even c.args.self.now.entries (ap (λ t. t.entries) c.self.view_is) in
     omega (arith, long, even, size, c.requires)
 
 pub returns-clause-place : goal.returns-clause-place
 returns-clause-place c =
     let inside = c.self.inside in
-    let even : length inside.values.items ≡ length inside.places.items = c.self.invariant in
+    let even : length inside.values.items ≡ length inside.places.items = c.self.invariant.0 in
     let laid = ap (λ t. t.entries) c.self.view_is in
     let size = laid_length inside.values.items inside.places.items even c.args.self.now.entries laid in
     let same : places_of c.args.self.now ≡ inside.places.items = laid_places inside.values.items inside.places.items even c.args.self.now.entries laid in
@@ -28,7 +28,7 @@ returns-clause-place c =
 pub returns-clause-within : goal.returns-clause-within
 returns-clause-within c board stands =
     let inside = c.self.inside in
-    let even : length inside.values.items ≡ length inside.places.items = c.self.invariant in
+    let even : length inside.values.items ≡ length inside.places.items = c.self.invariant.0 in
     let laid = ap (λ t. t.entries) c.self.view_is in
     let size = laid_length inside.values.items inside.places.items even c.args.self.now.entries laid in
     let same : places_of c.args.self.now ≡ inside.places.items = laid_places inside.values.items inside.places.items even c.args.self.now.entries laid in

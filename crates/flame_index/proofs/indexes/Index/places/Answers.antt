@@ -6,4 +6,4 @@ pub returns : goal.returns
 returns c =
     let inside = c.self.inside in
     c.as_slice.ensures.value
-    ∙ sym (laid_places inside.values.items inside.places.items c.self.invariant c.args.self.now.entries (ap (λ t. t.entries) c.self.view_is))
+    ∙ sym (laid_places inside.values.items inside.places.items c.self.invariant.0 c.args.self.now.entries (ap (λ t. t.entries) c.self.view_is))

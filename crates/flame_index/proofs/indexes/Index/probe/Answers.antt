@@ -11,15 +11,15 @@ pub index-requires : goal.index-requires
 index-requires g c =
     let inside = c.self.inside in
     let long : vec_len inside.values ≡ length inside.values.items = search rules in
-    let size = laid_length inside.values.items inside.places.items c.self.invariant c.args.self.now.entries (ap (λ t. t.entries) c.self.view_is) in
+    let size = laid_length inside.values.items inside.places.items c.self.invariant.0 c.args.self.now.entries (ap (λ t. t.entries) c.self.view_is) in
     omega (arith, long, size, c.requires.within)
 
 pub returns-clause-value : goal.returns-clause-value
 returns-clause-value g c =
     let inside = c.self.inside in
     let laid = ap (λ t. t.entries) c.self.view_is in
-    let size = laid_length inside.values.items inside.places.items c.self.invariant c.args.self.now.entries laid in
-    let same : values_of c.args.self.now ≡ inside.values.items = laid_values inside.values.items inside.places.items c.self.invariant c.args.self.now.entries laid in
+    let size = laid_length inside.values.items inside.places.items c.self.invariant.0 c.args.self.now.entries laid in
+    let same : values_of c.args.self.now ≡ inside.values.items = laid_values inside.values.items inside.places.items c.self.invariant.0 c.args.self.now.entries laid in
     let within : c.args.at < length inside.values.items = omega (arith, size, c.requires.within) in
     let fits : SFits w32 c.index.result.now = search rules in
     ap (λ values. slice_get values c.args.at) same
