@@ -1,21 +1,25 @@
--- The rows at the places of an index are the board in the order of its key.
-use Rattle.std.proofs.Common.{◌≡◌, ℕ, ◌<◌, ◌≤◌, Bool, true, false, cond, List, [], map, length, Some, refl, sym, ap, ◌∙◌, arith, true≢false, Ordering, Less, Equal, Greater, All, ⊎_elim}
+-- Laws of indexes: the rows at their places are the board in the order of the key; their numbers and their places.
+use Rattle.std.proofs.Common.{◌≡◌, ℕ, zero, suc, ◌+◌, ◌<◌, ◌≤◌, Bool, true, false, cond, List, [], ◌∷◌, map, length, Some, refl, sym, ap, ap₂, ◌∙◌, arith, true≢false, Ordering, Less, Equal, Greater, All, ⊎_elim}
 use Rattle.std.specs.Prelude.{ℤ, slice_index_or}
-use Rattle.std.specs.Ordering.{is_gt, int_cmp, nat_cmp, flip_args, ordering_then, MatchOrdering}
-use Rattle.std.specs.Cmp.{ranked}
+use Rattle.std.specs.Ordering.{is_gt, is_eq, int_cmp, nat_cmp, flip_args, ordering_then, MatchOrdering}
+use Rattle.std.specs.Cmp.{ranked, nat_cmp_is, nat_cmp_total}
+use Rattle.std.specs.FinMap.{nat_cmp-IsAntisymmetric}
+use Rattle.std.specs.List.{sum_by, range_with_len}
 use Rattle.std.proofs.lemmas.Bool.{cases_eq}
 use Rattle.std.proofs.lemmas.Cmp.{tied_itself}
-use Rattle.std.proofs.lemmas.List.Elements.{All-same, All-map, All-weaker}
+use Rattle.std.proofs.lemmas.List.Elements.{All-head, All-tail, All-same, All-map, All-weaker}
 use Rattle.std.proofs.lemmas.Option.{slice_get-get_or}
 use Rattle.std.proofs.lemmas.Simd.{map-map}
 use Rattle.flame_rows.specs.Order.{row_order}
-use Rattle.flame_rows.specs.Sorted.{IsAscending, sorted_by}
+use Rattle.flame_rows.specs.Sorted.{IsBelowAll, IsAscending, sorted_by}
+use Rattle.flame_rows.proofs.Sorting.{sum_by-sorted_by, IsAscending-sorted_by, ascending_once}
 use Rattle.flame_rows.proofs.BagLaws.{rows_total}
+use Rattle.flame_spec.specs.Conditions.{number_at}
 use Rattle.flame_spec.specs.Views.{Key, column_order, view_order}
 use Rattle.flame_spec.proofs.Viewed.{view_total, view_tied}
 use Rattle.flame_index.specs.FrozenBoards.{messages_on}
-use Rattle.flame_index.specs.Indexes.{Entry, IndexTable, entries_from, entry_order, IsIndexOf, rows_at, IndexOrdersBoard, IndexStaysWithin, IndexIsAsLong}
-use Rattle.flame_index.proofs.SortedParts.{IsAscending-at, All-sorted_by, length-sorted_by, sorted_by-seen}
+use Rattle.flame_index.specs.Indexes.{Entry, IndexTable, entries_from, entry_order, IsIndexOf, places_of, rows_at, IndexOrdersBoard, IndexStaysWithin, IndexIsAsLong, IndexHasNumbers, IndexNamesEachOnce}
+use Rattle.flame_index.proofs.SortedParts.{sum_by-map, IsAscending-at, All-sorted_by, length-sorted_by, sorted_by-seen}
 use Rattle.flame_index.proofs.Entered.{IsEntryOf, row_of, directed, entry_total, entries_are, rows_seen, length-entries_from}
 
 not_after : (a b : ℕ) → is_gt (nat_cmp a b) ≡ false → a ≤ b
@@ -91,3 +95,56 @@ index_is_as_long index board stands =
     ap length stands
     ∙ length-sorted_by (entry_order index.key.descending) (entries_from index.key.column 0 (messages_on board))
     ∙ length-entries_from index.key.column 0 (messages_on board)
+
+-- ---- the numbers
+
+values_are : (column : ℕ) (rows : List (List ℤ)) (entries : List Entry) → All (IsEntryOf column rows) entries
+    → map (λ (entry : Entry). entry.value) entries ≡ map (λ entry. number_at (row_of rows entry) column) entries
+values_are column rows [] all = refl
+values_are column rows (entry ∷ entries) all =
+    ap₂ (λ one more. one ∷ more) (All-head (IsEntryOf column rows) entry entries all).value
+    (values_are column rows entries (All-tail (IsEntryOf column rows) entry entries all))
+
+pub index_has_numbers : IndexHasNumbers
+index_has_numbers index board stands =
+    let rows : List (List ℤ) = messages_on board in
+    let column : ℕ = index.key.column in
+    values_are column rows index.entries (entries_stand index rows stands)
+    ∙ sym (map-map (λ row. number_at row column) (row_of rows) index.entries)
+    ∙ ap (map (λ row. number_at row column)) (sym (rows_at-entries rows index.entries))
+
+-- ---- the places
+
+places-entries_from : (column place : ℕ) (rows : List (List ℤ))
+    → map (λ (entry : Entry). entry.place) (entries_from column place rows) ≡ range_with_len place (length rows)
+places-entries_from column place [] = refl
+places-entries_from column place (row ∷ rows) =
+    let next : suc place ≡ place + 1 = omega arith in
+    ap (λ rest. place ∷ rest)
+    (places-entries_from column (suc place) rows ∙ ap (λ n. range_with_len n (length rows)) next)
+
+IsBelowAll-range : (x a n : ℕ) → x < a → IsBelowAll nat_cmp x (range_with_len a n)
+IsBelowAll-range x a zero less = tt
+IsBelowAll-range x a (suc n) less =
+    (ap is_gt (sym (nat_cmp_is x a Less less)), IsBelowAll-range x (a + 1) n (omega (arith, less)))
+
+IsAscending-range : (a n : ℕ) → IsAscending nat_cmp (range_with_len a n)
+IsAscending-range a zero = tt
+IsAscending-range a (suc n) = (IsBelowAll-range a (a + 1) n (omega arith), IsAscending-range (a + 1) n)
+
+pub index_names_each_once : IndexNamesEachOnce
+index_names_each_once index board stands =
+    let rows : List (List ℤ) = messages_on board in
+    let by = entry_order index.key.descending in
+    let entries : List Entry = entries_from index.key.column 0 rows in
+    let numbers : List ℕ = range_with_len 0 (length rows) in
+    ascending_once nat_cmp nat_cmp_total nat_cmp-IsAntisymmetric (sorted_by nat_cmp (places_of index)) numbers
+    (IsAscending-sorted_by nat_cmp nat_cmp_total (places_of index))
+    (IsAscending-range 0 (length rows))
+    (λ z.
+    sum_by-sorted_by nat_cmp (λ n. cond (is_eq (nat_cmp z n)) 1 0) (places_of index)
+    ∙ sum_by-map (λ n. cond (is_eq (nat_cmp z n)) 1 0) (λ (entry : Entry). entry.place) index.entries
+    ∙ ap (sum_by (λ entry. cond (is_eq (nat_cmp z entry.place)) 1 0)) stands
+    ∙ sum_by-sorted_by by (λ entry. cond (is_eq (nat_cmp z entry.place)) 1 0) entries
+    ∙ sym (sum_by-map (λ n. cond (is_eq (nat_cmp z n)) 1 0) (λ (entry : Entry). entry.place) entries)
+    ∙ ap (sum_by (λ n. cond (is_eq (nat_cmp z n)) 1 0)) (places-entries_from index.key.column 0 rows))

@@ -128,8 +128,8 @@ Parts values through wanted bound =
     (at : ℕ) (value : ℤ) → slice_get values at ≡ Some value → (at < bound) ↔ IsTrue (is_passed through wanted value)
 
 -- a range has the places with the number, and no other
-abbrev pub IsRangeOf : List ℤ → ℤ → ℕ → ℕ → Type 0
-IsRangeOf values wanted low high =
+abbrev pub IsRangeIn : List ℤ → ℤ → ℕ → ℕ → Type 0
+IsRangeIn values wanted low high =
     (at : ℕ) (number : ℤ) → slice_get values at ≡ Some number → ((low ≤ at) × (at < high)) ↔ (number ≡ wanted)
 
 pub range_order : (values : List ℤ) (wanted : ℤ) (low high : ℕ) → low ≤ length values
@@ -146,7 +146,7 @@ range_order values wanted low high within one two =
     (cases_lt high low)
 
 pub range_values : (values : List ℤ) (wanted : ℤ) (low high : ℕ)
-    → Parts values false wanted low → Parts values true wanted high → IsRangeOf values wanted low high
+    → Parts values false wanted low → Parts values true wanted high → IsRangeIn values wanted low high
 range_values values wanted low high one two at number there =
     let upper = two at number there in
     let lower = one at number there in (
@@ -164,7 +164,7 @@ range_values values wanted low high one two at number there =
     )
 
 pub rows_by_values : (index : IndexTable) (rows : List (List ℤ)) (wanted : ℤ) (low high : ℕ) → IsIndexOf index rows
-    → low ≤ high → high ≤ length index.entries → IsRangeOf (values_of index) wanted low high
+    → low ≤ high → high ≤ length index.entries → IsRangeIn (values_of index) wanted low high
     → rows_at (slice_range (places_of index) low high) rows ≡ filter (has_value index.key.column wanted) rows
 rows_by_values index rows wanted low high stands order within range =
     rows_in_range index rows wanted low high stands order within before inside after

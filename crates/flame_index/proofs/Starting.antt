@@ -1,11 +1,12 @@
 -- Tables of starts: what stands before a place, and one count more.
-use Rattle.std.proofs.Common.{◌≡◌, ℕ, zero, suc, ◌+◌, ◌<◌, ◌≤◌, true, false, List, [], ◌∷◌, ◌++◌, length, Option, Some, None, ◌⊎◌, inl, inr, refl, sym, ap, ◌∙◌, subst, arith, true≢false, ⊎_elim, slice_get}
-use Rattle.std.specs.Prelude.{ℤ, pos, ◌+ℤ◌, IfSome, int_le, int_lt}
-use Rattle.std.specs.Ordering.{int_cmp}
+use Rattle.std.proofs.Common.{◌≡◌, ℕ, zero, suc, ◌+◌, ◌-◌, ◌<◌, ◌≤◌, true, false, List, [], ◌∷◌, ◌++◌, length, Option, Some, None, ◌⊎◌, inl, inr, refl, sym, ap, ◌∙◌, subst, arith, true≢false, ⊎_elim, slice_get}
+use Rattle.std.specs.Prelude.{ℤ, pos, ◌+ℤ◌, ◌-ℤ◌, ◌≤ℤ◌, IfSome, int_le, int_lt}
+use Rattle.std.specs.Ordering.{int_cmp, is_gt}
 use Rattle.std.proofs.lemmas.Bool.{cases_lt}
 use Rattle.std.proofs.lemmas.Int.{ints}
 use Rattle.flame_rows.specs.Sorted.{IsAscending}
-use Rattle.flame_index.specs.IndexBodies.{IsStartOf, IsBoundOf, AreStartsOf, IsLessBelow}
+use Rattle.flame_index.specs.IndexBodies.{IsStartOf, IsBoundOf, AreStartsOf, IsLessBelow, LieBetween, IsTableOf}
+use Rattle.flame_index.proofs.SortedParts.{IsAscending-at}
 use Rattle.flame_index.proofs.Searching.{passed_to, left_from}
 
 -- ---- where values begin
@@ -104,3 +105,91 @@ pub length_push : {X : Type 0} (xs : List X) (x : X) → length (xs ++ x ∷ [])
 length_push [] x = refl
 length_push (y ∷ xs) x =
     let along : suc (length xs + 1) ≡ suc (length xs) + 1 = omega arith in ap suc (length_push xs x) ∙ along
+
+-- ---- the whole table
+
+le_of_order : (v w : ℤ) → is_gt (int_cmp v w) ≡ false → int_le v w ≡ true
+le_of_order v w h = grind (arith, ints)
+
+le_same : (v w : ℤ) → v ≡ w → int_le v w ≡ true
+le_same v w h = grind (arith, ints)
+
+-- values in order lie between the first and the last
+pub lie_between : (values : List ℤ) (first last : ℤ) → IsAscending int_cmp values → slice_get values 0 ≡ Some first
+    → slice_get values (length values - 1) ≡ Some last → LieBetween first last values
+lie_between values first last up one two at value there =
+    let inside : at < length values = past_end values at value there in (
+      ⊎_elim
+          (λ (less : 0 < at). le_of_order first value (IsAscending-at int_cmp values 0 at first value less up one there))
+          (λ (least : at ≤ 0).
+          let same : at ≡ 0 = omega (arith, least) in
+          let both : Some first ≡ Some value = sym one ∙ ap (slice_get values) (sym same) ∙ there in
+          le_same first value (cc))
+          (cases_lt 0 at),
+      ⊎_elim
+          (λ (less : at < length values - 1).
+          le_of_order value last (IsAscending-at int_cmp values at (length values - 1) value last less up there two))
+          (λ (least : length values - 1 ≤ at).
+          let same : at ≡ length values - 1 = omega (arith, least, inside) in
+          let both : Some value ≡ Some last = sym there ∙ ap (slice_get values) same ∙ two in
+          le_same value last (cc))
+          (cases_lt at (length values - 1)),
+    )
+
+back_two : (a b : ℤ) → a ≡ (b +ℤ pos 2) → b ≡ (a -ℤ pos 2)
+back_two a b h = grind (arith, ints)
+
+pub table_by : (least greatest : ℤ) (counts : List ℕ) (values : List ℤ) (extent : ℕ) → length counts ≡ extent
+    → (0 < extent → (least +ℤ pos extent) ≡ (greatest +ℤ pos 2)) → LieBetween least greatest values → AreStartsOf least counts values
+    → IsTableOf least counts values
+table_by least greatest counts values extent long wide bounds starts = record {
+  starts = starts;
+  ends = λ some.
+      let width : (least +ℤ pos (length counts)) ≡ (greatest +ℤ pos 2) =
+      ap (λ n. least +ℤ pos n) long ∙ wide (subst (λ n. 0 < n) long some) in
+      subst (λ last. LieBetween least last values) (back_two (least +ℤ pos (length counts)) greatest width) bounds;
+}
+
+-- ---- numbers that the table does not reach
+
+lt_under : (v n w : ℤ) → int_lt v n ≡ true → n ≤ℤ w → int_lt v w ≡ true
+lt_under v n w h k = grind (arith, ints)
+
+lt_least : (v least w : ℤ) → int_le least v ≡ true → int_lt v (least +ℤ pos 0) ≡ true → int_lt v w ≡ true
+lt_least v least w h k = grind (arith, ints)
+
+lt_last : (v least : ℤ) (place extent : ℕ) → int_le v ((least +ℤ pos extent) -ℤ pos 2) ≡ true → extent ≤ place + 1 → int_lt v (least +ℤ pos place) ≡ true
+lt_last v least place extent h k = grind (arith, ints)
+
+less_than_wanted : (v least wanted : ℤ) (place : ℕ) → int_le least v ≡ true → (0 < place → (least +ℤ pos place) ≤ℤ wanted)
+    → int_lt v (least +ℤ pos place) ≡ true → int_lt v wanted ≡ true
+less_than_wanted v least wanted zero from low less = lt_least v least wanted from less
+less_than_wanted v least wanted (suc k) from low less = lt_under v (least +ℤ pos (suc k)) wanted less (low (omega arith))
+
+less_than_place : (v least wanted : ℤ) (place extent : ℕ) → int_le v ((least +ℤ pos extent) -ℤ pos 2) ≡ true
+    → (place + 1 < extent → wanted ≤ℤ (least +ℤ pos place)) → int_lt v wanted ≡ true → int_lt v (least +ℤ pos place) ≡ true
+less_than_place v least wanted place extent to high less =
+    ⊎_elim
+    (λ (more : place + 1 < extent). lt_under v wanted (least +ℤ pos place) less (high more))
+    (λ (end : extent ≤ place + 1). lt_last v least place extent to end)
+    (cases_lt (place + 1) extent)
+
+-- the count in the place that is nearest to a number's is where the number begins
+pub start_near : (least wanted : ℤ) (counts : List ℕ) (values : List ℤ) → IsTableOf least counts values
+    → (place count : ℕ) → slice_get counts place ≡ Some count
+    → (0 < place → (least +ℤ pos place) ≤ℤ wanted)
+    → (place + 1 < length counts → wanted ≤ℤ (least +ℤ pos place))
+    → IsStartOf wanted values count
+start_near least wanted counts values table place count there low high =
+    let here : IsStartOf (least +ℤ pos place) values count = table.starts place count there in
+    let inside : place < length counts = past_end counts place count there in
+    let bounds : LieBetween least ((least +ℤ pos (length counts)) -ℤ pos 2) values = table.ends (omega (arith, inside)) in
+    record {
+      within = here.within;
+      sides = λ at value is. (
+        λ before. less_than_wanted value least wanted place (bounds at value is).0 low ((here.sides at value is).0 before),
+        λ less.
+            (here.sides at value is).1
+            (less_than_place value least wanted place (length counts) (bounds at value is).1 high less),
+      );
+    }

@@ -1,5 +1,5 @@
 -- Indexes as they lie in memory: values and places in two lists, beside each other.
-use Rattle.std.specs.Prelude.{◌≡◌, ℕ, ◌<◌, ◌≤◌, ◌↔◌, ℤ, pos, ◌+ℤ◌, List, [], ◌∷◌, map, length, slice_get, Bool, Option, None, Some, IsTrue, if◌then◌else◌, int_le, int_lt}
+use Rattle.std.specs.Prelude.{◌≡◌, ℕ, ◌<◌, ◌≤◌, ◌↔◌, ℤ, pos, ◌+ℤ◌, ◌-ℤ◌, List, [], ◌∷◌, map, length, slice_get, Bool, Option, None, Some, IsTrue, if◌then◌else◌, int_le, int_lt}
 use Rattle.std.specs.declared.vec.Vec.{Vec}
 use Rattle.flame_spec.specs.Views.{Key}
 use Rattle.flame_index.specs.declared.entries.Pair.{Pair}
@@ -24,11 +24,22 @@ pub record IsStartOf (wanted : ℤ) (values : List ℤ) (place : ℕ) : Type 0 w
   pub within : place ≤ length values
   pub sides : (at : ℕ) (value : ℤ) → slice_get values at ≡ Some value → (at < place) ↔ IsTrue (int_lt value wanted)
 
--- a table of starts stands for values: each count is how many values are less than the least one and its place in the
--- table together; a table without counts stands for any values [own]
+-- each count of a table of starts is how many values are less than the least number and its place in the table together
+-- [own]
 abbrev pub AreStartsOf : ℤ → List ℕ → List ℤ → Type 0
 AreStartsOf least counts values =
     (place count : ℕ) → slice_get counts place ≡ Some count → IsStartOf (least +ℤ pos place) values count
+
+-- values lie between two numbers, of which each may be one of them [own]
+abbrev pub LieBetween : ℤ → ℤ → List ℤ → Type 0
+LieBetween least greatest values =
+    (at : ℕ) (value : ℤ) → slice_get values at ≡ Some value → IsTrue (int_le least value) × IsTrue (int_le value greatest)
+
+-- a table of starts stands for values: its counts are starts of theirs, it begins with a number than which none is less,
+-- and ends with one than which all are; a table without counts stands for any values [own]
+pub record IsTableOf (least : ℤ) (counts : List ℕ) (values : List ℤ) : Type 0 where
+  pub starts : AreStartsOf least counts values
+  pub ends : 0 < length counts → LieBetween least ((least +ℤ pos (length counts)) -ℤ pos 2) values
 
 -- the values before a place are less than a number [own]
 abbrev pub IsLessBelow : ℤ → List ℤ → ℕ → Type 0

@@ -1,11 +1,13 @@
 -- Indexes: the places of a board's messages in the order of a key.
-use Rattle.std.specs.Prelude.{◌≡◌, ℕ, suc, ◌<◌, ℤ, List, [], ◌∷◌, map, length, Bool, Some, All, if◌then◌else◌, slice_index_or}
+use Rattle.std.specs.Prelude.{◌≡◌, ℕ, suc, ◌<◌, ◌≤◌, ◌↔◌, ℤ, List, [], ◌∷◌, map, length, Bool, Some, All, if◌then◌else◌, slice_get, slice_index_or, slice_range}
+use Rattle.std.specs.List.{filter, range_with_len}
 use Rattle.std.specs.declared.cmp.Ordering.{Ordering}
 use Rattle.std.specs.Ordering.{int_cmp, nat_cmp, then_cmp, on, flip_args}
 use Rattle.flame_rows.specs.Order.{row_order}
 use Rattle.flame_rows.specs.Sorted.{IsAscending, sorted_by}
 use Rattle.flame_spec.specs.Conditions.{number_at}
 use Rattle.flame_spec.specs.Views.{Key, view_order}
+use Rattle.flame_cond.specs.Equalities.{has_value}
 use Rattle.flame_index.specs.FrozenBoards.{FrozenBoard, messages_on}
 
 -- a message of a board: the number in the column of the key, and its place among the messages [own]
@@ -58,6 +60,17 @@ places_of index = map (λ entry. entry.place) index.entries
 abbrev pub rows_at : List ℕ → List (List ℤ) → List (List ℤ)
 rows_at places rows = map (λ place. slice_index_or rows place []) places
 
+-- the places of an index from the first up to the second are those with a number: a place lies in the range exactly where
+-- its number is this one, and the messages at these places are the board's with the number, each as often, in content
+-- order [own]
+pub record IsRangeOf (index : IndexTable) (board : FrozenBoard) (value : ℤ) (low high : ℕ) : Type 0 where
+  pub order : low ≤ high
+  pub within : high ≤ length index.entries
+  pub values : (at : ℕ) (number : ℤ) → slice_get (values_of index) at ≡ Some number → ((low ≤ at) × (at < high)) ↔ (number ≡ value)
+  pub rows :
+      rows_at (slice_range (places_of index) low high) (messages_on board)
+      ≡ filter (has_value index.key.column value) (messages_on board)
+
 -- ---- laws
 
 -- the rows at the places of an index are the board in the order of its key, whether it ascends or descends [own]
@@ -81,3 +94,17 @@ IndexIsAsLong =
     (index : IndexTable) (board : FrozenBoard)
     → StandsFor index board
     → length index.entries ≡ length (messages_on board)
+
+-- each entry has the number of the message in its place, in the column of the key [own]
+abbrev pub IndexHasNumbers : Type 0
+IndexHasNumbers =
+    (index : IndexTable) (board : FrozenBoard)
+    → StandsFor index board
+    → values_of index ≡ map (λ row. number_at row index.key.column) (rows_at (places_of index) (messages_on board))
+
+-- an index names each place of the board once [own]
+abbrev pub IndexNamesEachOnce : Type 0
+IndexNamesEachOnce =
+    (index : IndexTable) (board : FrozenBoard)
+    → StandsFor index board
+    → sorted_by nat_cmp (places_of index) ≡ range_with_len 0 (length (messages_on board))

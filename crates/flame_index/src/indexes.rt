@@ -1,11 +1,9 @@
 //! Indexes of boards.
 
-ghost use Rattle.std.specs.Prelude.{◌≡◌, ℕ, ◌+◌, ◌*◌, ◌^◌, ◌<◌, ◌≤◌, ◌↔◌, false, ℤ, IfOk, IfSome, length, slice_get, slice_range, IsTrue};
-ghost use Rattle.std.specs.List.{filter};
+ghost use Rattle.std.specs.Prelude.{◌≡◌, ℕ, ◌+◌, ◌*◌, ◌^◌, ◌<◌, ◌≤◌, ◌↔◌, false, ℤ, IfOk, IfSome, length, slice_get, IsTrue};
 ghost use Rattle.flame_cond.specs.Said.{key_by};
-ghost use Rattle.flame_cond.specs.Equalities.{has_value};
 ghost use Rattle.flame_index.specs.FrozenBoards.{FrozenBoard, ascending_by, messages_on};
-ghost use Rattle.flame_index.specs.Indexes.{StandsFor, places_of, rows_at, values_of};
+ghost use Rattle.flame_index.specs.Indexes.{IsRangeOf, StandsFor, places_of, values_of};
 ghost use Rattle.flame_index.specs.IndexBodies.{IsBoundOf, is_passed};
 
 use crate::boards::Frozen;
@@ -33,14 +31,14 @@ impl Model for Index {
     ghost use Rattle.std.specs.Prelude.{◌≡◌, length};
     ghost use Rattle.flame_cond.specs.Said.{key_by};
     ghost use Rattle.flame_index.specs.Indexes.{IndexTable};
-    ghost use Rattle.flame_index.specs.IndexBodies.{AreStartsOf, entries_of};
+    ghost use Rattle.flame_index.specs.IndexBodies.{IsTableOf, entries_of};
 
     ghost Value = { IndexTable };
 
     ghost view = { λ a. record { key = key_by a.by; entries = entries_of a.values.items a.places.items } };
 
     ghost invariant = { λ a. (length a.values.items ≡ length a.places.items)
-        × AreStartsOf a.starts.least a.starts.counts.items a.values.items };
+        × IsTableOf a.starts.least a.starts.counts.items a.values.items };
 }
 
 impl Index {
@@ -165,9 +163,9 @@ impl Index {
 
     /// The places of the index whose messages have this number in its column: from the first up to the second. The index
     /// stands for this board, and its key ascends, as those of `Index::of` and `Frozen::indexed` do. Where the numbers of
-    /// the board are dense, a table tells the range without a step; else, and for a number that the table does not reach,
-    /// it takes at most 2d steps, where d is how many binary digits the number of messages has. That numbers are read by
-    /// `probe` alone, and when the table tells, no clause says.
+    /// the board are dense, a table tells the range of any number without a step; else it takes at most 2d steps, where d
+    /// is how many binary digits the number of messages has. That numbers are read by `probe` alone, and when the table
+    /// tells, no clause says.
     pub fn equal<L: Ledger>(
         &self,
         board: &Frozen,
@@ -176,12 +174,7 @@ impl Index {
     ) -> (usize, usize)
         requires stands { StandsFor self.now board.now }
         requires ascending { self.now.key.descending ≡ false }
-        ensures order { result.0 ≤ result.1 }
-        ensures within { result.1 ≤ length self.now.entries }
-        ensures values { (at : ℕ) (number : ℤ) → slice_get (values_of self.now) at ≡ Some number
-            → ((result.0 ≤ at) × (at < result.1)) ↔ (number ≡ value) }
-        ensures rows { rows_at (slice_range (places_of self.now) result.0 result.1) (messages_on board.now)
-            ≡ filter (has_value self.now.key.column value) (messages_on board.now) }
+        ensures range { IsRangeOf self.now board.now value result.0 result.1 }
         ensures cost { (d : ℕ) → length self.now.entries < 2 ^ d → steps.new ≤ steps.old + 2 * d }
     {
         let from = self.passed(board, value, false, steps);
@@ -193,12 +186,7 @@ impl Index {
     pub fn range(&self, board: &Frozen, value: i32) -> (usize, usize)
         requires stands { StandsFor self.now board.now }
         requires ascending { self.now.key.descending ≡ false }
-        ensures order { result.0 ≤ result.1 }
-        ensures within { result.1 ≤ length self.now.entries }
-        ensures values { (at : ℕ) (number : ℤ) → slice_get (values_of self.now) at ≡ Some number
-            → ((result.0 ≤ at) × (at < result.1)) ↔ (number ≡ value) }
-        ensures rows { rows_at (slice_range (places_of self.now) result.0 result.1) (messages_on board.now)
-            ≡ filter (has_value self.now.key.column value) (messages_on board.now) }
+        ensures { IsRangeOf self.now board.now value result.0 result.1 }
     {
         counted::<Brand>(self, board, value, Blank::new(1))
     }
@@ -226,12 +214,7 @@ fn counted<L: Ledger>(index: &Index, board: &Frozen, value: i32, blank: Blank) -
     requires some { 0 < blank.parts }
     requires stands { StandsFor index.now board.now }
     requires ascending { index.now.key.descending ≡ false }
-    ensures order { result.0 ≤ result.1 }
-    ensures within { result.1 ≤ length index.now.entries }
-    ensures values { (at : ℕ) (number : ℤ) → slice_get (values_of index.now) at ≡ Some number
-        → ((result.0 ≤ at) × (at < result.1)) ↔ (number ≡ value) }
-    ensures rows { rows_at (slice_range (places_of index.now) result.0 result.1) (messages_on board.now)
-        ≡ filter (has_value index.now.key.column value) (messages_on board.now) }
+    ensures { IsRangeOf index.now board.now value result.0 result.1 }
 {
     let mut steps = Steps::<L>::new(blank);
     index.equal(board, value, &mut steps)

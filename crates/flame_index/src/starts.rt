@@ -1,15 +1,15 @@
 //! Where the numbers of an ascending index begin.
 
-ghost use Rattle.std.specs.Prelude.{◌≡◌, ◌≤◌, ◌+◌, ◌*◌, ◌^◌, ℤ, ◌≤ℤ◌, int_le, List, pos, ◌+ℤ◌, length, IfOk, IfSome};
+ghost use Rattle.std.specs.Prelude.{◌≡◌, ◌<◌, ◌≤◌, ◌+◌, ◌*◌, ◌^◌, ℤ, ◌≤ℤ◌, int_le, List, pos, ◌+ℤ◌, length, IfOk, IfSome};
 ghost use Rattle.std.specs.Ordering.{int_cmp};
 ghost use Rattle.flame_rows.specs.Sorted.{IsAscending};
-ghost use Rattle.flame_index.specs.IndexBodies.{AreStartsOf, IsBoundOf, IsLessBelow, IsStartOf};
+ghost use Rattle.flame_index.specs.IndexBodies.{AreStartsOf, IsBoundOf, IsLessBelow, IsStartOf, IsTableOf, LieBetween};
 
 use flame_rows::{NoMemory, number};
 use std::alloc::Global;
 
-/// A table of starts beside ascending values: the count in place k is how many of them are less than `least` and k. There
-/// are none where the values are not dense.
+/// A table of starts beside ascending values: the count in place k is how many of them are less than `least` and k. It
+/// goes to one past the greatest of them. There are no counts where the values are not dense.
 #[derive(Debug, Drop)]
 pub struct Starts {
     least: i32,
@@ -19,7 +19,7 @@ pub struct Starts {
 impl Starts {
     /// A table without counts.
     pub fn none(alloc: Global) -> Starts
-        ensures { (values : List ℤ) → AreStartsOf result.least result.counts.items values }
+        ensures { (values : List ℤ) → IsTableOf result.least result.counts.items values }
     {
         Starts {
             least: 0,
@@ -30,23 +30,17 @@ impl Starts {
     /// The table for these values; it has no counts where they are not dense, and where memory for it is not found.
     pub fn of(alloc: Global, values: &[i32]) -> Starts
         requires { IsAscending int_cmp values.now }
-        ensures { AreStartsOf result.least result.counts.items values.now }
+        ensures { IsTableOf result.least result.counts.items values.now }
     {
-        match values.first() {
-            Some(least) => match counted(alloc, values, *least, extent(values)) {
-                Ok(counts) => Starts {
-                    least: *least,
-                    counts,
-                },
-                Err(_) => Starts::none(alloc),
-            },
-            None => Starts::none(alloc),
+        match (values.first(), values.last()) {
+            (Some(least), Some(greatest)) => between(alloc, values, *least, *greatest),
+            _ => Starts::none(alloc),
         }
     }
 
-    /// How many of the values a search for the number goes past, where the table tells it.
+    /// How many of the values a search for the number goes past, where there is a table.
     pub fn passed(&self, wanted: i32, through: bool) -> Option<usize>
-        ensures { (values : List ℤ) → AreStartsOf self.now.least self.now.counts.items values
+        ensures { (values : List ℤ) → IsTableOf self.now.least self.now.counts.items values
             → IfSome result (λ place. IsBoundOf through wanted values place) }
     {
         if through {
@@ -56,54 +50,65 @@ impl Starts {
         }
     }
 
-    /// How many of the values are less than the number, where the table tells it. The number is one past those of 32 bits
+    /// How many of the values are less than the number, where there is a table. The number is one past those of 32 bits
     /// at most.
     fn before(&self, wanted: i64) -> Option<usize>
         requires { wanted ≤ℤ pos 2147483648 }
-        ensures { (values : List ℤ) → AreStartsOf self.now.least self.now.counts.items values
+        ensures { (values : List ℤ) → IsTableOf self.now.least self.now.counts.items values
             → IfSome result (λ place. IsStartOf wanted values place) }
     {
-        match distance(self.least, wanted) {
-            Some(place) => match self.counts.get(place) {
-                Some(count) => Some(*count as usize),
-                None => None,
-            },
+        match self
+            .counts
+            .get(nearest(self.least, wanted, self.counts.len()))
+        {
+            Some(count) => Some(*count as usize),
             None => None,
         }
     }
 }
 
-/// How far the number is past the least one; none where it is less.
-fn distance(least: i32, wanted: i64) -> Option<usize>
+/// The place of the number in a table of so many counts, of which the first is for the least number; of a number that
+/// the table does not reach, the place that is nearest.
+fn nearest(least: i32, wanted: i64, extent: usize) -> usize
     requires { wanted ≤ℤ pos 2147483648 }
-    ensures { IfSome result (λ place. (least +ℤ pos place) ≡ wanted) }
+    ensures low { 0 < result → (least +ℤ pos result) ≤ℤ wanted }
+    ensures high { result + 1 < extent → wanted ≤ℤ (least +ℤ pos result) }
 {
     if wanted < i64::from(least) {
-        None
+        return 0;
+    }
+    let place = (wanted - i64::from(least)) as usize;
+    if place < extent {
+        place
     } else {
-        Some((wanted - i64::from(least)) as usize)
+        extent.saturating_sub(1)
     }
 }
 
-/// How many counts there are for values in order: none where their width is at least 4 times as great as they are many.
-fn extent(values: &[i32]) -> usize
-    ensures small { result ≤ 4 * length values.now + 1 }
+/// How many counts there are for so many values from the least to the greatest, to one past it: none where their width
+/// is at least 4 times as great as they are many.
+fn extent(least: i32, greatest: i32, many: usize) -> usize
+    ensures wide { 0 < result → (least +ℤ pos result) ≡ (greatest +ℤ pos 2) }
+    ensures small { result ≤ 4 * many + 1 }
     ensures narrow { result ≤ 2 ^ 32 + 1 }
 {
-    match (values.first(), values.last()) {
-        (Some(least), Some(greatest)) => {
-            let width = i64::from(*greatest) - i64::from(*least);
-            if width < 0 {
-                return 0;
-            }
-            let width = width as usize;
-            if width / 4 < values.len() {
-                width + 2
-            } else {
-                0
-            }
-        }
-        _ => 0,
+    let width = i64::from(greatest) - i64::from(least);
+    if width < 0 {
+        return 0;
+    }
+    let width = width as usize;
+    if width / 4 < many { width + 2 } else { 0 }
+}
+
+/// The table for values from the least to the greatest.
+fn between(alloc: Global, values: &[i32], least: i32, greatest: i32) -> Starts
+    requires ascending { IsAscending int_cmp values.now }
+    requires bounds { LieBetween least greatest values.now }
+    ensures { IsTableOf result.least result.counts.items values.now }
+{
+    match counted(alloc, values, least, extent(least, greatest, values.len())) {
+        Ok(counts) => Starts { least, counts },
+        Err(_) => Starts::none(alloc),
     }
 }
 
@@ -111,6 +116,7 @@ fn extent(values: &[i32]) -> usize
 fn counted(alloc: Global, values: &[i32], least: i32, extent: usize) -> Result<Vec<u32>, NoMemory>
     requires ascending { IsAscending int_cmp values.now }
     requires narrow { extent ≤ 2 ^ 32 + 1 }
+    ensures long { IfOk result (λ counts. length counts.items ≡ extent) }
     ensures starts { IfOk result (λ counts. AreStartsOf least counts.items values.now) }
 {
     let mut counts = Vec::with_capacity(alloc, extent)?;

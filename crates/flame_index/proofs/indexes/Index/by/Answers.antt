@@ -6,7 +6,7 @@ use Rattle.flame_cond.specs.Said.{key_by}
 use Rattle.flame_rows.specs.Sorted.{IsAscending, sorted_by}
 use Rattle.flame_index.specs.declared.entries.Pair.{Pair}
 use Rattle.flame_index.specs.Indexes.{Entry, IndexTable, entries_from, entry_order}
-use Rattle.flame_index.specs.IndexBodies.{AreStartsOf, entry_of, entries_of}
+use Rattle.flame_index.specs.IndexBodies.{IsTableOf, entry_of, entries_of}
 use Rattle.flame_index.proofs.Entered.{entries_of-pairs}
 use Rattle.flame_index.proofs.Searching.{values_ascend}
 use Rattle.flame_index.proofs.indexes.Index.by.Goals.{then-by, else-by}
@@ -44,15 +44,15 @@ invariant_of-result c =
     c.in_ok-places.ensures ∙ ap (map (λ (pair : Pair). pair.place)) c.deref-2.ensures.value in
     let all = c.in_ok-values.values.items in
     let starts = c.if-by.starts in
-    let stand : AreStartsOf starts.least starts.counts.items all =
+    let stand : IsTableOf starts.least starts.counts.items all =
     elim c.if-by.branch [
       | then-by w ↦
-          subst (λ least. AreStartsOf least starts.counts.items all) (ap (λ s. s.least) (sym w.starts-is))
-          (subst (λ counts. AreStartsOf w.none-starts.result.least counts all) (ap (λ s. s.counts.items) (sym w.starts-is))
+          subst (λ least. IsTableOf least starts.counts.items all) (ap (λ s. s.least) (sym w.starts-is))
+          (subst (λ counts. IsTableOf w.none-starts.result.least counts all) (ap (λ s. s.counts.items) (sym w.starts-is))
           (w.none-starts.ensures all))
       | else-by w ↦
-          subst (λ least. AreStartsOf least starts.counts.items all) (ap (λ s. s.least) (sym w.starts-is))
-          (subst (λ counts. AreStartsOf w.of-starts.result.least counts all) (ap (λ s. s.counts.items) (sym w.starts-is))
-          (subst (AreStartsOf w.of-starts.result.least w.of-starts.result.counts.items) w.deref-else-by.ensures.value w.of-starts.ensures))
+          subst (λ least. IsTableOf least starts.counts.items all) (ap (λ s. s.least) (sym w.starts-is))
+          (subst (λ counts. IsTableOf w.of-starts.result.least counts all) (ap (λ s. s.counts.items) (sym w.starts-is))
+          (subst (IsTableOf w.of-starts.result.least w.of-starts.result.counts.items) w.deref-else-by.ensures.value w.of-starts.ensures))
     ] in
     (ap length values ∙ length-map pairs (λ (pair : Pair). pair.value) ∙ sym (length-map pairs (λ (pair : Pair). pair.place)) ∙ sym (ap length places), stand)
