@@ -1,14 +1,16 @@
 -- The levels of operators.
 use Rattle.std.proofs.Common.{◌≡◌, ℕ, zero, suc, ◌<◌, [], ◌∷◌, refl, sym, arith, Bool, true, false, Some, None}
+use Rattle.std.specs.Prelude.{is_some, not, Option}
 use Rattle.std.proofs.lemmas.Bool.{false≢true}
 use Rattle.flame_ops.specs.declared.integers.Op.{Op}
 use Rattle.flame_spec.specs.declared.trees.SignKind.{SignKind}
 use Rattle.flame_expr.specs.declared.lexemes.Lexeme.{Lexeme}
-use Rattle.flame_expr.specs.declared.lexemes.Lexeme.TheVariants.{Nothing, Star, Slash, Percent, Plus, Minus, Below, Above, AtMost, AtLeast, Same, Differs, Bang}
+use Rattle.flame_expr.specs.declared.lexemes.Lexeme.TheVariants.{Nothing}
 use Rattle.flame_expr.specs.Lexemes.{is_real}
 use Rattle.flame_expr.specs.OperatorLevels.{operators, signs, op_of, sign_of, joins}
 use Rattle.flame_expr.specs.ViablePrefixes.{form, level, one_of, many, tail}
 use Rattle.flame_expr.proofs.LexemeFacts.{or, among, everywhere}
+use Rattle.flame_expr.proofs.Operators.{of_each, op_among, sign_among}
 use Rattle.flame_expr.proofs.Parts.{any_heads, pasts, clean, ends_here, joins_on, fine}
 
 -- what joins a level, and more joins the next one
@@ -29,19 +31,17 @@ Enters k d =
     × (pasts (any_heads ((tail k ∷ []) ∷ []) d) ≡ (form (level k) ∷ tail k ∷ []) ∷ [])
 
 pub enters_tail : (k : ℕ) (d : Lexeme) (o : Op) → op_of k d ≡ Some o → Enters k d
-enters_tail zero Star o e = (refl, refl, refl)
-enters_tail zero Slash o e = (refl, refl, refl)
-enters_tail zero Percent o e = (refl, refl, refl)
-enters_tail (suc zero) Plus o e = (refl, refl, refl)
-enters_tail (suc zero) Minus o e = (refl, refl, refl)
-enters_tail (suc (suc zero)) Below o e = (refl, refl, refl)
-enters_tail (suc (suc zero)) Above o e = (refl, refl, refl)
-enters_tail (suc (suc zero)) AtMost o e = (refl, refl, refl)
-enters_tail (suc (suc zero)) AtLeast o e = (refl, refl, refl)
-enters_tail (suc (suc (suc zero))) Same o e = (refl, refl, refl)
-enters_tail (suc (suc (suc zero))) Differs o e = (refl, refl, refl)
+enters_tail zero d o e =
+    of_each (Enters 0) (operators 0) d ((refl, refl, refl), ((refl, refl, refl), ((refl, refl, refl), tt))) (op_among 0 d o e)
+enters_tail (suc zero) d o e =
+    of_each (Enters 1) (operators 1) d ((refl, refl, refl), ((refl, refl, refl), tt)) (op_among 1 d o e)
+enters_tail (suc (suc zero)) d o e =
+    of_each (Enters 2) (operators 2) d
+    ((refl, refl, refl), ((refl, refl, refl), ((refl, refl, refl), ((refl, refl, refl), tt))))
+    (op_among 2 d o e)
+enters_tail (suc (suc (suc zero))) d o e =
+    of_each (Enters 3) (operators 3) d ((refl, refl, refl), ((refl, refl, refl), tt)) (op_among 3 d o e)
 enters_tail (suc (suc (suc (suc k)))) d o e = cc
-enters_tail k d o e = cc
 
 -- no further operator of the level
 abbrev no_op : ℕ → Lexeme → Bool
@@ -63,23 +63,23 @@ or_right false b h e = h
 pub tail_ends : (k : ℕ) (d : Lexeme) → k < 6 → among d (operators k) ≡ false → ends_here (any_heads ((tail k ∷ []) ∷ []) d) ≡ true
 tail_ends k d h n = or_right (among d (operators k)) (ends_here (any_heads ((tail k ∷ []) ∷ []) d)) (ends k h d) n
 
+nothing : {X : Type 0} (x : Option X) (b : Bool) → x ≡ None → or (is_some x) b ≡ true → b ≡ true
+nothing None b is h = h
+nothing (Some y) b is h = cc
+
 -- a lexeme with no operator in a chain of this level
+abbrev unlisted : ℕ → Lexeme → Bool
+unlisted k d = or (is_some (op_of k d)) (not (among d (operators k)))
+
+not_true : (b : Bool) → not b ≡ true → b ≡ false
+not_true false h = refl
+not_true true h = absurd (false≢true h)
+
 pub none_among : (k : ℕ) (d : Lexeme) → k < 4 → op_of k d ≡ None → among d (operators k) ≡ false
-none_among zero Star h e = cc
-none_among zero Slash h e = cc
-none_among zero Percent h e = cc
-none_among zero d h e = refl
-none_among (suc zero) Plus h e = cc
-none_among (suc zero) Minus h e = cc
-none_among (suc zero) d h e = refl
-none_among (suc (suc zero)) Below h e = cc
-none_among (suc (suc zero)) Above h e = cc
-none_among (suc (suc zero)) AtMost h e = cc
-none_among (suc (suc zero)) AtLeast h e = cc
-none_among (suc (suc zero)) d h e = refl
-none_among (suc (suc (suc zero))) Same h e = cc
-none_among (suc (suc (suc zero))) Differs h e = cc
-none_among (suc (suc (suc zero))) d h e = refl
+none_among zero d h e = not_true _ (nothing (op_of 0 d) _ e (everywhere (unlisted 0) refl d))
+none_among (suc zero) d h e = not_true _ (nothing (op_of 1 d) _ e (everywhere (unlisted 1) refl d))
+none_among (suc (suc zero)) d h e = not_true _ (nothing (op_of 2 d) _ e (everywhere (unlisted 2) refl d))
+none_among (suc (suc (suc zero))) d h e = not_true _ (nothing (op_of 3 d) _ e (everywhere (unlisted 3) refl d))
 none_among (suc (suc (suc (suc k)))) d h e = absurd (omega arith)
 
 pub sign_real : (d : Lexeme) (s : SignKind) → sign_of d ≡ Some s → is_real d ≡ true
@@ -94,13 +94,11 @@ EntersSigns d =
     × (pasts (any_heads ((many (one_of signs) ∷ []) ∷ []) d) ≡ (many (one_of signs) ∷ []) ∷ [])
 
 pub enters_signs : (d : Lexeme) (s : SignKind) → sign_of d ≡ Some s → EntersSigns d
-enters_signs Minus s e = (refl, refl, refl)
-enters_signs Plus s e = (refl, refl, refl)
-enters_signs Bang s e = (refl, refl, refl)
-enters_signs d s e = cc
+enters_signs d s e =
+    of_each EntersSigns signs d ((refl, refl, refl), ((refl, refl, refl), ((refl, refl, refl), tt))) (sign_among d s e)
+
+abbrev no_sign : Lexeme → Bool
+no_sign d = or (is_some (sign_of d)) (ends_here (any_heads ((many (one_of signs) ∷ []) ∷ []) d))
 
 pub signs_end : (d : Lexeme) → sign_of d ≡ None → ends_here (any_heads ((many (one_of signs) ∷ []) ∷ []) d) ≡ true
-signs_end Minus e = cc
-signs_end Plus e = cc
-signs_end Bang e = cc
-signs_end d e = refl
+signs_end d e = nothing (sign_of d) _ e (everywhere no_sign refl d)

@@ -1,4 +1,5 @@
 pub mod LexemeFacts
+pub mod Operators
 pub mod Walk
 pub mod Heads
 pub mod Parts

@@ -2,16 +2,16 @@
 use Rattle.std.proofs.Common.{◌≡◌, ℕ, zero, suc, List, [], ◌∷◌, ◌++◌, refl, sym, ap, ◌∙◌, subst, arith, Bool, true, false, Option, Some, None}
 use Rattle.std.proofs.lemmas.Bool.{false≢true}
 use Rattle.std.proofs.lemmas.Option.{same_Some}
-use Rattle.flame_ops.specs.declared.integers.Op.{Op}
 use Rattle.flame_spec.specs.declared.trees.Sign.{Sign}
 use Rattle.flame_spec.specs.Trees.{Expression, Expressions, part, Links, link, Indexed}
 use Rattle.flame_lex.specs.declared.token.Token.{Token}
 use Rattle.flame_expr.specs.declared.lexemes.Lexeme.{Lexeme}
-use Rattle.flame_expr.specs.declared.lexemes.Lexeme.TheVariants.{Word, Number, Open, Close, OpenBracket, CloseBracket, Arrow, AndAnd, OrOr, Star, Slash, Percent, Plus, Minus, Below, Above, AtMost, AtLeast, Same, Differs}
+use Rattle.flame_expr.specs.declared.lexemes.Lexeme.TheVariants.{Word, Number, Open, Close, OpenBracket, CloseBracket, Arrow, AndAnd, OrOr}
 use Rattle.flame_expr.specs.Lexemes.{first, text, line, behind}
-use Rattle.flame_expr.specs.OperatorLevels.{operators, joins, op_of, sign_of}
+use Rattle.flame_expr.specs.OperatorLevels.{operators, joins, sign_of}
 use Rattle.flame_expr.specs.ExpressionGrammar.{named, field_of, with_signs, chained, all_parts, any_parts, Reads, a_unary, a_chain, a_conjunction, a_disjunction, Tail, no_link, a_link, Conjuncts, no_conjunct, a_conjunct, Disjuncts, no_disjunct, a_disjunct, Signs, no_sign, a_sign, Primary, a_number, a_name, a_field, a_get, in_brackets, Index, no_index, an_index, Bracketed, bracketed, Closed, closed}
 use Rattle.flame_expr.proofs.LexemeFacts.{or, same, same_self, among}
+use Rattle.flame_expr.proofs.Operators.{op_stops, op_joins}
 
 -- nothing that makes a form of the level longer is next
 abbrev pub IsStop : ℕ → List Token → Type 0
@@ -31,35 +31,6 @@ among_front d (x ∷ xs) ys h = let i = or_left_false (same x d) (among d (xs ++
 
 pub stop_below : (k : ℕ) (ts : List Token) → IsStop (suc k) ts → IsStop k ts
 stop_below k ts h = among_front (first ts) (joins k) (operators k) h
-
--- an operator of a level joins nothing below it, and joins the level
-op_stops : (k : ℕ) (d : Lexeme) (o : Op) → op_of k d ≡ Some o → among d (joins k) ≡ false
-op_stops zero Star o e = refl
-op_stops zero Slash o e = refl
-op_stops zero Percent o e = refl
-op_stops (suc zero) Plus o e = refl
-op_stops (suc zero) Minus o e = refl
-op_stops (suc (suc zero)) Below o e = refl
-op_stops (suc (suc zero)) Above o e = refl
-op_stops (suc (suc zero)) AtMost o e = refl
-op_stops (suc (suc zero)) AtLeast o e = refl
-op_stops (suc (suc (suc zero))) Same o e = refl
-op_stops (suc (suc (suc zero))) Differs o e = refl
-op_stops k d o e = cc
-
-op_joins : (k : ℕ) (d : Lexeme) (o : Op) → op_of k d ≡ Some o → among d (joins (suc k)) ≡ true
-op_joins zero Star o e = refl
-op_joins zero Slash o e = refl
-op_joins zero Percent o e = refl
-op_joins (suc zero) Plus o e = refl
-op_joins (suc zero) Minus o e = refl
-op_joins (suc (suc zero)) Below o e = refl
-op_joins (suc (suc zero)) Above o e = refl
-op_joins (suc (suc zero)) AtMost o e = refl
-op_joins (suc (suc zero)) AtLeast o e = refl
-op_joins (suc (suc (suc zero))) Same o e = refl
-op_joins (suc (suc (suc zero))) Differs o e = refl
-op_joins k d o e = cc
 
 stop_if : (k : ℕ) (d : Lexeme) (ts : List Token) → first ts ≡ d → among d (joins k) ≡ false → IsStop k ts
 stop_if k d ts f h = ap (λ x. among x (joins k)) f ∙ h

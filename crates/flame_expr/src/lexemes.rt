@@ -8,7 +8,7 @@ use flame_lex::Kind;
 /// What a rule of the grammar asks of a token: its kind, and of a mark or a keyword which one. The names of words and
 /// of message loops, and the value of a number, play no part.
 // ORDER MARKS
-#[derive(Clone, Copy, Debug, PartialEq, Eq)]
+#[derive(Clone, Copy, PartialEq)]
 pub enum Lexeme {
     /// No token, or a mark or keyword that is in no table.
     Nothing,
