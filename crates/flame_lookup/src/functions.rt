@@ -1,16 +1,17 @@
 //! The functions of a model and C functions, in their orders.
 
-ghost use Rattle.std.specs.Prelude.{◌≡◌, ◌++◌, ℕ, List, [], ◌∷◌, IfOk, OnOk, map, if◌then◌else◌};
+ghost use Rattle.std.specs.Prelude.{◌≡◌, ◌++◌, ℕ, List, [], ◌∷◌, IfOk, OnOk, map, option_map, if◌then◌else◌};
 ghost use Rattle.std.specs.List.{filter, list_any};
+ghost use Rattle.std.specs.HashMap.{get_by_text};
 ghost use Rattle.std.specs.Str.{bytes_eq};
 ghost use Rattle.flame_spec.specs.Definitions.{definitions, definitions_of};
 ghost use Rattle.flame_spec.specs.Functions.{at_type, functions_from};
-ghost use Rattle.flame_spec.specs.Lists.{numbers_where};
-ghost use Rattle.flame_lookup.specs.WordsFound.{place_found, definition_found};
+ghost use Rattle.flame_spec.specs.Lists.{numbered_where, numbers_where};
+ghost use Rattle.flame_lookup.specs.WordsFound.{place_found, definition_found, helper_found};
 ghost use Rattle.flame_lookup.specs.WordTables.{numbers_under, helps_beside};
 
-use crate::found::{CFunction, Transition};
-use crate::table::Table;
+use crate::found::{CFunction, Helper, Transition};
+use crate::table::{Table, c_function_table};
 use flame_rows::{NoMemory, number};
 use flame_spec::{AgentType, Unit};
 use std::alloc::Global;
@@ -151,10 +152,7 @@ fn add_file<'a>(all: &mut Vec<CFunction<'a>>, file: u32, unit: &'a Unit) -> Resu
 }
 
 /// The C functions of these files in source order.
-pub(crate) fn c_functions<'a>(
-    alloc: Global,
-    units: &'a [Unit],
-) -> Result<Vec<CFunction<'a>>, NoMemory>
+fn c_functions<'a>(alloc: Global, units: &'a [Unit]) -> Result<Vec<CFunction<'a>>, NoMemory>
     ensures { IfOk result (λ all. map definition_found all.items ≡ definitions units.now) }
 {
     let mut all = Vec::new(alloc);
@@ -189,7 +187,7 @@ fn add_helper<'a>(
 }
 
 /// The helpers among these C functions beside these functions of a model.
-pub(crate) fn helpers_among<'a>(
+fn helpers_among<'a>(
     alloc: Global,
     functions: &Functions<'_>,
     all: &[CFunction<'a>],
@@ -202,4 +200,52 @@ pub(crate) fn helpers_among<'a>(
         add_helper(functions, function, &mut found)?;
     }
     Ok(found)
+}
+
+/// C functions, and for each name the first of them that has it.
+#[derive(Drop)]
+pub(crate) struct CFunctions<'a> {
+    pub(crate) all: Vec<CFunction<'a>>,
+    pub(crate) by_name: Table<Helper<'a>>,
+}
+
+impl<'a> CFunctions<'a> {
+    /// These C functions, with the table of their names.
+    fn with_names(alloc: Global, all: Vec<CFunction<'a>>) -> Result<CFunctions<'a>, NoMemory>
+        ensures listed { IfOk result (λ functions. functions.all ≡ all.entry) }
+        ensures named { IfOk result (λ functions. (name : List ℕ)
+            → option_map helper_found (get_by_text functions.by_name name)
+            ≡ numbered_where (λ d. bytes_eq d.name name) (map definition_found all.entry.items)) }
+    {
+        let by_name = c_function_table(alloc, all.as_slice())?;
+        Ok(CFunctions { all, by_name })
+    }
+
+    /// The C functions of these files in source order.
+    pub(crate) fn of(alloc: Global, units: &'a [Unit]) -> Result<CFunctions<'a>, NoMemory>
+        ensures listed { IfOk result (λ functions. map definition_found functions.all.items ≡ definitions units.now) }
+        ensures named { IfOk result (λ functions. (name : List ℕ)
+            → option_map helper_found (get_by_text functions.by_name name)
+            ≡ numbered_where (λ d. bytes_eq d.name name) (definitions units.now)) }
+    {
+        let all = c_functions(alloc, units)?;
+        CFunctions::with_names(alloc, all)
+    }
+
+    /// The helpers among them beside these functions of a model.
+    pub(crate) fn helpers(
+        &self,
+        alloc: Global,
+        functions: &Functions<'_>,
+    ) -> Result<CFunctions<'a>, NoMemory>
+        ensures listed { IfOk result (λ helpers. map definition_found helpers.all.items
+            ≡ filter (helps_beside functions.now) (map definition_found self.now.all.items)) }
+        ensures named { IfOk result (λ helpers. (name : List ℕ)
+            → option_map helper_found (get_by_text helpers.by_name name)
+            ≡ numbered_where (λ d. bytes_eq d.name name)
+            (filter (helps_beside functions.now) (map definition_found self.now.all.items))) }
+    {
+        let helpers = helpers_among(alloc, functions, self.all.as_slice())?;
+        CFunctions::with_names(alloc, helpers)
+    }
 }

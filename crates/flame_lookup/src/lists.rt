@@ -1,7 +1,8 @@
 //! Lists of a model whose items are found by the words of function files.
 
-ghost use Rattle.std.specs.Prelude.{◌≡◌, IfOk, option_map};
+ghost use Rattle.std.specs.Prelude.{◌≡◌, ◌<◌, IfOk, Some, length, map, option_map, slice_get};
 ghost use Rattle.flame_spec.specs.Columns.{variable_named};
+ghost use Rattle.flame_spec.specs.ExpressionFaults.{member_of};
 ghost use Rattle.flame_spec.specs.LookUps.{memory_named, memory_got, memory_set, constant_named, agent_born};
 ghost use Rattle.flame_spec.specs.LookUps.{message_sent, message_read, message_looped};
 ghost use Rattle.flame_lookup.specs.WordsFound.{item_found};
@@ -52,6 +53,17 @@ impl<'a> Constants<'a> {
     }
 }
 
+/// The tables of the variables of these message types.
+fn fields_of<'a>(alloc: Global, messages: &'a [MessageType]) -> Result<Vec<Fields<'a>>, NoMemory>
+    ensures { IfOk result (λ fields. fields.items ≡ map (λ message. message.variables) messages.now) }
+{
+    let mut fields = Vec::new(alloc);
+    for message in messages {
+        fields.push(Fields::of(alloc, message.variables.items())?)?;
+    }
+    Ok(fields)
+}
+
 /// Message types, seen as their list.
 #[derive(Drop)]
 pub(crate) struct Messages<'a> {
@@ -59,10 +71,11 @@ pub(crate) struct Messages<'a> {
     sent: Table<Found<'a, MessageType>>,
     read: Table<Found<'a, MessageType>>,
     looped: Table<Found<'a, MessageType>>,
+    fields: Vec<Fields<'a>>,
 }
 
 impl<'a> Model for Messages<'a> {
-    ghost use Rattle.std.specs.Prelude.{◌≡◌, ℕ, List, option_map};
+    ghost use Rattle.std.specs.Prelude.{◌≡◌, ℕ, List, map, option_map};
     ghost use Rattle.std.specs.HashMap.{get_by_text};
     ghost use Rattle.flame_spec.specs.declared.models.MessageType.{MessageType};
     ghost use Rattle.flame_spec.specs.LookUps.{message_sent, message_read, message_looped};
@@ -79,6 +92,7 @@ impl<'a> Model for Messages<'a> {
           → option_map item_found (get_by_text t.read word) ≡ message_read t.messages.now word;
       looped : (word : List ℕ)
           → option_map item_found (get_by_text t.looped word) ≡ message_looped t.messages.now word;
+      fields : t.fields.items ≡ map (λ message. message.variables) t.messages.now;
     } };
 }
 
@@ -90,11 +104,13 @@ impl<'a> Messages<'a> {
         let sent = numbered(alloc, Form::AddMessage, messages)?;
         let read = numbered(alloc, Form::Row, messages)?;
         let looped = numbered(alloc, Form::Capitals, messages)?;
+        let fields = fields_of(alloc, messages)?;
         Ok(Messages {
             messages,
             sent,
             read,
             looped,
+            fields,
         })
     }
 
@@ -118,6 +134,36 @@ impl<'a> Messages<'a> {
     {
         look(&self.looped, word)
     }
+
+    /// The variables of the message of this number.
+    fn fields(&self, number: u32) -> &Fields<'a>
+        requires { number < length self.now }
+        ensures { option_map (λ message. message.variables) (slice_get self.now number) ≡ Some result.now }
+    {
+        let fields = self.fields.as_slice();
+        &fields[number as usize]
+    }
+
+    /// The variable of this name of the message whose row the word reads.
+    pub(crate) fn member(&self, word: &str, variable: &str) -> Option<Found<'a, Variable>>
+        ensures { option_map item_found result ≡ member_of (message_read self.now word.now) variable.now }
+    {
+        match self.read(word) {
+            Some(message) => self.fields(message.at).named(variable),
+            None => None,
+        }
+    }
+}
+
+/// The tables of the memories of these agent types.
+fn memories_of<'a>(alloc: Global, agents: &'a [AgentType]) -> Result<Vec<Memory<'a>>, NoMemory>
+    ensures { IfOk result (λ memories. memories.items ≡ map (λ agent. agent.memory) agents.now) }
+{
+    let mut memories = Vec::new(alloc);
+    for agent in agents {
+        memories.push(Memory::of(alloc, agent.memory.items())?)?;
+    }
+    Ok(memories)
 }
 
 /// Agent types, seen as their list.
@@ -125,10 +171,11 @@ impl<'a> Messages<'a> {
 pub(crate) struct Agents<'a> {
     agents: &'a [AgentType],
     born: Table<Found<'a, AgentType>>,
+    memories: Vec<Memory<'a>>,
 }
 
 impl<'a> Model for Agents<'a> {
-    ghost use Rattle.std.specs.Prelude.{◌≡◌, ℕ, List, option_map};
+    ghost use Rattle.std.specs.Prelude.{◌≡◌, ℕ, List, map, option_map};
     ghost use Rattle.std.specs.Coded.{codes};
     ghost use Rattle.std.specs.HashMap.{get_by_text};
     ghost use Rattle.flame_spec.specs.contracts.models.AgentType as a;
@@ -142,8 +189,10 @@ impl<'a> Model for Agents<'a> {
 
     ghost view = { λ t. t.agents.now };
 
-    ghost invariant = { λ t. (word : List ℕ)
-        → option_map item_found (get_by_text t.born word) ≡ agent_born t.agents.now word };
+    ghost invariant = { λ t. record {
+      born : (word : List ℕ) → option_map item_found (get_by_text t.born word) ≡ agent_born t.agents.now word;
+      memories : t.memories.items ≡ map (λ agent. agent.memory) t.agents.now;
+    } };
 }
 
 impl<'a> Agents<'a> {
@@ -152,7 +201,12 @@ impl<'a> Agents<'a> {
         ensures { IfOk result (λ table. table ≡ agents.now) }
     {
         let born = numbered(alloc, Form::AddAgent, agents)?;
-        Ok(Agents { agents, born })
+        let memories = memories_of(alloc, agents)?;
+        Ok(Agents {
+            agents,
+            born,
+            memories,
+        })
     }
 
     /// The type of the agent that the word bears.
@@ -160,6 +214,15 @@ impl<'a> Agents<'a> {
         ensures { option_map item_found result ≡ agent_born self.now word.now }
     {
         look(&self.born, word)
+    }
+
+    /// The memory of the type of this number.
+    pub(crate) fn memory(&self, number: u32) -> &Memory<'a>
+        requires { number < length self.now }
+        ensures { option_map (λ agent. agent.memory) (slice_get self.now number) ≡ Some result.now }
+    {
+        let memories = self.memories.as_slice();
+        &memories[number as usize]
     }
 }
 
@@ -265,5 +328,31 @@ impl<'a> Memory<'a> {
         ensures { option_map item_found result ≡ memory_set self.now word.now }
     {
         look(&self.set, word)
+    }
+}
+
+/// The lists of a model whose items are found by words.
+#[derive(Drop)]
+pub(crate) struct Lists<'a> {
+    pub(crate) constants: Constants<'a>,
+    pub(crate) messages: Messages<'a>,
+    pub(crate) agents: Agents<'a>,
+}
+
+impl<'a> Lists<'a> {
+    /// The tables of the lists of this model.
+    pub(crate) fn of(alloc: Global, model: &'a flame_spec::Model) -> Result<Lists<'a>, NoMemory>
+        ensures constants { IfOk result (λ lists. lists.constants ≡ model.now.constants) }
+        ensures messages { IfOk result (λ lists. lists.messages ≡ model.now.messages) }
+        ensures agents { IfOk result (λ lists. lists.agents ≡ model.now.agents) }
+    {
+        let constants = Constants::of(alloc, model.constants.items())?;
+        let agents = Agents::of(alloc, model.agents.items())?;
+        let messages = Messages::of(alloc, model.messages.items())?;
+        Ok(Lists {
+            constants,
+            messages,
+            agents,
+        })
     }
 }

@@ -12,13 +12,13 @@ ghost use Rattle.flame_lookup.specs.Sources.{names_before};
 ghost use Rattle.flame_lookup.specs.WordsFound.{item_found, definition_found, helper_found, place_found};
 
 use crate::found::{CFunction, Found, Helper, Transition};
-use crate::functions::{self, Functions, c_functions, helpers_among};
-use crate::lists::{Agents, Constants, Fields, Memory, Messages};
+use crate::functions::{self, CFunctions, Functions};
+use crate::lists::{Agents, Constants, Lists, Messages};
 use crate::running::Running;
-use crate::table::{Table, c_function_table, look};
+use crate::table::look;
 use crate::words::Words;
 use flame_rows::{NoMemory, Seq};
-use flame_spec::{AgentType, Function, MessageType, Unit, Variable};
+use flame_spec::{Function, Unit, Variable};
 use std::alloc::Global;
 use std::marker::Model;
 
@@ -28,16 +28,10 @@ use std::marker::Model;
 pub struct Tables<'a> {
     model: &'a flame_spec::Model,
     units: &'a Seq<Unit>,
-    constants: Constants<'a>,
-    messages: Messages<'a>,
-    fields: Vec<Fields<'a>>,
-    agents: Agents<'a>,
-    memories: Vec<Memory<'a>>,
     functions: Functions<'a>,
-    all: Vec<CFunction<'a>>,
-    named: Table<Helper<'a>>,
-    helpers: Vec<CFunction<'a>>,
-    helped: Table<Helper<'a>>,
+    defined: CFunctions<'a>,
+    helpers: CFunctions<'a>,
+    lists: Lists<'a>,
 }
 
 impl<'a> Model for Tables<'a> {
@@ -60,41 +54,17 @@ impl<'a> Model for Tables<'a> {
     ghost view = { λ t. record { model = t.model.now; units = t.units.now } };
 
     ghost invariant = { λ t. record {
-      constants : t.constants ≡ t.model.now.constants;
-      messages : t.messages ≡ t.model.now.messages;
-      fields : t.fields.items ≡ map (λ message. message.variables) t.model.now.messages;
-      agents : t.agents ≡ t.model.now.agents;
-      memories : t.memories.items ≡ map (λ agent. agent.memory) t.model.now.agents;
+      constants : t.lists.constants ≡ t.model.now.constants;
+      messages : t.lists.messages ≡ t.model.now.messages;
+      agents : t.lists.agents ≡ t.model.now.agents;
       in_order : t.functions ≡ functions_of t.model.now;
-      all : map definition_found t.all.items ≡ definitions t.units.now;
-      named : (word : List ℕ) → option_map helper_found (get_by_text t.named word)
+      all : map definition_found t.defined.all.items ≡ definitions t.units.now;
+      named : (word : List ℕ) → option_map helper_found (get_by_text t.defined.by_name word)
           ≡ numbered_where (λ d. bytes_eq d.name word) (definitions t.units.now);
-      helping : map definition_found t.helpers.items ≡ helpers_of t.model.now t.units.now;
-      helped : (word : List ℕ) → option_map helper_found (get_by_text t.helped word)
+      helping : map definition_found t.helpers.all.items ≡ helpers_of t.model.now t.units.now;
+      helped : (word : List ℕ) → option_map helper_found (get_by_text t.helpers.by_name word)
           ≡ helper_named (helpers_of t.model.now t.units.now) word;
     } };
-}
-
-/// The tables of the variables of these message types.
-fn fields_of<'a>(alloc: Global, messages: &'a [MessageType]) -> Result<Vec<Fields<'a>>, NoMemory>
-    ensures { IfOk result (λ fields. fields.items ≡ map (λ message. message.variables) messages.now) }
-{
-    let mut fields = Vec::new(alloc);
-    for message in messages {
-        fields.push(Fields::of(alloc, message.variables.items())?)?;
-    }
-    Ok(fields)
-}
-
-/// The tables of the memories of these agent types.
-fn memories_of<'a>(alloc: Global, agents: &'a [AgentType]) -> Result<Vec<Memory<'a>>, NoMemory>
-    ensures { IfOk result (λ memories. memories.items ≡ map (λ agent. agent.memory) agents.now) }
-{
-    let mut memories = Vec::new(alloc);
-    for agent in agents {
-        memories.push(Memory::of(alloc, agent.memory.items())?)?;
-    }
-    Ok(memories)
 }
 
 impl<'a> Tables<'a> {
@@ -107,29 +77,17 @@ impl<'a> Tables<'a> {
     ) -> Result<Tables<'a>, NoMemory>
         ensures { IfOk result (λ tables. tables ≡ record { model = model.now; units = units.now }) }
     {
-        let constants = Constants::of(alloc, model.constants.items())?;
-        let messages = Messages::of(alloc, model.messages.items())?;
-        let fields = fields_of(alloc, model.messages.items())?;
-        let agents = Agents::of(alloc, model.agents.items())?;
-        let memories = memories_of(alloc, model.agents.items())?;
         let functions = Functions::of(alloc, model.agents.items())?;
-        let all = c_functions(alloc, units.items())?;
-        let named = c_function_table(alloc, all.as_slice())?;
-        let helpers = helpers_among(alloc, &functions, all.as_slice())?;
-        let helped = c_function_table(alloc, helpers.as_slice())?;
+        let defined = CFunctions::of(alloc, units.items())?;
+        let helpers = defined.helpers(alloc, &functions)?;
+        let lists = Lists::of(alloc, model)?;
         Ok(Tables {
             model,
             units,
-            constants,
-            messages,
-            fields,
-            agents,
-            memories,
             functions,
-            all,
-            named,
+            defined,
             helpers,
-            helped,
+            lists,
         })
     }
 
@@ -137,7 +95,7 @@ impl<'a> Tables<'a> {
     pub fn c_functions(&self) -> &[CFunction<'a>]
         ensures { map definition_found result.now ≡ definitions self.now.units }
     {
-        self.all.as_slice()
+        self.defined.all.as_slice()
     }
 
     /// All functions of the model in document order, by which they are numbered.
@@ -151,7 +109,7 @@ impl<'a> Tables<'a> {
     pub fn helpers(&self) -> &[CFunction<'a>]
         ensures { map definition_found result.now ≡ helpers self.now.model self.now.units }
     {
-        self.helpers.as_slice()
+        self.helpers.all.as_slice()
     }
 
     /// Whether the C function is a helper: it has parameters, and no function of the model has its name.
@@ -167,9 +125,9 @@ impl<'a> Tables<'a> {
         ensures { (d : Definition) → slice_get (definitions self.now.units) number ≡ Some d
             → result ≡ is_among d.name (names_before number (definitions self.now.units)) }
     {
-        let all = self.all.as_slice();
+        let all = self.defined.all.as_slice();
         let function = all[number];
-        match look(&self.named, function.def.name.as_str()) {
+        match look(&self.defined.by_name, function.def.name.as_str()) {
             Some(first) => (first.number as usize) < number,
             None => false,
         }
@@ -179,7 +137,7 @@ impl<'a> Tables<'a> {
     pub fn defined(&self, function: &Function) -> Option<CFunction<'a>>
         ensures { option_map definition_found result ≡ find (is_for function.now) (definitions self.now.units) }
     {
-        match look(&self.named, function.name.as_str()) {
+        match look(&self.defined.by_name, function.name.as_str()) {
             Some(first) => Some(first.function),
             None => None,
         }
@@ -201,47 +159,28 @@ impl<'a> Tables<'a> {
     pub(crate) fn helper(&self, word: &str) -> Option<Helper<'a>>
         ensures { option_map helper_found result ≡ helper_named (helpers self.now.model self.now.units) word.now }
     {
-        look(&self.helped, word)
+        look(&self.helpers.by_name, word)
     }
 
     /// The constants.
     pub(crate) fn constants(&self) -> &Constants<'a>
         ensures { result.now ≡ self.now.model.constants }
     {
-        &self.constants
+        &self.lists.constants
     }
 
     /// The message types.
     pub(crate) fn messages(&self) -> &Messages<'a>
         ensures { result.now ≡ self.now.model.messages }
     {
-        &self.messages
+        &self.lists.messages
     }
 
     /// The agent types.
     pub(crate) fn agents(&self) -> &Agents<'a>
         ensures { result.now ≡ self.now.model.agents }
     {
-        &self.agents
-    }
-
-    /// The variables of the message type of this number.
-    fn fields(&self, number: u32) -> &Fields<'a>
-        requires { number < length self.now.model.messages }
-        ensures { option_map (λ message. message.variables) (slice_get self.now.model.messages number)
-            ≡ Some result.now }
-    {
-        let fields = self.fields.as_slice();
-        &fields[number as usize]
-    }
-
-    /// The memory of the agent type of this number.
-    fn memory(&self, number: u32) -> &Memory<'a>
-        requires { number < length self.now.model.agents }
-        ensures { option_map (λ agent. agent.memory) (slice_get self.now.model.agents number) ≡ Some result.now }
-    {
-        let memories = self.memories.as_slice();
-        &memories[number as usize]
+        &self.lists.agents
     }
 
     /// The variable of this name of the message whose row the word reads.
@@ -249,10 +188,7 @@ impl<'a> Tables<'a> {
         ensures { option_map item_found result
             ≡ member_of (message_read self.now.model.messages word.now) variable.now }
     {
-        match self.messages.read(word) {
-            Some(message) => self.fields(message.at).named(variable),
-            None => None,
-        }
+        self.lists.messages.member(word, variable)
     }
 
     /// What the words of a helper in the file of this number stand for.
@@ -275,7 +211,7 @@ impl<'a> Tables<'a> {
             ≡ record { sources = self.now; runs = slice_get (functions self.now.model) number; file = file }) }
     {
         let place = self.functions.places()[number as usize];
-        let runs = Running::of(alloc, place, self.memory(place.number))?;
+        let runs = Running::of(alloc, place, self.lists.agents.memory(place.number))?;
         Ok(Words::of(self, Some(runs), file))
     }
 }

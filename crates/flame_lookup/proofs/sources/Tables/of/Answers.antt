@@ -11,24 +11,22 @@ use Rattle.flame_lookup.proofs.sources.Tables.of.Goals as goal
 pub invariant_of-result : goal.invariant_of-result
 invariant_of-result c =
     let in_order : c.in_ok-functions.functions ≡ functions c.args.model.now =
-    c.in_ok-functions.ensures ∙ ap (functions_from 0) c.items-6.ensures in
-    let all : map definition_found c.in_ok-all.all.items ≡ definitions c.args.units.now =
-    c.in_ok-all.ensures ∙ ap definitions c.items-7.ensures in
-    let helping : map definition_found c.in_ok-helpers.helpers.items ≡ helpers c.args.model.now c.args.units.now =
-    c.in_ok-helpers.ensures
-    ∙ ap (λ places. filter (helps_beside places) (map definition_found c.as_slice-2.result.now)) in_order
-    ∙ ap (filter (helps_beside (functions c.args.model.now))) (ap (map definition_found) c.as_slice-2.ensures.value ∙ all) in
+    c.in_ok-functions.ensures ∙ ap (functions_from 0) c.items.ensures in
+    let all : map definition_found c.in_ok-defined.defined.all.items ≡ definitions c.args.units.now =
+    c.in_ok-defined.ensures.listed ∙ ap definitions c.items-2.ensures in
+    let helping :
+    filter (helps_beside c.in_ok-functions.functions) (map definition_found c.in_ok-defined.defined.all.items)
+    ≡ helpers c.args.model.now c.args.units.now =
+    ap (λ places. filter (helps_beside places) (map definition_found c.in_ok-defined.defined.all.items)) in_order
+    ∙ ap (filter (helps_beside (functions c.args.model.now))) all in
     record {
-      constants = c.in_ok-constants.ensures ∙ c.items.ensures;
-      messages = c.in_ok-messages.ensures ∙ c.items-2.ensures;
-      fields = c.in_ok-fields.ensures ∙ ap (map (λ message. message.variables)) c.items-3.ensures;
-      agents = c.in_ok-agents.ensures ∙ c.items-4.ensures;
-      memories = c.in_ok-memories.ensures ∙ ap (map (λ agent. agent.memory)) c.items-5.ensures;
+      constants = c.in_ok-lists.ensures.constants;
+      messages = c.in_ok-lists.ensures.messages;
+      agents = c.in_ok-lists.ensures.agents;
       in_order = in_order;
       all = all;
-      named = λ word. c.in_ok-named.ensures word
-          ∙ ap (numbered_where (λ d. bytes_eq d.name word)) (ap (map definition_found) c.as_slice.ensures.value ∙ all);
-      helping = helping;
-      helped = λ word. c.in_ok-helped.ensures word
-          ∙ ap (numbered_where (λ d. bytes_eq d.name word)) (ap (map definition_found) c.as_slice-3.ensures.value ∙ helping);
+      named = λ word. c.in_ok-defined.ensures.named word
+          ∙ ap (λ units. numbered_where (λ d. bytes_eq d.name word) (definitions units)) c.items-2.ensures;
+      helping = c.in_ok-helpers.ensures.listed ∙ helping;
+      helped = λ word. c.in_ok-helpers.ensures.named word ∙ ap (numbered_where (λ d. bytes_eq d.name word)) helping;
     }
