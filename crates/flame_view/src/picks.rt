@@ -15,10 +15,10 @@ use flame_rows::{NoMemory, Row};
 use std::alloc::Global;
 use std::cmp::Ordering;
 
-/// The rows that pass the filter with this memory, in the order in which they lie.
+/// The rows of a view that pass the filter with this memory, in its order.
 fn picked<'a>(
     alloc: Global,
-    rows: &'a [Row],
+    rows: &View<'a>,
     filter: Option<&Filter>,
     memory: &Row,
 ) -> Result<Vec<&'a Row>, NoMemory>
@@ -26,48 +26,13 @@ fn picked<'a>(
         map (λ row. row.now) picked.items ≡ picked_by (option_copied filter.entry) memory.now rows.now) }
 {
     let mut picked: Vec<&'a Row> = Vec::new(alloc);
-    for row in rows {
+    for place in 0..rows.len() {
+        let row = rows.row(place);
         if filter.is_none_or(|filter| filter.passes(memory, row)) {
             picked.push(row)?;
         }
     }
     Ok(picked)
-}
-
-/// The same of rows that need not lie beside each other.
-fn picked_of<'a>(
-    alloc: Global,
-    rows: &View<'a>,
-    filter: Option<&Filter>,
-    memory: &Row,
-) -> Result<Vec<&'a Row>, NoMemory>
-    ensures { IfOk result (λ passed.
-        map (λ row. row.now) passed.items ≡ picked_by (option_copied filter.entry) memory.now rows.now) }
-{
-    let mut passed: Vec<&'a Row> = Vec::new(alloc);
-    for place in 0..rows.len() {
-        let row = rows.row(place);
-        if filter.is_none_or(|filter| filter.passes(memory, row)) {
-            passed.push(row)?;
-        }
-    }
-    Ok(passed)
-}
-
-/// The rows of a view that pass, in its order.
-fn passed<'a>(
-    alloc: Global,
-    rows: &View<'a>,
-    filter: Option<&Filter>,
-    memory: &Row,
-) -> Result<Vec<&'a Row>, NoMemory>
-    ensures { IfOk result (λ passed.
-        map (λ row. row.now) passed.items ≡ picked_by (option_copied filter.entry) memory.now rows.now) }
-{
-    match rows.lying() {
-        Some(lying) => picked(alloc, lying, filter, memory),
-        None => picked_of(alloc, rows, filter, memory),
-    }
 }
 
 /// The rows in the order of the key.
@@ -97,11 +62,11 @@ pub fn narrowed<'a>(
         view ≡ in_order_of sort (picked_by (option_copied filter.entry) memory.now rows.entry)) }
 {
     if let Some(by) = sort {
-        let passed = passed(alloc, &rows, filter, memory)?;
-        return Ok(View::picked(sorted(passed, by)?));
+        let picked = picked(alloc, &rows, filter, memory)?;
+        return Ok(View::picked(sorted(picked, by)?));
     }
     if filter.is_none() {
         return Ok(rows);
     }
-    Ok(View::picked(passed(alloc, &rows, filter, memory)?))
+    Ok(View::picked(picked(alloc, &rows, filter, memory)?))
 }

@@ -1,6 +1,6 @@
 //! Views.
 
-ghost use Rattle.std.specs.Prelude.{◌≡◌, ◌<◌, length, map, slice_get, Some, IfSome};
+ghost use Rattle.std.specs.Prelude.{◌≡◌, ◌<◌, length, map, slice_get, Some};
 ghost use Rattle.flame_index.specs.Indexes.{rows_at};
 ghost use Rattle.flame_view.specs.ViewWays.{AreWithin};
 
@@ -96,16 +96,6 @@ impl<'a> View<'a> {
     {
         View {
             rows: Rows::Lent(rows),
-        }
-    }
-
-    /// The rows where they lie beside each other, in order.
-    pub(crate) fn lying(&self) -> Option<&'a [Row]>
-        ensures { IfSome result (λ rows. rows.now ≡ self.now) }
-    {
-        match &self.rows {
-            Rows::All(rows) => Some(rows),
-            _ => None,
         }
     }
 

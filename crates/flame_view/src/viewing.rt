@@ -112,10 +112,10 @@ impl<'a> View<'a> {
     /// row or the memory lacks counts as 0.
     ///
     /// Where the filter asks for a number in column 0 and no row is empty, and where it asks for one in a column by which
-    /// the board keeps an index, two binary searches find the rows; they are tested only where the filter says more. A
-    /// sort takes n log n comparisons for the n rows that pass, but for a key that the board keeps, for the column of that
-    /// number, and for column 0 with the least number first where no row is empty: these take none. Where nothing is left
-    /// to test and to sort no memory is taken.
+    /// the board keeps an index, two binary searches find the rows, or two look-ups where the index has a table of starts;
+    /// they are tested only where the filter says more. A sort takes n log n comparisons for the n rows that pass, but for
+    /// a key that the board keeps, for the column of that number, and for column 0 with the least number first where no
+    /// row is empty: these take none. Where nothing is left to test and to sort no memory is taken.
     pub fn new(
         alloc: Global,
         board: &'a Frozen,

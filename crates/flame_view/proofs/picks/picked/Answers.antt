@@ -3,8 +3,8 @@ use Rattle.std.specs.Option.{option_copied}
 use Rattle.std.proofs.lemmas.Grind.{common_steps}
 use Rattle.flame_view.specs.Compiled.{is_read_by}
 use Rattle.flame_view.proofs.Narrowed.{filter-next}
-use Rattle.flame_view.proofs.picks.picked_of.Goals as goal
-use Rattle.flame_view.proofs.picks.picked_of.Goals.{then-is_none_or+in_ok-push, else-is_none_or}
+use Rattle.flame_view.proofs.picks.picked.Goals as goal
+use Rattle.flame_view.proofs.picks.picked.Goals.{then-is_none_or+in_ok-push, else-is_none_or}
 
 pub loop-place-preserved : goal.loop-place-preserved
 loop-place-preserved c =
