@@ -8,6 +8,7 @@ mod function;
 mod locals;
 mod loops;
 mod name;
+mod simple;
 mod spot;
 mod statement;
 mod stored;

@@ -1,13 +1,13 @@
 //! Statements.
 
-ghost use Rattle.std.specs.Prelude.{◌≡◌, ◌++◌, [], IfErr, IfOk, OnOk};
+ghost use Rattle.std.specs.Prelude.{◌≡◌, ◌++◌, [], ◌∷◌, ℕ, List, IfErr, IfOk, OnOk};
 ghost use Rattle.flame_spec.specs.ExpressionFaults.{expression_faults};
 ghost use Rattle.flame_spec.specs.FirstFaults.{FailsFirst};
-ghost use Rattle.flame_spec.specs.Scopes.{after, after_all, in_loop, in_scope};
+ghost use Rattle.flame_spec.specs.Scopes.{after, after_all, in_loop, in_scope, over_none};
 ghost use Rattle.flame_spec.specs.Seen.{arms as arms_seen, expression as seen, tested};
 ghost use Rattle.flame_spec.specs.Seen.{statement as statement_seen, statements as statements_seen};
 ghost use Rattle.flame_spec.specs.StatementFaults.{arms_faults, statement_faults, statements_faults};
-ghost use Rattle.flame_spec.specs.Trees.{do_while, loop_over, while};
+ghost use Rattle.flame_spec.specs.Trees as tree;
 ghost use Rattle.flame_lookup.specs.Sources.{context_at};
 ghost use Rattle.flame_body.specs.NumberedTrees.{numbered, numbered_arms, numbered_statement, numbered_statements};
 ghost use Rattle.flame_numbering.specs.Heads.{head_faults, head_seen, numbered_head};
@@ -16,9 +16,10 @@ ghost use Rattle.flame_numbering.specs.WordPlaces.{words_at};
 
 use crate::call::call;
 use crate::expression::{expression, optional};
-use crate::loops::{finish, jump, start};
+use crate::loops::{finish, start};
+use crate::simple::{assign, break_loop, continue_loop, declare, return_value};
 use crate::spot::Spot;
-use crate::stored::{assignment, items, optional_assignment};
+use crate::stored::optional_assignment;
 use flame_body::{SlotArm, SlotHead, SlotStmt};
 use flame_lookup::Words;
 use flame_rows::{Boxed, Fail, Seq};
@@ -42,58 +43,33 @@ fn statement<'a>(
 {
     match s {
         Stmt::Empty => Ok(SlotStmt::Empty),
-        Stmt::Declare(declared) => Ok(SlotStmt::Declare(items(
+        Stmt::Declare(declared) => declare(alloc, words, spot, declared.items()),
+        Stmt::Assign(a) => assign(alloc, words, spot, a),
+        Stmt::Call(line, word, es) => { call(alloc, words, spot, *line, word.as_str(), es.items()) }
+        Stmt::Block(body) => nested(alloc, words, spot, body.items()),
+        Stmt::If(tests, otherwise) => {
+            let tests = arms(alloc, words, spot, tests.items())?;
+            conditional(alloc, words, spot, otherwise.items(), tests)
+        }
+        Stmt::While(line, test, body) => while_loop(alloc, words, spot, body.items(), *line, test),
+        Stmt::For(line, head, body) => {
+            let head = for_head(alloc, words, spot, head.get())?;
+            for_loop(alloc, words, spot, body.items(), *line, head)
+        }
+        Stmt::Do(line, body, test) => do_loop(alloc, words, spot, body.items(), *line, test),
+        Stmt::Loop(line, word, body, end_line, end_word) => message_loop(
             alloc,
             words,
             spot,
-            declared.items(),
-        )?)),
-        Stmt::Assign(a) => Ok(SlotStmt::Assign(assignment(alloc, words, spot, a)?)),
-        Stmt::Call(line, word, es) => {
-            let word = word.as_str();
-            Ok(call(alloc, words, spot, *line, word, es.items())?)
-        }
-        Stmt::Block(body) => Ok(SlotStmt::Block(block(alloc, words, spot, body.items())?)),
-        Stmt::If(tests, otherwise) => {
-            let tests = arms(alloc, words, spot, tests.items())?;
-            let otherwise = block(alloc, words, spot, otherwise.items())?;
-            Ok(SlotStmt::If(tests, otherwise))
-        }
-        Stmt::While(line, test, body) => {
-            Ok(while_loop(alloc, words, spot, body.items(), *line, test)?)
-        }
-        Stmt::For(line, head, body) => {
-            spot.enter()?;
-            let head = for_head(alloc, words, spot, head.get())?;
-            let head = Boxed::of(alloc, head)?;
-            let body = turn(alloc, words, spot, None, body.items())?;
-            spot.leave();
-            Ok(SlotStmt::For(*line, head, body))
-        }
-        Stmt::Do(line, body, test) => Ok(do_loop(alloc, words, spot, body.items(), *line, test)?),
-        Stmt::Loop(line, word, body, end_line, end_word) => {
-            let body = body.items();
-            let end = end_word.as_str();
-            Ok(message_loop(
-                alloc,
-                words,
-                spot,
-                body,
-                *line,
-                word.as_str(),
-                *end_line,
-                end,
-            )?)
-        }
-        Stmt::Return(e) => Ok(SlotStmt::Return(expression(alloc, words, spot, e)?)),
-        Stmt::Break(line) => {
-            jump(alloc, words, spot, *line, "break")?;
-            Ok(SlotStmt::Break)
-        }
-        Stmt::Continue(line) => {
-            jump(alloc, words, spot, *line, "continue")?;
-            Ok(SlotStmt::Continue)
-        }
+            body.items(),
+            *line,
+            word.as_str(),
+            *end_line,
+            end_word.as_str(),
+        ),
+        Stmt::Return(e) => return_value(alloc, words, spot, e),
+        Stmt::Break(line) => break_loop(alloc, words, spot, *line),
+        Stmt::Continue(line) => continue_loop(alloc, words, spot, *line),
     }
 }
 
@@ -210,6 +186,47 @@ fn arms<'a>(
     Ok(Seq::of(slots))
 }
 
+/// A block as a statement.
+#[cycle(walk_statement)]
+fn nested<'a>(
+    alloc: Global,
+    words: &Words<'_, 'a>,
+    spot: &mut Spot<'a>,
+    body: &'a [Stmt],
+) -> Result<SlotStmt, Fail<CheckFault>>
+    ensures clean { OnOk result
+        (statement_faults (context_at words.now) spot.old (tree.block (statements_seen body.now)) ≡ []) }
+    ensures stands { IfOk result (λ slots.
+        slots ≡ numbered_statement (words_at words.now) spot.old (tree.block (statements_seen body.now))) }
+    ensures kept { OnOk result (spot.new ≡ spot.old) }
+    ensures first { IfErr result
+        (FailsFirst (statement_faults (context_at words.now) spot.old (tree.block (statements_seen body.now)))) }
+{
+    let body = block(alloc, words, spot, body)?;
+    Ok(SlotStmt::Block(body))
+}
+
+/// `if` with these tests, and the body of its last `else`.
+#[cycle(walk_statement)]
+fn conditional<'a>(
+    alloc: Global,
+    words: &Words<'_, 'a>,
+    spot: &mut Spot<'a>,
+    otherwise: &'a [Stmt],
+    tests: Seq<SlotArm>,
+) -> Result<SlotStmt, Fail<CheckFault>>
+    ensures clean { OnOk result
+        (statements_faults (context_at words.now) (in_scope spot.old) (statements_seen otherwise.now) ≡ []) }
+    ensures stands { IfOk result (λ slots. slots ≡ SlotStmt.If tests
+        (numbered_statements (words_at words.now) (in_scope spot.old) (statements_seen otherwise.now))) }
+    ensures kept { OnOk result (spot.new ≡ spot.old) }
+    ensures first { IfErr result
+        (FailsFirst (statements_faults (context_at words.now) (in_scope spot.old) (statements_seen otherwise.now))) }
+{
+    let otherwise = block(alloc, words, spot, otherwise)?;
+    Ok(SlotStmt::If(tests, otherwise))
+}
+
 /// `while`
 #[cycle(walk_statement)]
 fn while_loop<'a>(
@@ -221,19 +238,19 @@ fn while_loop<'a>(
     test: &Expr,
 ) -> Result<SlotStmt, Fail<CheckFault>>
     ensures clean { OnOk result (statement_faults (context_at words.now) spot.old
-        (while line (seen test.now) (statements_seen body.now)) ≡ []) }
+        (tree.while line (seen test.now) (statements_seen body.now)) ≡ []) }
     ensures stands { IfOk result (λ slots. slots ≡ numbered_statement (words_at words.now) spot.old
-        (while line (seen test.now) (statements_seen body.now))) }
+        (tree.while line (seen test.now) (statements_seen body.now))) }
     ensures kept { OnOk result (spot.new ≡ spot.old) }
     ensures first { IfErr result (FailsFirst (statement_faults (context_at words.now) spot.old
-        (while line (seen test.now) (statements_seen body.now)))) }
+        (tree.while line (seen test.now) (statements_seen body.now)))) }
 {
     let test = expression(alloc, words, spot, test)?;
     let body = turn(alloc, words, spot, None, body)?;
     Ok(SlotStmt::While(line, test, body))
 }
 
-/// The head of a `for`, in whose scope the place is already.
+/// The head of a `for`: its scope begins.
 #[cycle(walk_statement)]
 fn for_head<'a>(
     alloc: Global,
@@ -241,15 +258,43 @@ fn for_head<'a>(
     spot: &mut Spot<'a>,
     head: &'a Head,
 ) -> Result<SlotHead, Fail<CheckFault>>
-    ensures clean { OnOk result (head_faults (context_at words.now) spot.old (head_seen head.now) ≡ []) }
-    ensures stands { IfOk result (λ slots. slots ≡ numbered_head (words_at words.now) spot.old (head_seen head.now)) }
-    ensures after { OnOk result (spot.new ≡ after_all spot.old (head_seen head.now).first) }
-    ensures first { IfErr result (FailsFirst (head_faults (context_at words.now) spot.old (head_seen head.now))) }
+    ensures clean { OnOk result (head_faults (context_at words.now) (in_scope spot.old) (head_seen head.now) ≡ []) }
+    ensures stands { IfOk result (λ slots.
+        slots ≡ numbered_head (words_at words.now) (in_scope spot.old) (head_seen head.now)) }
+    ensures after { OnOk result (spot.new ≡ after_all (in_scope spot.old) (head_seen head.now).first) }
+    ensures first { IfErr result
+        (FailsFirst (head_faults (context_at words.now) (in_scope spot.old) (head_seen head.now))) }
 {
+    spot.enter()?;
     let first = statements(alloc, words, spot, head.first.items())?;
     let test = optional(alloc, words, spot, &head.test)?;
     let step = optional_assignment(alloc, words, spot, &head.step)?;
     Ok(SlotHead { first, test, step })
+}
+
+/// `for` with this head, whose scope ends.
+#[cycle(walk_statement)]
+fn for_loop<'a>(
+    alloc: Global,
+    words: &Words<'_, 'a>,
+    spot: &mut Spot<'a>,
+    body: &'a [Stmt],
+    line: u32,
+    head: SlotHead,
+) -> Result<SlotStmt, Fail<CheckFault>>
+    ensures clean { OnOk result
+        (statements_faults (context_at words.now) (in_loop over_none spot.old) (statements_seen body.now) ≡ []) }
+    ensures stands { IfOk result (λ slots. slots ≡ SlotStmt.For line head
+        (numbered_statements (words_at words.now) (in_loop over_none spot.old) (statements_seen body.now))) }
+    ensures left { (scope : List (List ℕ)) (outer : List (List (List ℕ))) → spot.old.outer ≡ scope ∷ outer
+        → OnOk result (spot.new ≡ record spot.old { scope = scope; outer = outer }) }
+    ensures first { IfErr result
+        (FailsFirst (statements_faults (context_at words.now) (in_loop over_none spot.old) (statements_seen body.now))) }
+{
+    let head = Boxed::of(alloc, head)?;
+    let body = turn(alloc, words, spot, None, body)?;
+    spot.leave();
+    Ok(SlotStmt::For(line, head, body))
 }
 
 /// `do`
@@ -263,12 +308,12 @@ fn do_loop<'a>(
     test: &Expr,
 ) -> Result<SlotStmt, Fail<CheckFault>>
     ensures clean { OnOk result (statement_faults (context_at words.now) spot.old
-        (do_while line (statements_seen body.now) (seen test.now)) ≡ []) }
+        (tree.do_while line (statements_seen body.now) (seen test.now)) ≡ []) }
     ensures stands { IfOk result (λ slots. slots ≡ numbered_statement (words_at words.now) spot.old
-        (do_while line (statements_seen body.now) (seen test.now))) }
+        (tree.do_while line (statements_seen body.now) (seen test.now))) }
     ensures kept { OnOk result (spot.new ≡ spot.old) }
     ensures first { IfErr result (FailsFirst (statement_faults (context_at words.now) spot.old
-        (do_while line (statements_seen body.now) (seen test.now)))) }
+        (tree.do_while line (statements_seen body.now) (seen test.now)))) }
 {
     let body = turn(alloc, words, spot, None, body)?;
     let test = expression(alloc, words, spot, test)?;
@@ -288,12 +333,12 @@ fn message_loop<'a>(
     end_word: &str,
 ) -> Result<SlotStmt, Fail<CheckFault>>
     ensures clean { OnOk result (statement_faults (context_at words.now) spot.old
-        (loop_over line word.now (statements_seen body.now) end_line end_word.now) ≡ []) }
+        (tree.loop_over line word.now (statements_seen body.now) end_line end_word.now) ≡ []) }
     ensures stands { IfOk result (λ slots. slots ≡ numbered_statement (words_at words.now) spot.old
-        (loop_over line word.now (statements_seen body.now) end_line end_word.now)) }
+        (tree.loop_over line word.now (statements_seen body.now) end_line end_word.now)) }
     ensures kept { OnOk result (spot.new ≡ spot.old) }
     ensures first { IfErr result (FailsFirst (statement_faults (context_at words.now) spot.old
-        (loop_over line word.now (statements_seen body.now) end_line end_word.now))) }
+        (tree.loop_over line word.now (statements_seen body.now) end_line end_word.now))) }
 {
     let opening = start(alloc, words, spot, line, word)?;
     let body = turn(alloc, words, spot, Some(opening.over), body)?;

@@ -1,13 +1,15 @@
-use Rattle.std.proofs.Common.{◌++◌, ◌∙◌, ap, sym}
+use Rattle.std.proofs.Common.{◌≡◌, ◌++◌, ◌∙◌, ap, sym, subst, refl}
+use Rattle.std.specs.Prelude.{IfErr, OnOk}
 use Rattle.std.proofs.lemmas.Result.{err_from_is_err_and}
 use Rattle.flame_spec.proofs.SeenForms.{statement-If, statement-For}
+use Rattle.flame_spec.specs.FirstFaults.{FailsFirst}
 use Rattle.flame_spec.specs.Scopes.{after, after_all, in_loop, in_scope, over_none}
 use Rattle.flame_spec.specs.Seen.{arms, statement, statements}
 use Rattle.flame_spec.specs.StatementFaults.{arms_faults, statement_faults, statements_faults}
 use Rattle.flame_lookup.specs.Sources.{context_at}
 use Rattle.flame_numbering.specs.Heads.{head_faults, head_seen}
 use Rattle.flame_numbering.specs.SightTables.{loop_of}
-use Rattle.flame_numbering.proofs.Firsts.{first_more_as, first_behind_as}
+use Rattle.flame_numbering.proofs.Firsts.{first_more_as}
 use Rattle.flame_numbering.proofs.Scoping.{scope-round, scope-left, loop-round, loop-left}
 use Rattle.flame_numbering.proofs.statement.+walk_statement.Goals as goal
 
@@ -29,8 +31,7 @@ turn-returns-clause-kept t c =
 
 pub statement-returns-in_err-tests-in-If-clause-first : goal.statement-returns-in_err-tests-in-If-clause-first
 statement-returns-in_err-tests-in-If-clause-first t c =
-    let fail = c.from_residual-in_err-tests-in-If in
-    let p = err_from_is_err_and fail.result fail.ensures.1 in
+    let p = err_from_is_err_and c.from_residual.result c.from_residual.ensures.1 in
     let context = context_at c.args.words.now in
     let sight = c.args.spot.now in
     let rest = statements_faults context (in_scope sight) (statements c.in-If.otherwise) in
@@ -42,28 +43,24 @@ statement-returns-in_err-tests-in-If-clause-first t c =
     ∙ ap (λ l. arms_faults context sight (arms l) ++ rest) (sym c.items-in-If.ensures))
     c.in_err-tests-in-If.ensures.first)
 
-pub statement-returns-in_err-otherwise-in-If-clause-first :
-    goal.statement-returns-in_err-otherwise-in-If-clause-first
-statement-returns-in_err-otherwise-in-If-clause-first t c =
-    let fail = c.from_residual-in_err-otherwise-in-If in
-    let p = err_from_is_err_and fail.result fail.ensures.1 in
+pub statement-returns-in_ok-tests-in-If-clause-first : goal.statement-returns-in_ok-tests-in-If-clause-first
+statement-returns-in_ok-tests-in-If-clause-first t c =
     let context = context_at c.args.words.now in
     let sight = c.args.spot.now in
     let tests = arms_faults context sight (arms c.items-in-If.result.now) in
     let body = c.items-in-If-2.result.now in
     let last = c.arms.new.spot in
     let rest = statements_faults context (in_scope sight) (statements c.in-If.otherwise) in
-    rw (p.1, p.2)
-    (first_behind_as (statement_faults context sight (statement c.args.s.now))
-    tests (statements_faults context (in_scope last) (statements body)) _
-    (ap (λ s. statement_faults context sight (statement s)) c.in-If.is
+    let is : statement_faults context sight (statement c.args.s.now)
+    ≡ statements_faults context (in_scope last) (statements body) =
+    ap (λ s. statement_faults context sight (statement s)) c.in-If.is
     ∙ ap (statement_faults context sight) (statement-If c.in-If.tests c.in-If.otherwise)
     ∙ ap (λ l. arms_faults context sight (arms l) ++ rest) (sym c.items-in-If.ensures)
     ∙ ap (λ l. tests ++ statements_faults context (in_scope sight) (statements l)) (sym c.items-in-If-2.ensures)
     ∙ ap (λ x. tests ++ statements_faults context (in_scope x) (statements body))
-    (sym c.in_ok-tests-in-If.ensures.kept))
-    c.in_ok-tests-in-If.ensures.clean
-    c.in_err-otherwise-in-If.ensures.first)
+    (sym c.in_ok-tests-in-If.ensures.kept)
+    ∙ ap (λ l. l ++ statements_faults context (in_scope last) (statements body)) c.in_ok-tests-in-If.ensures.clean in
+    subst (λ l. IfErr c.conditional.result (FailsFirst l)) (sym is) c.conditional.ensures.first
 
 pub statement-returns-in_err-head-in-For-clause-first : goal.statement-returns-in_err-head-in-For-clause-first
 statement-returns-in_err-head-in-For-clause-first t c =
@@ -71,28 +68,26 @@ statement-returns-in_err-head-in-For-clause-first t c =
     let p = err_from_is_err_and fail.result fail.ensures.1 in
     let context = context_at c.args.words.now in
     let sight = c.args.spot.now in
-    let head = c.get.result.now in
-    let inside = c.enter.new.self in
     let first = statements c.in-For.head.first in
     let last = in_loop over_none (after_all (in_scope sight) first) in
     let rest = statements_faults context last (statements c.in-For.body) in
     rw (p.1, p.2)
     (first_more_as (statement_faults context sight (statement c.args.s.now))
-    (head_faults context inside (head_seen head)) rest _
+    (head_faults context (in_scope sight) (head_seen c.get.result.now)) rest _
     (ap (λ s. statement_faults context sight (statement s)) c.in-For.is
     ∙ ap (statement_faults context sight) (statement-For c.in-For.line c.in-For.head c.in-For.body)
-    ∙ ap (λ h. head_faults context (in_scope sight) (head_seen h) ++ rest) (sym c.get.ensures)
-    ∙ ap (λ x. head_faults context x (head_seen head) ++ rest) (sym c.in_ok-enter-in-For.ensures))
+    ∙ ap (λ h. head_faults context (in_scope sight) (head_seen h) ++ rest) (sym c.get.ensures))
     c.in_err-head-in-For.ensures.first)
 
-pub statement-returns-in_ok-body-in-For-clause-after : goal.statement-returns-in_ok-body-in-For-clause-after
-statement-returns-in_ok-body-in-For-clause-after t c =
+pub statement-returns-in_ok-head-in-For-clause-after : goal.statement-returns-in_ok-head-in-For-clause-after
+statement-returns-in_ok-head-in-For-clause-after t c =
     let s = c.args.spot.now in
+    let inside = c.for_head.new.spot in
     let first = statements c.get.result.now.first in
-    let is = c.in_ok-body-in-For.ensures.kept
-    ∙ c.in_ok-head-in-For.ensures.after
-    ∙ ap (λ x. after_all x first) c.in_ok-enter-in-For.ensures in
-    scope-left s first _ _ is (c.leave.ensures s.scope s.outer (scope-round s first _ is))
+    let is = c.in_ok-head-in-For.ensures.after in
+    subst (λ x. OnOk c.for_loop.result (c.for_loop.new.spot ≡ x))
+    (scope-left s first inside (record inside { scope = s.scope; outer = s.outer }) is refl
     ∙ sym
     (ap (λ x. after s (statement x)) c.in-For.is
-    ∙ ap (after s) (statement-For c.in-For.line c.in-For.head c.in-For.body))
+    ∙ ap (after s) (statement-For c.in-For.line c.in-For.head c.in-For.body)))
+    (c.for_loop.ensures.left s.scope s.outer (scope-round s first inside is))
