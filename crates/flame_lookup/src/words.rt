@@ -52,6 +52,13 @@ impl<'t, 'a> Words<'t, 'a> {
         Words { tables, runs, file }
     }
 
+    /// The tables of the sources.
+    fn tables(&self) -> &'t Tables<'a>
+        ensures { result.now ≡ self.now.sources }
+    {
+        self.tables
+    }
+
     /// The function of the model that the body is checked for.
     pub fn runs(&self) -> Option<Transition<'a>>
         ensures { option_map place_found result ≡ self.now.runs }
@@ -107,7 +114,7 @@ impl<'t, 'a> Words<'t, 'a> {
         if let Some(found) = self.memory_named(word) {
             return Some(Meant::Memory(found));
         }
-        if let Some(found) = self.tables.constants().named(word) {
+        if let Some(found) = self.tables().constants().named(word) {
             return Some(Meant::Constant(found.at));
         }
         if "iteration_loop" == word {
@@ -120,7 +127,7 @@ impl<'t, 'a> Words<'t, 'a> {
     pub fn called(&self, word: &str) -> Option<Act<'a>>
         ensures { option_map deed_found result ≡ called_by (helper_named (context_at self.now).helpers word.now) }
     {
-        match self.tables.helper(word) {
+        match self.tables().helper(word) {
             Some(helper) => Some(Act::Calls(helper)),
             None => None,
         }
@@ -134,13 +141,13 @@ impl<'t, 'a> Words<'t, 'a> {
         if let Some(found) = self.set(word) {
             return Some(Act::Sets(found));
         }
-        if let Some(found) = self.tables.messages().sent(word) {
+        if let Some(found) = self.tables().messages().sent(word) {
             return match &self.runs {
                 Some(_) => Some(Act::Sends(found)),
                 None => None,
             };
         }
-        if let Some(found) = self.tables.agents().born(word) {
+        if let Some(found) = self.tables().agents().born(word) {
             return match &self.runs {
                 Some(_) => Some(Act::Bears(found)),
                 None => None,
@@ -154,7 +161,7 @@ impl<'t, 'a> Words<'t, 'a> {
         ensures { option_map item_found result ≡ message_read (messages_at (context_at self.now)) word.now }
     {
         match &self.runs {
-            Some(_) => self.tables.messages().read(word),
+            Some(_) => self.tables().messages().read(word),
             None => None,
         }
     }
@@ -164,7 +171,7 @@ impl<'t, 'a> Words<'t, 'a> {
         ensures { option_map item_found result ≡ member_read (context_at self.now) word.now variable.now }
     {
         match &self.runs {
-            Some(_) => self.tables.member(word, variable),
+            Some(_) => self.tables().member(word, variable),
             None => None,
         }
     }
@@ -174,7 +181,7 @@ impl<'t, 'a> Words<'t, 'a> {
         ensures { option_map item_found result ≡ message_looped (messages_at (context_at self.now)) word.now }
     {
         match &self.runs {
-            Some(_) => self.tables.messages().looped(word),
+            Some(_) => self.tables().messages().looped(word),
             None => None,
         }
     }
