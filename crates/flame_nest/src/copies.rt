@@ -16,7 +16,17 @@ fn copied_operand(alloc: Global, operand: &Operand) -> Result<Operand, NoMemory>
     }
 }
 
+/// A condition within a condition.
+#[cycle(copied_condition)]
+fn copied_part(alloc: Global, part: &Condition) -> Result<Boxed<Condition>, NoMemory>
+    ensures { IfOk result (λ copied. copied ≡ part.now) }
+{
+    let copied = copied_condition(alloc, part)?;
+    Ok(Boxed::of(alloc, copied)?)
+}
+
 /// A condition, copied as deep as it is nested.
+#[cycle(copied_condition)]
 fn copied_condition(alloc: Global, condition: &Condition) -> Result<Condition, NoMemory>
     ensures { IfOk result (λ copied. copied ≡ condition.now) }
 {
@@ -27,17 +37,17 @@ fn copied_condition(alloc: Global, condition: &Condition) -> Result<Condition, N
             Ok(Condition::Compare(*op, left, right))
         }
         Condition::And(left, right) => {
-            let left = Boxed::of(alloc, copied_condition(alloc, left.get())?)?;
-            let right = Boxed::of(alloc, copied_condition(alloc, right.get())?)?;
+            let left = copied_part(alloc, left.get())?;
+            let right = copied_part(alloc, right.get())?;
             Ok(Condition::And(left, right))
         }
         Condition::Or(left, right) => {
-            let left = Boxed::of(alloc, copied_condition(alloc, left.get())?)?;
-            let right = Boxed::of(alloc, copied_condition(alloc, right.get())?)?;
+            let left = copied_part(alloc, left.get())?;
+            let right = copied_part(alloc, right.get())?;
             Ok(Condition::Or(left, right))
         }
         Condition::Not(part) => {
-            let part = Boxed::of(alloc, copied_condition(alloc, part.get())?)?;
+            let part = copied_part(alloc, part.get())?;
             Ok(Condition::Not(part))
         }
         Condition::Time(period, phase, duration) => {
@@ -72,11 +82,14 @@ fn copied_sort(alloc: Global, sort: &Option<Sort>) -> Result<Option<Sort>, NoMem
 fn copied_input(alloc: Global, input: &Input) -> Result<Input, NoMemory>
     ensures { IfOk result (λ copied. copied ≡ input.now) }
 {
+    let message = input.message.copy(alloc)?;
+    let sort = copied_sort(alloc, &input.sort)?;
+    let filter = copied_guard(alloc, &input.filter)?;
     Ok(Input {
-        message: input.message.copy(alloc)?,
+        message,
         random: input.random,
-        filter: copied_guard(alloc, &input.filter)?,
-        sort: copied_sort(alloc, &input.sort)?,
+        filter,
+        sort,
     })
 }
 

@@ -17,7 +17,7 @@ pub struct NestFault {
 }
 
 /// What is wrong with a message, a data type or a variable.
-#[derive(Clone, Copy, Debug, PartialEq, Eq)]
+#[derive(Clone, Copy, Debug)]
 pub enum NestKind {
     /// A message or data type of an earlier file has this name and other variables.
     Differs,

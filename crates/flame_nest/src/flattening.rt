@@ -28,6 +28,20 @@ fn model_of(alloc: Global, wides: &[Wide], found: &Found<'_>) -> Result<Model, N
     })
 }
 
+/// The same, where 32 bits can number its parts.
+fn counted_model(alloc: Global, wides: &[Wide], found: &Found<'_>) -> Result<Model, NoMemory>
+    requires kinds { found.now.kinds ≡ joined_types wides.now }
+    requires messages { map (λ message. message.now) found.now.messages.items ≡ joined_messages wides.now }
+    ensures flat { IfOk result (λ model. model ≡ flat wides.now) }
+    ensures counted { IfOk result (λ model. IsTrue (is_counted model)) }
+{
+    let model = model_of(alloc, wides, found)?;
+    if !model.is_counted() {
+        return Err(NoMemory);
+    }
+    Ok(model)
+}
+
 /// The model that these files of these names mean together, or their first fault.
 ///
 /// The lists of all files are joined in their order; a message, data type or function file whose name an earlier file
@@ -49,9 +63,5 @@ pub fn flatten(
     ensures first { IfErr result (FailsFirst (nest_faults files.now wides.now)) }
 {
     let found = check_files(alloc, files.items(), wides.items())?;
-    let model = model_of(alloc, wides.items(), &found)?;
-    if !model.is_counted() {
-        return Err(Fail::NoMemory);
-    }
-    Ok(model)
+    Ok(counted_model(alloc, wides.items(), &found)?)
 }

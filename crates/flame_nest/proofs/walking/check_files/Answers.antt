@@ -1,4 +1,4 @@
-use Rattle.std.proofs.Common.{◌<◌, length, ap, take, map, [], unwrap_or, arith}
+use Rattle.std.proofs.Common.{◌<◌, length, refl, take, map, [], unwrap_or, arith}
 use Rattle.std.specs.Prelude.{slice_get}
 use Rattle.std.proofs.lemmas.Result.{err_from_is_err_and}
 use Rattle.flame_nest.specs.NestFaults.{of_type, of_message, file_faults}
@@ -7,21 +7,21 @@ use Rattle.flame_nest.proofs.Firsts.{fails-member, none-member}
 use Rattle.flame_nest.proofs.Walks.{types-known, given-more, kinds-more, kept-more, walk-is}
 use Rattle.flame_nest.proofs.walking.check_files.Goals as goal
 
-pub check_file-requires : goal.check_file-requires
-check_file-requires c = record {
+pub add-requires : goal.add-requires
+add-requires c = record {
   known =
       λ name.
       types-known
       (take c.loop-i.i c.args.wides.now)
-      c.loop-i.kinds
-      (given_in c.loop-i.types)
+      c.loop-i.walk.kinds
+      (given_in c.loop-i.walk.types)
       name
       c.loop-i.invariant.kinds
       c.loop-i.invariant.types;
 }
 
-pub returns-in_err-check_file-clause-first : goal.returns-in_err-check_file-clause-first
-returns-in_err-check_file-clause-first c =
+pub returns-in_err-add-clause-first : goal.returns-in_err-add-clause-first
+returns-in_err-add-clause-first c =
     let p = err_from_is_err_and c.from_residual.result c.from_residual.ensures.1 in
     let files = c.args.files.now in
     let wides = c.args.wides.now in
@@ -46,16 +46,16 @@ returns-in_err-check_file-clause-first c =
     c.index-wides-i.result
     c.index-files-i.result
     c.index-files-i.result
-    (given_in c.loop-i.types)
-    (given_in c.loop-i.messages)
-    c.loop-i.kinds
+    (given_in c.loop-i.walk.types)
+    (given_in c.loop-i.walk.messages)
+    c.loop-i.walk.kinds
     c.index-wides-i.is
     c.index-files-i.is
     inside
     c.loop-i.invariant.types
     c.loop-i.invariant.messages
     c.loop-i.invariant.kinds)
-    c.in_err-check_file.ensures.first)
+    c.in_err-add.ensures.first)
 
 pub loop-i-preserved : goal.loop-i-preserved
 loop-i-preserved c =
@@ -70,14 +70,14 @@ loop-i-preserved c =
           c.loop-i.i
           c.index-wides-i.result
           c.index-wides-i.result
-          c.loop-i.types
+          c.loop-i.walk.types
           _
           _
           c.loop-i-test.true
           c.index-wides-i.is
           c.loop-i.invariant.types
-          c.in_ok-add_types.ensures
-          (ap (map of_type) c.items-in-loop-i.ensures);
+          c.in_ok-add.ensures.types
+          refl;
       messages =
           given-more
           (λ wide. map of_message wide.messages)
@@ -85,42 +85,42 @@ loop-i-preserved c =
           c.loop-i.i
           c.index-wides-i.result
           c.index-wides-i.result
-          c.loop-i.messages
+          c.loop-i.walk.messages
           _
           _
           c.loop-i-test.true
           c.index-wides-i.is
           c.loop-i.invariant.messages
-          c.in_ok-add_messages.ensures
-          (ap (map of_message) c.items-in-loop-i-2.ensures);
+          c.in_ok-add.ensures.messages
+          refl;
       kinds =
           kinds-more
           wides
           c.loop-i.i
           c.index-wides-i.result
           c.index-wides-i.result
-          c.loop-i.kinds
+          c.loop-i.walk.kinds
           _
           c.loop-i-test.true
           c.index-wides-i.is
           c.loop-i.invariant.kinds
-          c.in_ok-check_file.ensures.kinds;
+          c.in_ok-add.ensures.kinds;
       kept =
           kept-more
           wides
           c.loop-i.i
           c.index-wides-i.result
           c.index-wides-i.result
-          (given_in c.loop-i.messages)
+          (given_in c.loop-i.walk.messages)
           _
           _
-          c.items.result.now
+          c.index-wides-i.result.messages
           c.loop-i-test.true
           c.index-wides-i.is
           c.loop-i.invariant.messages
           c.loop-i.invariant.kept
-          c.items.ensures
-          c.in_ok-keep_new.ensures;
+          refl
+          c.in_ok-add.ensures.kept;
       rest =
           none-member
           (λ i wide. file_faults (unwrap_or (slice_get files i) []) (take i wides) wide)
@@ -139,14 +139,14 @@ loop-i-preserved c =
           c.index-wides-i.result
           c.index-files-i.result
           c.index-files-i.result
-          (given_in c.loop-i.types)
-          (given_in c.loop-i.messages)
-          c.loop-i.kinds
+          (given_in c.loop-i.walk.types)
+          (given_in c.loop-i.walk.messages)
+          c.loop-i.walk.kinds
           c.index-wides-i.is
           c.index-files-i.is
           inside
           c.loop-i.invariant.types
           c.loop-i.invariant.messages
           c.loop-i.invariant.kinds)
-          c.in_ok-check_file.ensures.none;
+          c.in_ok-add.ensures.none;
     }

@@ -8,10 +8,10 @@ use Rattle.flame_nest.proofs.walking.check_files.Given as goal
 
 abbrev pub invariant-loop-i : goal.invariant-loop-i
 invariant-loop-i l = record {
-  types : given_in l.types ≡ given_by (types_given (take l.i l.wides));
-  messages : given_in l.messages ≡ given_by (messages_given (take l.i l.wides));
-  kinds : l.kinds ≡ joined_types (take l.i l.wides);
-  kept : map (λ message. message.now) l.kept.items ≡ joined_messages (take l.i l.wides);
+  types : given_in l.walk.types ≡ given_by (types_given (take l.i l.wides));
+  messages : given_in l.walk.messages ≡ given_by (messages_given (take l.i l.wides));
+  kinds : l.walk.kinds ≡ joined_types (take l.i l.wides);
+  kept : map (λ message. message.now) l.walk.kept.items ≡ joined_messages (take l.i l.wides);
   rest :
       nest_faults l.files l.wides
       ≡ each_from
