@@ -97,12 +97,12 @@ fn whole(
             Ok(SlotExpr::Get(column))
         }
         Expr::Number(n) => Ok(SlotExpr::Number(*n)),
-        Expr::At(_, _, _) => Ok(expression(alloc, words, spot, e)?),
-        Expr::FieldAt(_, _, _, _) => Ok(expression(alloc, words, spot, e)?),
-        Expr::Unary(_, _) => Ok(expression(alloc, words, spot, e)?),
-        Expr::Chain(_, _) => Ok(expression(alloc, words, spot, e)?),
-        Expr::All(_) => Ok(expression(alloc, words, spot, e)?),
-        Expr::Any(_) => Ok(expression(alloc, words, spot, e)?),
+        Expr::At(_, _, _) => expression(alloc, words, spot, e),
+        Expr::FieldAt(_, _, _, _) => expression(alloc, words, spot, e),
+        Expr::Unary(_, _) => expression(alloc, words, spot, e),
+        Expr::Chain(_, _) => expression(alloc, words, spot, e),
+        Expr::All(_) => expression(alloc, words, spot, e),
+        Expr::Any(_) => expression(alloc, words, spot, e),
     }
 }
 
@@ -123,7 +123,7 @@ fn argument(
         (FailsFirst (argument_faults (context_at words.now) spot.now line word.now length (seen e.now))) }
 {
     match length {
-        None => Ok(expression(alloc, words, spot, e)?),
+        None => expression(alloc, words, spot, e),
         Some(length) => {
             let slots = whole(alloc, words, spot, e)?;
             let test = !is_length(length, length_of(words, e));
@@ -310,10 +310,7 @@ fn done(
             let kind = CheckKind::UnknownCall;
             Err(fault(alloc, kind, words.file(), line, word))
         }
-        Some(act) => {
-            let slots = acted(alloc, words, spot, act, line, word, es)?;
-            Ok(slots)
-        }
+        Some(act) => acted(alloc, words, spot, act, line, word, es),
     }
 }
 

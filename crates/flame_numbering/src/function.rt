@@ -18,6 +18,25 @@ use flame_rows::{Fail, Seq};
 use flame_spec::CheckFault;
 use std::alloc::Global;
 
+/// The body of the C function from the place where its parameters are declared.
+fn walked<'a>(
+    alloc: Global,
+    words: &Words<'_, 'a>,
+    spot: &mut Spot<'a>,
+    function: &CFunction<'a>,
+) -> Result<Seq<SlotStmt>, Fail<CheckFault>>
+    requires { spot.old ≡ at_entry }
+    ensures clean { OnOk result (definition_faults (context_at words.now) (definition_found function.now) ≡ []) }
+    ensures stands { IfOk result (λ tree. tree ≡ numbered_statements (words_at words.now)
+        (after_parameters at_entry (definition_found function.now).parameters) (definition_found function.now).body) }
+    ensures first { IfErr result
+        (FailsFirst (definition_faults (context_at words.now) (definition_found function.now))) }
+{
+    parameters(alloc, words, spot, function.def.parameters.items())?;
+    let body = statements(alloc, words, spot, function.def.body.items())?;
+    Ok(body)
+}
+
 /// The body of the C function with numbers in place of names, checked where these words stand; or its first fault, or
 /// want of memory.
 pub fn definition<'a>(
@@ -32,7 +51,6 @@ pub fn definition<'a>(
         (FailsFirst (definition_faults (context_at words.now) (definition_found function.now))) }
 {
     let mut spot: Spot<'a> = Spot::new(alloc);
-    parameters(alloc, words, &mut spot, function.def.parameters.items())?;
-    let body = statements(alloc, words, &mut spot, function.def.body.items())?;
+    let body = walked(alloc, words, &mut spot, function)?;
     Ok(body)
 }

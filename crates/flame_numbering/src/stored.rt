@@ -104,8 +104,7 @@ fn stored(
             Ok(SlotValue::Plain(e))
         }
         Value::Call(line, word, es) => {
-            let value = called(alloc, words, spot, *line, word.as_str(), es.items())?;
-            Ok(value)
+            called(alloc, words, spot, *line, word.as_str(), es.items())
         }
     }
 }

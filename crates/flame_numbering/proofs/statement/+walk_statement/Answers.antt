@@ -1,15 +1,21 @@
-use Rattle.std.proofs.Common.{◌≡◌, ◌++◌, ◌∙◌, ap, sym, subst, refl}
+use Rattle.std.proofs.Common.{◌≡◌, ◌+◌, ◌++◌, ◌∙◌, List, [], ◌∷◌, drop, ap, sym, subst, refl}
 use Rattle.std.specs.Prelude.{IfErr, OnOk}
 use Rattle.std.proofs.lemmas.Result.{err_from_is_err_and}
 use Rattle.flame_spec.proofs.SeenForms.{statement-If, statement-For}
 use Rattle.flame_spec.specs.FirstFaults.{FailsFirst}
-use Rattle.flame_spec.specs.Scopes.{after, after_all, in_loop, in_scope, over_none}
-use Rattle.flame_spec.specs.Seen.{arms, statement, statements}
+use Rattle.flame_spec.specs.declared.faults.CheckFault.{CheckFault}
+use Rattle.flame_spec.specs.ExpressionFaults.{expression_faults}
+use Rattle.flame_spec.specs.Scopes.{Sight, after, after_all, in_loop, in_scope, over_none}
+use Rattle.flame_spec.specs.Seen.{arms, statement, statements, tested}
 use Rattle.flame_spec.specs.StatementFaults.{arms_faults, statement_faults, statements_faults}
 use Rattle.flame_lookup.specs.Sources.{context_at}
+use Rattle.flame_body.specs.declared.slots.SlotArm.{SlotArm}
+use Rattle.flame_body.specs.NumberedTrees.{numbered, numbered_arms, numbered_statement, numbered_statements}
 use Rattle.flame_numbering.specs.Heads.{head_faults, head_seen}
 use Rattle.flame_numbering.specs.SightTables.{loop_of}
-use Rattle.flame_numbering.proofs.Firsts.{first_more_as}
+use Rattle.flame_numbering.specs.WordPlaces.{words_at}
+use Rattle.flame_numbering.proofs.Firsts.{clean-next, first_more_as}
+use Rattle.flame_numbering.proofs.Rests.{rest-next, rest-pushed}
 use Rattle.flame_numbering.proofs.Scoping.{scope-round, scope-left, loop-round, loop-left}
 use Rattle.flame_numbering.proofs.statement.+walk_statement.Goals as goal
 
@@ -91,3 +97,66 @@ statement-returns-in_ok-head-in-For-clause-after t c =
     (ap (λ x. after s (statement x)) c.in-For.is
     ∙ ap (after s) (statement-For c.in-For.line c.in-For.head c.in-For.body)))
     (c.for_loop.ensures.left s.scope s.outer (scope-round s first inside is))
+
+pub statements-loop-s-preserved : goal.statements-loop-s-preserved
+statements-loop-s-preserved t c =
+    let context = context_at c.args.words.now in
+    let words = words_at c.args.words.now in
+    let start = c.args.spot.now in
+    let sight = c.loop-s.spot in
+    let i = c.loop-s.s-index in
+    let all = c.args.body.now in
+    let one = c.s-item.result in
+    let left = statements (drop i all) in
+    let behind = statements (drop (i + 1) all) in
+    let seen = sym c.in_ok-slot.ensures.after in
+    record {
+      clean = clean-next (statements_faults context start (statements all)) (statements_faults context sight left)
+          (statement_faults context sight (statement one)) (statements_faults context (after sight (statement one)) behind)
+          c.loop-s.invariant.clean
+          (rest-next (λ l. statements_faults context sight (statements l)) all i one c.loop-s-test.true c.s-item.is)
+          c.in_ok-slot.ensures.clean
+          ∙ ap (λ x. statements_faults context x behind) seen;
+      stands = rest-pushed (numbered_statements words start (statements all)) c.loop-s.slots.items _
+          (numbered_statements words sight left) (numbered_statement words sight (statement one)) c.in_ok-slot.slot
+          (numbered_statements words c.statement.new.spot behind)
+          c.loop-s.invariant.stands
+          (rest-next (λ l. numbered_statements words sight (statements l)) all i one c.loop-s-test.true c.s-item.is
+          ∙ ap (λ x. numbered_statement words sight (statement one) ∷ numbered_statements words x behind) seen)
+          c.in_ok-slot.ensures.stands
+          c.in_ok-push.ensures.items;
+      seen = c.loop-s.invariant.seen
+          ∙ rest-next (λ l. after_all sight (statements l)) all i one c.loop-s-test.true c.s-item.is
+          ∙ ap (λ x. after_all x behind) seen;
+    }
+
+pub arms-loop-a-preserved : goal.arms-loop-a-preserved
+arms-loop-a-preserved t c =
+    let context = context_at c.args.words.now in
+    let words = words_at c.args.words.now in
+    let sight = c.args.spot.now in
+    let i = c.loop-a.a-index in
+    let all = c.args.tests.now in
+    let one = tested c.a-item.result in
+    let same = c.loop-a.invariant.seen in
+    let faults : Sight → List CheckFault =
+    λ x. expression_faults context x one.test ++ statements_faults context (in_scope x) one.body in
+    let slot : Sight → SlotArm = λ x. record {
+      test = numbered words x one.test;
+      body = numbered_statements words (in_scope x) one.body;
+    } in
+    record {
+      clean = clean-next (arms_faults context sight (arms all)) (arms_faults context sight (arms (drop i all)))
+          (faults sight) (arms_faults context sight (arms (drop (i + 1) all)))
+          c.loop-a.invariant.clean
+          (rest-next (λ l. arms_faults context sight (arms l)) all i c.a-item.result c.loop-a-test.true c.a-item.is)
+          (subst (λ x. faults x ≡ []) same c.in_ok-slot.ensures.clean);
+      stands = rest-pushed (numbered_arms words sight (arms all)) c.loop-a.slots.items _
+          (numbered_arms words sight (arms (drop i all))) (slot sight) c.in_ok-slot.slot
+          (numbered_arms words sight (arms (drop (i + 1) all)))
+          c.loop-a.invariant.stands
+          (rest-next (λ l. numbered_arms words sight (arms l)) all i c.a-item.result c.loop-a-test.true c.a-item.is)
+          (subst (λ x. c.in_ok-slot.slot ≡ slot x) same c.in_ok-slot.ensures.stands)
+          c.in_ok-push.ensures.items;
+      seen = c.in_ok-slot.ensures.kept ∙ same;
+    }
