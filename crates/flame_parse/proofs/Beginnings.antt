@@ -1,5 +1,6 @@
 -- What statements and assignments begin with.
 use Rattle.std.proofs.Common.{◌≡◌, ◌⊎◌, inl, inr, ℕ, ◌<◌, List, [], ◌∷◌, length, drop, refl, sym, ap, ◌∙◌, subst, arith, Bool, true, false, Option, Some, None}
+use Rattle.std.specs.Prelude.{is_some, not}
 use Rattle.std.proofs.lemmas.Bool.{false≢true}
 use Rattle.flame_ops.specs.declared.integers.Op.{Op}
 use Rattle.flame_lex.specs.declared.token.Token.{Token}
@@ -16,6 +17,20 @@ use Rattle.flame_expr.proofs.Parts.{any_heads, any_all, pasts, clean, none, ends
 use Rattle.flame_parse.specs.HeadSymbols.{initial_symbol}
 use Rattle.flame_parse.specs.AssignmentOperators.{set_op, step_op, starts, joins_stmts}
 use Rattle.flame_expr.proofs.LevelFacts.{or_right}
+use Rattle.flame_expr.proofs.Operators.{of_each}
+
+-- what sets and what steps stands in its list
+pub setter : (d : Lexeme) (o : Option Op) → set_op d ≡ Some o → among d setters ≡ true
+setter d o e =
+    or_right (not (is_some (set_op d))) (among d setters)
+    (everywhere (λ l. or (not (is_some (set_op l))) (among l setters)) refl d)
+    (ap (λ x. not (is_some x)) e)
+
+pub stepper : (d : Lexeme) (o : Op) → step_op d ≡ Some o → among d steppers ≡ true
+stepper d o e =
+    or_right (not (is_some (step_op d))) (among d steppers)
+    (everywhere (λ l. or (not (is_some (step_op l))) (among l steppers)) refl d)
+    (ap (λ x. not (is_some x)) e)
 
 -- the rests behind the place of an assignment
 abbrev pub operations : List (List Symbol)
@@ -28,13 +43,10 @@ SetsBy d =
     × (pasts (any_heads operations d) ≡ (form a_value ∷ []) ∷ [])
 
 pub sets_by : (d : Lexeme) (o : Option Op) → set_op d ≡ Some o → SetsBy d
-sets_by Set o e = (refl, refl, refl)
-sets_by PlusSet o e = (refl, refl, refl)
-sets_by MinusSet o e = (refl, refl, refl)
-sets_by StarSet o e = (refl, refl, refl)
-sets_by SlashSet o e = (refl, refl, refl)
-sets_by PercentSet o e = (refl, refl, refl)
-sets_by d o e = cc
+sets_by d o e =
+    of_each SetsBy setters d
+    ((refl, refl, refl), ((refl, refl, refl), ((refl, refl, refl), ((refl, refl, refl), ((refl, refl, refl), ((refl, refl, refl), tt))))))
+    (setter d o e)
 
 abbrev pub StepsBy : Lexeme → Type 0
 StepsBy d =
@@ -43,9 +55,7 @@ StepsBy d =
     × (pasts (any_heads operations d) ≡ [] ∷ [])
 
 pub steps_by : (d : Lexeme) (o : Op) → step_op d ≡ Some o → StepsBy d
-steps_by PlusPlus o e = (refl, refl, refl)
-steps_by MinusMinus o e = (refl, refl, refl)
-steps_by d o e = cc
+steps_by d o e = of_each StepsBy steppers d ((refl, refl, refl), ((refl, refl, refl), tt)) (stepper d o e)
 
 abbrev pub BeginsStep : Lexeme → Type 0
 BeginsStep d =
@@ -54,9 +64,7 @@ BeginsStep d =
     × (pasts (any_heads ((form an_assign ∷ []) ∷ []) d) ≡ (form a_place ∷ []) ∷ [])
 
 pub begins_step : (d : Lexeme) (o : Op) → step_op d ≡ Some o → BeginsStep d
-begins_step PlusPlus o e = (refl, refl, refl)
-begins_step MinusMinus o e = (refl, refl, refl)
-begins_step d o e = cc
+begins_step d o e = of_each BeginsStep steppers d ((refl, refl, refl), ((refl, refl, refl), tt)) (stepper d o e)
 
 pub no_operation : (d : Lexeme) → set_op d ≡ None → step_op d ≡ None → none (any_heads operations d) ≡ true
 no_operation Set e f = cc

@@ -41,8 +41,9 @@ def_stopped tokens at stop p = record {
 }
 
 pub def_starts : (d : Lexeme) → d ≡ Int → 0 < length (pasts (any_heads ((form a_def ∷ []) ∷ []) d))
-def_starts Int f = omega arith
-def_starts d f = cc
+def_starts d f =
+    let int : 0 < length (pasts (any_heads ((form a_def ∷ []) ∷ []) Int)) = omega arith in
+    subst (λ l. 0 < length (pasts (any_heads ((form a_def ∷ []) ∷ []) l))) (sym f) int
 
 pub definition_read : (tokens : List Token) (at word bracket inside close end : ℕ) (ps : List Parameter) (ss : Statements) → first (drop at tokens) ≡
     Int → word ≡ at + 1 → first (drop word tokens) ≡ Word → bracket ≡ word + 1 → first (drop bracket tokens) ≡ Open → inside ≡ bracket + 1 → Parameters

@@ -11,13 +11,16 @@ use Rattle.flame_lex.specs.declared.token.Token.{Token}
 use Rattle.flame_expr.specs.declared.lexemes.Lexeme.{Lexeme}
 use Rattle.flame_expr.specs.declared.lexemes.Lexeme.TheVariants.{Nothing, Word, Number, Start, PlusPlus, MinusMinus, Set, Plus, Minus, Bang, Open, Close, OpenBracket, Arrow, OpenBrace, Comma, Semicolon, Int, Void, If, Else, While, For, Do, Return, Break, Continue}
 use Rattle.flame_expr.specs.Lexemes.{first, text, line, behind}
-use Rattle.flame_expr.specs.OperatorLevels.{joins, sign_of}
+use Rattle.flame_expr.specs.OperatorLevels.{joins, signs, sign_of}
+use Rattle.flame_expr.specs.ViablePrefixes.{setters, steppers}
 use Rattle.flame_expr.specs.ExpressionGrammar.{Reads, a_unary, a_chain, a_conjunction, a_disjunction, Signs, no_sign, a_sign, Primary, a_number, a_name, a_field, a_get, in_brackets, Index, no_index, an_index, Bracketed, bracketed}
 use Rattle.flame_expr.proofs.LexemeFacts.{same, among}
+use Rattle.flame_expr.proofs.Operators.{of_each, sign_among}
 use Rattle.flame_expr.proofs.Uniqueness.{IsStop, stop_below, tail_stop, conjuncts_stop, disjuncts_stop, unlike_words, one_read, one_index, one_bracketed, or_right_false}
 use Rattle.flame_parse.specs.AssignmentOperators.{set_op, step_op, joins_item, joins_items, joins_args}
 use Rattle.flame_parse.specs.StatementGrammar.{Stores, an_expression, a_call, Initial, no_initial, an_initial, Place, placed, OneParameter, a_parameter, MoreParameters, no_parameter, parameter_more, SomeParameters, listed, Parameters, none_given, void_given, some_given, Item, an_item, MoreItems, no_item, item_more, Items, items, Declaration, declaration, Assignment, sets, steps_behind, steps_before, MoreArgs, no_arg, arg_more, Args, args, Called, no_args, some_args, AssignedTo, assigned_to, Simple, nothing, assigning, calling, returning, breaking, continuing, First, no_first, first_assign, first_decl, Test, no_test, a_test, Step, no_step, a_step, Heading, heading, Block, braces, Stmts, no_stmt, stmt_more, Stmt, declaring, blocking, branching, whiling, repeating, doing, looping, simply, Elses, no_else, else_if, an_else, Body, in_braces, one_simple, Defined, Definition, definition, Definitions, no_definition, definition_more}
 use Rattle.flame_parse.specs.Parsing.{IsUnit}
+use Rattle.flame_parse.proofs.Beginnings.{setter, stepper}
 
 -- none of these lexemes is next
 abbrev IsEnd : List Lexeme → List Token → Type 0
@@ -50,10 +53,7 @@ primary_begins ts r t (a_get f g h) = head_at Word ts f refl
 primary_begins ts r t (in_brackets (bracketed f a)) = head_at Open ts f refl
 
 sign_begins : (d : Lexeme) (k : SignKind) → sign_of d ≡ Some k → among d heads ≡ true
-sign_begins Minus k e = refl
-sign_begins Plus k e = refl
-sign_begins Bang k e = refl
-sign_begins d k e = cc
+sign_begins d k e = of_each (λ l. among l heads ≡ true) signs d (refl, (refl, (refl, tt))) (sign_among d k e)
 
 unary_begins : (ts m r : List Token) (ss : List Sign) (t : Expression) → Signs ts ss m → Primary m t r → among (first ts) heads ≡ true
 unary_begins ts m r ss t no_sign p = primary_begins ts r t p
@@ -167,24 +167,20 @@ only_declaration ts r r' ds ds' (declaration f a) (declaration f' a') h h' = onl
 
 -- no lexeme both sets and steps, and no word steps
 set_no_step : (d : Lexeme) (o : Option Op) (p : Op) → set_op d ≡ Some o → step_op d ≡ Some p → ⊥
-set_no_step PlusPlus o p e f = cc
-set_no_step MinusMinus o p e f = cc
-set_no_step d o p e f = cc
+set_no_step d o p e f =
+    let none = of_each (λ l. step_op l ≡ None) setters d (refl, (refl, (refl, (refl, (refl, (refl, tt)))))) (setter d o e) in
+    let h : None ≡ Some p = sym none ∙ f in
+    cc
 
 word_no_step : (d : Lexeme) (p : Op) → d ≡ Word → step_op d ≡ Some p → ⊥
 word_no_step d p f e = let h : None ≡ Some p = sym (ap step_op f) ∙ e in cc
 
 set_stops : (d : Lexeme) (o : Option Op) → set_op d ≡ Some o → among d (joins 0) ≡ false
-set_stops Arrow o e = cc
-set_stops Open o e = cc
-set_stops OpenBracket o e = cc
-set_stops d o e = refl
+set_stops d o e =
+    of_each (λ l. among l (joins 0) ≡ false) setters d (refl, (refl, (refl, (refl, (refl, (refl, tt)))))) (setter d o e)
 
 step_stops : (d : Lexeme) (o : Op) → step_op d ≡ Some o → among d (joins 0) ≡ false
-step_stops Arrow o e = cc
-step_stops Open o e = cc
-step_stops OpenBracket o e = cc
-step_stops d o e = refl
+step_stops d o e = of_each (λ l. among l (joins 0) ≡ false) steppers d (refl, (refl, tt)) (stepper d o e)
 
 stop_all : (ts : List Token) → IsEnd (joins 6) ts → IsStop 0 ts
 stop_all ts h = stop_below 0 ts (stop_below 1 ts (stop_below 2 ts (stop_below 3 ts (stop_below 4 ts (stop_below 5 ts h)))))
@@ -253,17 +249,13 @@ simple_kind Word d = 5
 simple_kind l d = 5
 
 set_kind : (d : Lexeme) (o : Option Op) → set_op d ≡ Some o → simple_kind Word d ≡ 5
-set_kind Open o e = cc
-set_kind d o e = refl
+set_kind d o e = of_each (λ l. simple_kind Word l ≡ 5) setters d (refl, (refl, (refl, (refl, (refl, (refl, tt)))))) (setter d o e)
 
 behind_kind : (d : Lexeme) (o : Op) → step_op d ≡ Some o → simple_kind Word d ≡ 5
-behind_kind Open o e = cc
-behind_kind d o e = refl
+behind_kind d o e = of_each (λ l. simple_kind Word l ≡ 5) steppers d (refl, (refl, tt)) (stepper d o e)
 
 before_kind : (l d : Lexeme) (o : Op) → step_op l ≡ Some o → simple_kind l d ≡ 5
-before_kind PlusPlus d o e = refl
-before_kind MinusMinus d o e = refl
-before_kind l d o e = cc
+before_kind l d o e = of_each (λ x. simple_kind x d ≡ 5) steppers l (refl, (refl, tt)) (stepper l o e)
 
 kind_at : (l : Lexeme) (ts : List Token) → first ts ≡ l → simple_kind (first ts) (first (behind ts)) ≡ simple_kind l (first (behind ts))
 kind_at l ts f = ap (λ x. simple_kind x (first (behind ts))) f

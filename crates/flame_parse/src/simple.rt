@@ -23,7 +23,7 @@ use flame_expr::{
     Lexeme, ParseFault, expect, expression, lexeme_at, line_at, subscript, syntax, text_at,
 };
 use flame_lex::Token;
-use flame_rows::{Fail, NoMemory, Seq, Text};
+use flame_rows::{Boxed, Fail, NoMemory, Seq, Text};
 use flame_spec::{Assign, Expr, Head, Item, Stmt, Subscript, Value};
 use std::alloc::Global;
 
@@ -384,12 +384,7 @@ fn assigned_to(
 }
 
 // "(" [assign | decl] ";" [expr] ";" [assign] ")"
-/// The head of a `for`.
-pub(crate) fn head(
-    alloc: Global,
-    tokens: &[Token],
-    at: usize,
-) -> Result<(Head, usize), Fail<ParseFault>>
+fn head(alloc: Global, tokens: &[Token], at: usize) -> Result<(Head, usize), Fail<ParseFault>>
     requires size { length tokens.now < 2 ^ 32 }
     requires within { at ≤ length tokens.now }
     ensures tree { IfOk result (λ r. Heading (drop at tokens.now) (statements r.0.first)
@@ -404,6 +399,25 @@ pub(crate) fn head(
     let (step, end) = step(alloc, tokens, place)?;
     let first = Seq::of(first);
     Ok((Head { first, test, step }, end))
+}
+
+/// The head of a `for`, put on the heap.
+pub(crate) fn boxed_head(
+    alloc: Global,
+    tokens: &[Token],
+    at: usize,
+) -> Result<(Boxed<Head>, usize), Fail<ParseFault>>
+    requires size { length tokens.now < 2 ^ 32 }
+    requires within { at ≤ length tokens.now }
+    ensures tree { IfOk result (λ r. Heading (drop at tokens.now) (statements r.0.first)
+        (option_map expression r.0.test) (option_map assigned r.0.step) (drop r.1 tokens.now)) }
+    ensures ended { IfOk result (λ r. Ended [] head_symbols tokens.now at r.1) }
+    ensures ahead { IfOk result (λ r. at < r.1) }
+    ensures stopped { IfErr result (StopsBy [] head_symbols tokens.now at) }
+{
+    let (head, end) = head(alloc, tokens, at)?;
+    let head = Boxed::of(alloc, head)?;
+    Ok((head, end))
 }
 
 // [assign | decl] ";"

@@ -9,10 +9,10 @@ ghost use Rattle.flame_parse.specs.AssignmentOperators.{joins_stmt, joins_stmts}
 ghost use Rattle.flame_parse.specs.StatementGrammar.{Block, Stmts, Stmt as StmtRead, Elses, Body};
 
 use crate::operators::starts_statement;
-use crate::simple::{head, items, one, simple};
+use crate::simple::{boxed_head, items, one, simple};
 use flame_expr::{Lexeme, ParseFault, bracketed, expect, lexeme_at, line_at, text_at};
 use flame_lex::Token;
-use flame_rows::{Boxed, Fail, Seq};
+use flame_rows::{Fail, Seq};
 use flame_spec::{Arm, Stmt};
 use std::alloc::Global;
 
@@ -205,9 +205,8 @@ fn for_loop(alloc: Global, tokens: &[Token], at: usize) -> Result<(Stmt, usize),
     ensures ahead { IfOk result (λ r. at < r.1) }
     ensures stopped { IfErr result (StopsBy joins_stmt (form a_stmt ∷ []) tokens.now at) }
 {
-    let (head, mid) = head(alloc, tokens, at + 1)?;
+    let (head, mid) = boxed_head(alloc, tokens, at + 1)?;
     let (found, end) = body(alloc, tokens, mid)?;
-    let head = Boxed::of(alloc, head)?;
     Ok((Stmt::For(line_at(tokens, at), head, Seq::of(found)), end))
 }
 

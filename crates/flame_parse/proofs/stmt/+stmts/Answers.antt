@@ -171,7 +171,7 @@ for_loop-returns-clause-ended t c =
 
 pub for_loop-returns-clause-tree : goal.for_loop-returns-clause-tree
 for_loop-returns-clause-tree t c =
-    rw (statement-For _ _ _, c.in_ok-head-2.ensures, c.line_at.ensures, c.of-2.ensures)
+    rw (statement-For _ _ _, c.line_at.ensures, c.of.ensures)
     (grammar.repeating c.requires.begun
     (at_next
     (λ ts. grammar.Heading ts (statements c.in_ok-head.head.first) (option_map expression c.in_ok-head.head.test)
