@@ -139,8 +139,8 @@ fn item(alloc: Global, tokens: &[Token], at: usize) -> Result<(Item, usize), Fai
 {
     let line = line_at(tokens, at);
     let mid = expect(tokens, at, Lexeme::Word)?;
-    let (value, end) = initial(alloc, tokens, mid)?;
     let name = text_at(alloc, tokens, at)?;
+    let (value, end) = initial(alloc, tokens, mid)?;
     Ok((Item { line, name, value }, end))
 }
 

@@ -78,26 +78,11 @@ fn stmt(alloc: Global, tokens: &[Token], at: usize) -> Result<(Stmt, usize), Fai
             let (found, end) = block(alloc, tokens, at)?;
             Ok((Stmt::Block(Seq::of(found)), end))
         }
-        Lexeme::If => {
-            let (form, end) = branch(alloc, tokens, at)?;
-            Ok((form, end))
-        }
-        Lexeme::While => {
-            let (form, end) = while_loop(alloc, tokens, at)?;
-            Ok((form, end))
-        }
-        Lexeme::For => {
-            let (form, end) = for_loop(alloc, tokens, at)?;
-            Ok((form, end))
-        }
-        Lexeme::Do => {
-            let (form, end) = do_loop(alloc, tokens, at)?;
-            Ok((form, end))
-        }
-        Lexeme::Start => {
-            let (form, end) = message_loop(alloc, tokens, at)?;
-            Ok((form, end))
-        }
+        Lexeme::If => branch(alloc, tokens, at),
+        Lexeme::While => while_loop(alloc, tokens, at),
+        Lexeme::For => for_loop(alloc, tokens, at),
+        Lexeme::Do => do_loop(alloc, tokens, at),
+        Lexeme::Start => message_loop(alloc, tokens, at),
         _ => {
             let (form, end) = simple(alloc, tokens, at)?;
             Ok((form, end))

@@ -531,23 +531,6 @@ pub stmt-returns-in_ok-found-in-OpenBrace-clause-tree : goal.stmt-returns-in_ok-
 stmt-returns-in_ok-found-in-OpenBrace-clause-tree t c =
     rw (statement-Block _, c.of-in-OpenBrace.ensures) (grammar.blocking c.in_ok-found-in-OpenBrace.ensures.tree)
 
-pub stmt-returns-in_err-form-in-If-clause-stopped : goal.stmt-returns-in_err-form-in-If-clause-stopped
-stmt-returns-in_err-form-in-If-clause-stopped t c = stops_by _ _ c.from_residual-in_err-form-in-If.ensures.1 (λ n h. h) c.in_err-form-in-If.ensures.stopped
-
-pub stmt-returns-in_err-form-in-While-clause-stopped : goal.stmt-returns-in_err-form-in-While-clause-stopped
-stmt-returns-in_err-form-in-While-clause-stopped t c =
-    stops_by _ _ c.from_residual-in_err-form-in-While.ensures.1 (λ n h. h) c.in_err-form-in-While.ensures.stopped
-
-pub stmt-returns-in_err-form-in-For-clause-stopped : goal.stmt-returns-in_err-form-in-For-clause-stopped
-stmt-returns-in_err-form-in-For-clause-stopped t c = stops_by _ _ c.from_residual-in_err-form-in-For.ensures.1 (λ n h. h) c.in_err-form-in-For.ensures.stopped
-
-pub stmt-returns-in_err-form-in-Do-clause-stopped : goal.stmt-returns-in_err-form-in-Do-clause-stopped
-stmt-returns-in_err-form-in-Do-clause-stopped t c = stops_by _ _ c.from_residual-in_err-form-in-Do.ensures.1 (λ n h. h) c.in_err-form-in-Do.ensures.stopped
-
-pub stmt-returns-in_err-form-in-Start-clause-stopped : goal.stmt-returns-in_err-form-in-Start-clause-stopped
-stmt-returns-in_err-form-in-Start-clause-stopped t c =
-    stops_by _ _ c.from_residual-in_err-form-in-Start.ensures.1 (λ n h. h) c.in_err-form-in-Start.ensures.stopped
-
 pub stmt-returns-in_err-form-in_default : goal.stmt-returns-in_err-form-in_default
 stmt-returns-in_err-form-in_default t c =
     let p = err_from_is_err_and c.from_residual-in_err-form-in_default.result c.from_residual-in_err-form-in_default.ensures.1 in
