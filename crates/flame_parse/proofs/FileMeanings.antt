@@ -1,17 +1,17 @@
 -- The trees of what symbols of statements and function files stand for.
 use Rattle.std.proofs.Common.{◌≡◌, ℕ, pos, List, [], ◌∷◌, refl, sym, subst, arith, true, Option, Some, None}
-use Rattle.std.proofs.lemmas.Bool.{false≢true}
 use Rattle.flame_ops.specs.declared.integers.Op.{Op}
 use Rattle.flame_ops.specs.declared.integers.Op.TheVariants.{Add, Sub, Mul, Div, Rem}
 use Rattle.flame_spec.specs.declared.trees.Parameter.{Parameter}
 use Rattle.flame_spec.specs.Trees.{Expression, number, Expressions, no_parts, part, Stored, plain, called, Indexed, Declared, Assigned, Statement, empty, declare, assign, call, block, branch, while, for, do_while, loop_over, return, break, continue, Statements, no_more, also, Arms, no_arms, arm}
 use Rattle.flame_lex.specs.declared.token.Token.{Token}
 use Rattle.flame_expr.specs.declared.lexemes.Lexeme.{Lexeme}
-use Rattle.flame_expr.specs.declared.lexemes.Lexeme.TheVariants.{Open, Close, Semicolon, Set, PlusSet, MinusSet, StarSet, SlashSet, PercentSet, PlusPlus, MinusMinus}
+use Rattle.flame_expr.specs.declared.lexemes.Lexeme.TheVariants.{Open, Close, Semicolon}
 use Rattle.flame_expr.specs.Lexemes.{first, text, line, behind}
 use Rattle.flame_expr.specs.ViablePrefixes.{form, either, maybe, many, expr, setters, steppers, more_parameters, parameters, more_args, more_items, else_ifs, else_body, a_unit, a_def, a_block, a_stmt, a_decl, an_item, a_simple, an_assign, a_place, a_value, some_args, a_body}
 use Rattle.flame_expr.specs.ExpressionGrammar.{Reads, Bracketed, bracketed, closed}
 use Rattle.flame_expr.proofs.LexemeFacts.{among}
+use Rattle.flame_expr.proofs.Operators.{of_each}
 use Rattle.flame_expr.proofs.Meanings.{Means, one, side, pair, former, latter, some, none, again, stop, means_one, means_level, means_index}
 use Rattle.flame_parse.specs.AssignmentOperators.{set_op, step_op}
 use Rattle.flame_parse.specs.HeadSymbols.{initial_symbol}
@@ -22,18 +22,14 @@ means_expr : (ts rest : List Token) → Means expr ts rest → (e : Expression) 
 means_expr ts rest h = means_level 6 ts rest (omega arith) h
 
 set_among : (d : Lexeme) → among d setters ≡ true → (o : Option Op) × (set_op d ≡ Some o)
-set_among Set h = (None, refl)
-set_among PlusSet h = (Some Add, refl)
-set_among MinusSet h = (Some Sub, refl)
-set_among StarSet h = (Some Mul, refl)
-set_among SlashSet h = (Some Div, refl)
-set_among PercentSet h = (Some Rem, refl)
-set_among d h = absurd (false≢true h)
+set_among d h =
+    of_each (λ l. (o : Option Op) × (set_op l ≡ Some o)) setters d
+    ((None, refl), ((Some Add, refl), ((Some Sub, refl), ((Some Mul, refl), ((Some Div, refl), ((Some Rem, refl), tt))))))
+    h
 
 step_among : (d : Lexeme) → among d steppers ≡ true → (o : Op) × (step_op d ≡ Some o)
-step_among PlusPlus h = (Add, refl)
-step_among MinusMinus h = (Sub, refl)
-step_among d h = absurd (false≢true h)
+step_among d h =
+    of_each (λ l. (o : Op) × (step_op l ≡ Some o)) steppers d ((Add, refl), ((Sub, refl), tt)) h
 
 means_more_args : (ts rest : List Token) → Means more_args ts rest → (us : Expressions) × MoreArgs ts us rest
 means_more_args ts rest stop = (no_parts, grammar.no_arg)

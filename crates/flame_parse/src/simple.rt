@@ -203,8 +203,8 @@ fn place(
     ensures stopped { IfErr result (StopsBy joins_index (form a_place ∷ []) tokens.now at) }
 {
     let mid = expect(tokens, at, Lexeme::Word)?;
-    let (which, end) = subscript(alloc, tokens, mid)?;
     let name = text_at(alloc, tokens, at)?;
+    let (which, end) = subscript(alloc, tokens, mid)?;
     Ok((name, which, end))
 }
 
