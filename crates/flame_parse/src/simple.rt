@@ -77,9 +77,9 @@ fn value(alloc: Global, tokens: &[Token], at: usize) -> Result<(Value, usize), F
     ensures stopped { IfErr result (StopsBy (joins 6) (form a_value ∷ []) tokens.now at) }
 {
     if calls(tokens, at) {
+        let word = text_at(alloc, tokens, at)?;
         let (found, close) = args(alloc, tokens, at + 1 + 1)?;
         let end = expect(tokens, close, Lexeme::Close)?;
-        let word = text_at(alloc, tokens, at)?;
         let line = line_at(tokens, at);
         return Ok((Value::Call(line, word, Seq::of(found)), end));
     }
@@ -356,9 +356,9 @@ fn word_simple(
 {
     let line = line_at(tokens, at);
     if lexeme_at(tokens, at + 1) == Lexeme::Open {
+        let word = text_at(alloc, tokens, at)?;
         let (parts, mid) = called(alloc, tokens, at + 1 + 1)?;
         let end = expect(tokens, mid, Lexeme::Semicolon)?;
-        let word = text_at(alloc, tokens, at)?;
         return Ok((Stmt::Call(line, word, Seq::of(parts)), end));
     }
     let (assign, end) = assigned_to(alloc, tokens, at)?;

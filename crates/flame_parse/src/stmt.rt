@@ -228,9 +228,9 @@ fn message_loop(
     ensures ahead { IfOk result (λ r. at < r.1) }
     ensures stopped { IfErr result (StopsBy joins_stmt (form a_stmt ∷ []) tokens.now at) }
 {
+    let name = text_at(alloc, tokens, at)?;
     let (found, finish) = stmts(alloc, tokens, at + 1)?;
     let end = expect(tokens, finish, Lexeme::Finish)?;
-    let name = text_at(alloc, tokens, at)?;
     let end_name = text_at(alloc, tokens, finish)?;
     let line = line_at(tokens, at);
     let end_line = line_at(tokens, finish);

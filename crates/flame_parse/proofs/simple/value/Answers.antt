@@ -22,7 +22,7 @@ returns-then-calls-clause-ended c =
 
 pub returns-in_err-found-clause-stopped : goal.returns-in_err-found-clause-stopped
 returns-in_err-found-clause-stopped c =
-    stops_by _ _ c.from_residual.ensures.1 (λ n h. values.call_stopped c.args.tokens.now c.args.at n (c.calls.ensures.yes c.if-calls.true) h)
+    stops_by _ _ c.from_residual-in_err-found.ensures.1 (λ n h. values.call_stopped c.args.tokens.now c.args.at n (c.calls.ensures.yes c.if-calls.true) h)
     c.in_err-found.ensures.stopped
 
 pub returns-in_err-end-clause-stopped : goal.returns-in_err-end-clause-stopped

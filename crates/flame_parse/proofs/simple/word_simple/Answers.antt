@@ -18,7 +18,7 @@ use Rattle.flame_parse.proofs.simple.word_simple.Goals as goal
 pub returns-in_err-parts-clause-stopped : goal.returns-in_err-parts-clause-stopped
 returns-in_err-parts-clause-stopped c =
     let s : first (drop (c.args.at + 1) c.args.tokens.now) ≡ Open = search rules in
-    stops_by _ _ c.from_residual.ensures.1
+    stops_by _ _ c.from_residual-in_err-parts.ensures.1
     (λ n h. one_stopped
     (enter_stopped [] ((form a_simple ∷ []) ∷ []) c.args.tokens.now c.args.at n Word refl refl c.requires.begun
     (enter_stopped [] (pasts (any_heads ((form a_simple ∷ []) ∷ []) Word)) c.args.tokens.now (c.args.at + 1) n Open refl refl s

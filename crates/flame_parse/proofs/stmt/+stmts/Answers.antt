@@ -251,7 +251,7 @@ do_loop-returns-clause-tree t c =
 
 pub message_loop-returns-in_err-found-clause-stopped : goal.message_loop-returns-in_err-found-clause-stopped
 message_loop-returns-in_err-found-clause-stopped t c =
-    stops_by _ _ c.from_residual.ensures.1
+    stops_by _ _ c.from_residual-in_err-found.ensures.1
     (λ n h. begin_stopped joins_stmt (form a_stmt ∷ []) (many (form a_stmt) ∷ lexeme Finish ∷ []) c.args.tokens.now c.args.at n Start refl refl refl
     c.requires.begun
     (stopped_before joins_stmts joins_stmt (many (form a_stmt) ∷ []) (lexeme Finish ∷ []) c.args.tokens.now (c.args.at + 1) n refl h))
