@@ -43,3 +43,12 @@ pub clean-next :
     → here ≡ []
     → all ≡ rest
 clean-next all left here rest is next none = is ∙ next ∙ ap (λ l. l ++ rest) none
+
+-- the first of what is left is the first of all
+pub first_next :
+    (all left here rest : List CheckFault) (fail : Fail CheckFault)
+    → all ≡ left
+    → left ≡ here ++ rest
+    → FailsFirst here fail
+    → FailsFirst all fail
+first_next all left here rest fail is next h = first_more_as all here rest fail (is ∙ next) h

@@ -1,4 +1,4 @@
-use Rattle.std.proofs.Common.{◌∙◌, ◌+◌, drop}
+use Rattle.std.proofs.Common.{◌+◌, drop}
 use Rattle.std.proofs.lemmas.Result.{err_from_is_err_and}
 use Rattle.flame_spec.specs.CallFaults.{arguments_faults, argument_faults}
 use Rattle.flame_spec.specs.Seen.{expression, expressions}
@@ -6,7 +6,7 @@ use Rattle.flame_lookup.specs.Sources.{context_at}
 use Rattle.flame_body.specs.NumberedTrees.{numbered, numbered_parts}
 use Rattle.flame_numbering.specs.WordPlaces.{words_at}
 use Rattle.flame_numbering.proofs.ArgumentLaws.{arguments-next}
-use Rattle.flame_numbering.proofs.Firsts.{clean-next, first_more_as}
+use Rattle.flame_numbering.proofs.Firsts.{clean-next, first_next}
 use Rattle.flame_numbering.proofs.Rests.{rest-next, rest-pushed}
 use Rattle.flame_numbering.proofs.call.arguments.Goals as goal
 
@@ -24,10 +24,11 @@ returns-in_err-slot-clause-first c =
     let wants = c.length_at-length.result in
     let rest = arguments_faults context sight line word (drop (i + 1) variables) (expressions (drop (i + 1) all)) in
     rw (p.1, p.2)
-    (first_more_as (arguments_faults context sight line word variables (expressions all))
+    (first_next (arguments_faults context sight line word variables (expressions all))
+    (arguments_faults context sight line word (drop i variables) (expressions (drop i all)))
     (argument_faults context sight line word wants (expression e)) rest _
-    (c.loop-i.invariant.clean
-    ∙ arguments-next context sight line word variables all i e wants c.loop-i-test.true c.index-es-i.is
+    c.loop-i.invariant.clean
+    (arguments-next context sight line word variables all i e wants c.loop-i-test.true c.index-es-i.is
     c.length_at-length.ensures)
     c.in_err-slot.ensures.first)
 
