@@ -81,15 +81,6 @@ found-whole found whole is =
     elim (is_object whole) as (λ b. (Some found ≡ cond b (Some whole) None) → (b ≡ true) × (found ≡ whole))
     [ true ↦ λ same. (refl, cc) | false ↦ λ same. cc ] is
 
--- what stands in the value is less deep
-pub part-falls :
-    (key : List ℕ) (found inner whole : Data)
-    → Some found ≡ object_of whole → inner ≡ part key found → depth inner < depth whole
-part-falls key found inner whole is at_key =
-    let opened = found-whole found whole is in
-    let less : depth (part key whole) < depth whole = part-depth key whole opened.0 in
-    rw (at_key, opened.1) less
-
 pub negated :
     (in_filter : Bool) (path : List ℕ) (found whole : Data)
     → Some found ≡ object_of whole

@@ -1,6 +1,7 @@
 pub mod Firsts
 pub mod Formed
 pub mod FormedWide
+pub mod FunctionParts
 pub mod Layers
 pub mod ListViews
 pub mod Parsed

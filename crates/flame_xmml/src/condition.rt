@@ -40,13 +40,8 @@ pub(crate) fn condition<'p>(
         return Err(fault(alloc, place, Want::Condition));
     };
     if has(value, "not") {
-        let inner = condition(
-            alloc,
-            &Place::Key(place, "not"),
-            part(value, "not"),
-            in_filter,
-        )?;
-        Ok(Condition::Not(Boxed::of(alloc, inner)?))
+        let inner = inner_at(alloc, place, value, "not", in_filter)?;
+        Ok(Condition::Not(inner))
     } else if has(value, "time") {
         time(
             alloc,
@@ -78,11 +73,11 @@ fn operation<'p>(
         Connective::Compare(op) => comparison(alloc, place, value, op),
         Connective::And => {
             let (left, right) = sides(alloc, place, value, in_filter)?;
-            Ok(Condition::And(Boxed::of(alloc, left)?, Boxed::of(alloc, right)?))
+            Ok(Condition::And(left, right))
         }
         Connective::Or => {
             let (left, right) = sides(alloc, place, value, in_filter)?;
-            Ok(Condition::Or(Boxed::of(alloc, left)?, Boxed::of(alloc, right)?))
+            Ok(Condition::Or(left, right))
         }
     }
 }
@@ -94,7 +89,7 @@ fn sides<'p>(
     place: &'p Place<'p>,
     value: &Value,
     in_filter: bool,
-) -> Result<(Condition, Condition), Fail<Shape>>
+) -> Result<(Boxed<Condition>, Boxed<Condition>), Fail<Shape>>
     requires { IsTrue (is_object (view value.now)) }
     ensures { Reads
         (required (condition_faults in_filter) (codes "lhs") (path_of place.now) (view value.now)
@@ -102,19 +97,28 @@ fn sides<'p>(
         (conditions_at (view value.now))
         result }
 {
-    let left = condition(
-        alloc,
-        &Place::Key(place, "lhs"),
-        part(value, "lhs"),
-        in_filter,
-    )?;
-    let right = condition(
-        alloc,
-        &Place::Key(place, "rhs"),
-        part(value, "rhs"),
-        in_filter,
-    )?;
+    let left = inner_at(alloc, place, value, "lhs", in_filter)?;
+    let right = inner_at(alloc, place, value, "rhs", in_filter)?;
     Ok((left, right))
+}
+
+/// The condition at a key of a condition.
+#[cycle(condition)]
+fn inner_at<'p>(
+    alloc: Global,
+    place: &'p Place<'p>,
+    value: &Value,
+    key: &'p str,
+    in_filter: bool,
+) -> Result<Boxed<Condition>, Fail<Shape>>
+    requires { IsTrue (is_object (view value.now)) }
+    ensures { Reads
+        (required (condition_faults in_filter) key.now (path_of place.now) (view value.now))
+        (condition_of (part key.now (view value.now)))
+        result }
+{
+    let inner = condition(alloc, &Place::Key(place, key), part(value, key), in_filter)?;
+    Ok(Boxed::of(alloc, inner)?)
 }
 
 /// The value, where it is an object.

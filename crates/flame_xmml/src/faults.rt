@@ -15,7 +15,7 @@ pub struct Shape {
 }
 
 /// What is wanted at a place of a model's value.
-#[derive(Clone, Copy, Debug, PartialEq, Eq)]
+#[derive(Clone, Copy, Debug)]
 pub enum Want {
     /// An object.
     Object,

@@ -7,7 +7,7 @@ ghost use Rattle.flame_xmml.specs.ShapeFaults.{constant_faults, unit_faults, sor
 ghost use Rattle.flame_xmml.specs.ShapeFaults.{function_faults};
 ghost use Rattle.flame_xmml.specs.LeafShapes.{file_faults};
 ghost use Rattle.flame_xmml.specs.Models.{name_at, filled, there, unit_of, sort_of, input_of, function_of};
-ghost use Rattle.flame_xmml.specs.FunctionStep.{step_faults, step_of};
+ghost use Rattle.flame_xmml.specs.FunctionStep.{step_faults, step_of, uses_faults, uses_of};
 ghost use Rattle.flame_xmml.specs.ValueParts.{optional};
 ghost use Rattle.flame_xmml.specs.ValuePlaces.{path_of};
 ghost use Rattle.flame_xmml.specs.ReadValues.{Reads};
@@ -19,7 +19,7 @@ use crate::list::{Member, list_at};
 use crate::parts::{object, part, wanted};
 use crate::place::Place;
 use crate::words::filled_of;
-use flame_rows::{Fail, Text};
+use flame_rows::{Fail, Seq, Text};
 use flame_spec::{Condition, Function, Input, Sort, TimeUnit};
 use serde_json::Value;
 use std::alloc::Global;
@@ -39,6 +39,14 @@ struct Step {
     name: Text,
     current: Text,
     next: Text,
+}
+
+/// When a function runs, what it reads and what it adds.
+#[derive(Drop)]
+struct Uses {
+    condition: Option<Condition>,
+    inputs: Seq<Input>,
+    outputs: Seq<Text>,
 }
 
 impl Member for Constants {
@@ -125,18 +133,15 @@ impl Member for Function {
 
     fn read(alloc: Global, place: &Place<'_>, value: &Value) -> Result<Function, Fail<Shape>> {
         object(alloc, place, value)?;
-        let Step {
-            name,
-            current,
-            next,
-        } = step_at(alloc, place, value)?;
+        let step = step_at(alloc, place, value)?;
+        let uses = uses_at(alloc, place, value)?;
         Ok(Function {
-            name,
-            current,
-            next,
-            condition: condition_at(alloc, place, value, "condition", false)?,
-            inputs: list_at::<Input>(alloc, place, value, "inputs")?,
-            outputs: list_at::<Outputs>(alloc, place, value, "outputs")?,
+            name: step.name,
+            current: step.current,
+            next: step.next,
+            condition: uses.condition,
+            inputs: uses.inputs,
+            outputs: uses.outputs,
         })
     }
 }
@@ -152,6 +157,23 @@ fn step_at(alloc: Global, place: &Place<'_>, value: &Value) -> Result<Step, Fail
         name: name_at(alloc, place, value, "name")?,
         current: state_at(alloc, place, value, "currentState")?,
         next: state_at(alloc, place, value, "nextState")?,
+    })
+}
+
+/// The condition of a function, its inputs and its outputs.
+fn uses_at(alloc: Global, place: &Place<'_>, value: &Value) -> Result<Uses, Fail<Shape>>
+    ensures { Reads
+        (uses_faults (path_of place.now) (view value.now))
+        (uses_of (view value.now))
+        result }
+{
+    let condition = condition_at(alloc, place, value, "condition", false)?;
+    let inputs = list_at::<Input>(alloc, place, value, "inputs")?;
+    let outputs = list_at::<Outputs>(alloc, place, value, "outputs")?;
+    Ok(Uses {
+        condition,
+        inputs,
+        outputs,
     })
 }
 

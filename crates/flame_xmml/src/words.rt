@@ -12,7 +12,7 @@ use flame_ops::Op;
 use serde_json::Value;
 
 /// What the text at `op` makes of two sides.
-#[derive(Clone, Copy, Debug)]
+#[derive(Clone, Copy)]
 pub(crate) enum Connective {
     /// A comparison of two operands.
     Compare(Op),

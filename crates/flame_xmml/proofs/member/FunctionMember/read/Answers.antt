@@ -1,27 +1,47 @@
--- The faults of a key come before those of the keys after it.
+-- The faults of the first keys come before those of the others.
+use Rattle.std.proofs.Common.{◌∙◌, ap, sym, subst}
 use Rattle.serde_json.specs.View.{view}
+use Rattle.flame_spec.specs.declared.models.Function.{Function}
+use Rattle.flame_xmml.specs.declared.member.Step.{Step}
+use Rattle.flame_xmml.specs.declared.member.Uses.{Uses}
+use Rattle.flame_xmml.specs.FunctionStep.{step_of}
+use Rattle.flame_xmml.specs.ReadValues.{IsFirst}
 use Rattle.flame_xmml.specs.ShapeFaults.{function_keys}
 use Rattle.flame_xmml.specs.ValuePlaces.{path_of}
-use Rattle.flame_xmml.proofs.Firsts.{first_stays, first_after, first_in_object, none_both, refused}
+use Rattle.flame_xmml.proofs.FunctionParts.{function_keys-parts}
+use Rattle.flame_xmml.proofs.Firsts.{first_stays, first_after, first_in_object, none_both, object_faults-is, refused}
 use Rattle.flame_xmml.proofs.member.FunctionMember.read.Goals as goal
 
-pub returns-in_err-name : goal.returns-in_err-name
-returns-in_err-name c =
-    refused _ _ _ c.from_residual-in_err-name.result c.from_residual-in_err-name.ensures.1
+pub returns-in_err-step : goal.returns-in_err-step
+returns-in_err-step c =
+    refused _ _ _ c.from_residual-in_err-step.result c.from_residual-in_err-step.ensures.1
     (first_in_object function_keys (path_of c.args.place.now) (view c.args.value.now) _ c.in_ok-object.ensures.object
-    (first_stays _ _ _ (first_stays _ _ _ (first_stays _ _ _ c.in_err-name.ensures))))
+    (first_stays _ _ _ (first_stays _ _ _ (first_stays _ _ _ c.in_err-step.ensures))))
 
-pub returns-in_err-condition_at : goal.returns-in_err-condition_at
-returns-in_err-condition_at c =
-    let here = first_after _ _ _ c.in_ok-name.ensures.0 c.in_err-condition_at.ensures in
-    refused _ _ _ c.from_residual-in_err-condition_at.result c.from_residual-in_err-condition_at.ensures.1
-    (first_in_object function_keys (path_of c.args.place.now) (view c.args.value.now) _ c.in_ok-object.ensures.object
-    (first_stays _ _ _ (first_stays _ _ _ here)))
+pub returns-in_err-uses : goal.returns-in_err-uses
+returns-in_err-uses c =
+    let path = path_of c.args.place.now in
+    let value = view c.args.value.now in
+    refused _ _ _ c.from_residual-in_err-uses.result c.from_residual-in_err-uses.ensures.1
+    (first_in_object function_keys path value _ c.in_ok-object.ensures.object
+    (subst (λ faults. IsFirst faults c.in_err-uses.field-0.0) (sym (function_keys-parts path value))
+    (first_after _ _ _ c.in_ok-step.ensures.0 c.in_err-uses.ensures)))
 
-pub returns-in_err-list_at : goal.returns-in_err-list_at
-returns-in_err-list_at c =
-    let before = none_both _ _ c.in_ok-name.ensures.0 c.in_ok-condition_at.ensures.0 in
-    let here = first_after _ _ _ before c.in_err-list_at.ensures in
-    refused _ _ _ c.from_residual-in_err-list_at.result c.from_residual-in_err-list_at.ensures.1
-    (first_in_object function_keys (path_of c.args.place.now) (view c.args.value.now) _ c.in_ok-object.ensures.object
-    (first_stays _ _ _ here))
+pub returns : goal.returns
+returns c =
+    let path = path_of c.args.place.now in
+    let value = view c.args.value.now in
+    let build : Step → Uses → Function = λ step uses. record {
+      name = step.name;
+      current = step.current;
+      next = step.next;
+      condition = uses.condition;
+      inputs = uses.inputs;
+      outputs = uses.outputs;
+    } in (
+      object_faults-is function_keys path value c.in_ok-object.ensures.object
+          ∙ function_keys-parts path value
+          ∙ none_both _ _ c.in_ok-step.ensures.0 c.in_ok-uses.ensures.0,
+      ap (λ step. build step c.in_ok-uses.uses) c.in_ok-step.ensures.1
+          ∙ ap (build (step_of value)) c.in_ok-uses.ensures.1,
+    )
