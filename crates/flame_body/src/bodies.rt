@@ -13,7 +13,7 @@ use std::marker::Model;
 /// a birth have as many values as their rows are wide; a store has one value; arrays without an index are arguments of
 /// messages and births alone; a variable of a message is read in a loop of its input; no loop stands in another of the
 /// same input; `break` and `continue` stand in a loop.
-#[derive(Debug, Drop)]
+#[derive(Drop)]
 pub struct Body {
     function: u32,
     widths: Widths,

@@ -3,7 +3,6 @@
 
 mod bodies;
 pub mod laws;
-mod same_slots;
 mod slots;
 
 pub use bodies::Body;

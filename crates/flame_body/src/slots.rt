@@ -6,7 +6,7 @@ use flame_rows::{Boxed, Seq};
 use flame_spec::Sign;
 
 /// Where a variable stands in a row.
-#[derive(Clone, Copy, Debug, PartialEq, Eq)]
+#[derive(Clone, Copy)]
 pub struct Span {
     /// Its column, of an array that of the first element.
     pub column: u32,
@@ -15,7 +15,7 @@ pub struct Span {
 }
 
 /// Where an array stands in a row.
-#[derive(Clone, Copy, Debug, PartialEq, Eq)]
+#[derive(Clone, Copy)]
 pub struct Cells {
     /// The column of its first element.
     pub column: u32,
@@ -24,7 +24,7 @@ pub struct Cells {
 }
 
 /// What a name stands for.
-#[derive(Clone, Copy, Debug, PartialEq, Eq)]
+#[derive(Clone, Copy)]
 pub enum Slot {
     /// A local, by how many locals were declared before it in all scopes that are open where it is declared, hidden
     /// ones too.
@@ -39,7 +39,7 @@ pub enum Slot {
 
 /// An expression.
 #[cycle(slot_expression)]
-#[derive(Debug, Drop)]
+#[derive(Drop)]
 pub enum SlotExpr {
     /// A number.
     Number(i32),
@@ -65,7 +65,7 @@ pub enum SlotExpr {
 
 /// Which element of an array.
 #[cycle(slot_expression)]
-#[derive(Debug, Drop)]
+#[derive(Drop)]
 pub struct SlotSubscript {
     /// The line of the `[`.
     pub line: u32,
@@ -75,7 +75,7 @@ pub struct SlotSubscript {
 
 /// A binary operator and the operand after it.
 #[cycle(slot_expression)]
-#[derive(Debug, Drop)]
+#[derive(Drop)]
 pub struct SlotLink {
     /// The operator.
     pub op: Op,
@@ -86,7 +86,7 @@ pub struct SlotLink {
 }
 
 /// What a call statement does.
-#[derive(Clone, Copy, Debug, PartialEq, Eq)]
+#[derive(Clone, Copy)]
 pub enum SlotDeed {
     /// It sets the memory variable in this column.
     Sets(u32),
@@ -99,7 +99,7 @@ pub enum SlotDeed {
 }
 
 /// What an assignment or a declaration stores.
-#[derive(Debug, Drop)]
+#[derive(Drop)]
 pub enum SlotValue {
     /// An expression.
     Plain(SlotExpr),
@@ -108,7 +108,7 @@ pub enum SlotValue {
 }
 
 /// A local that a declaration declares.
-#[derive(Debug, Drop)]
+#[derive(Drop)]
 pub struct SlotItem {
     /// Its number.
     pub local: u32,
@@ -117,7 +117,7 @@ pub struct SlotItem {
 }
 
 /// What is assigned to.
-#[derive(Debug, Drop)]
+#[derive(Drop)]
 pub enum SlotTarget {
     /// The local of this number.
     Local(u32),
@@ -128,7 +128,7 @@ pub enum SlotTarget {
 }
 
 /// An assignment.
-#[derive(Debug, Drop)]
+#[derive(Drop)]
 pub struct SlotAssign {
     /// What is assigned to.
     pub target: SlotTarget,
@@ -142,7 +142,7 @@ pub struct SlotAssign {
 
 /// A statement. The `u32` of a loop that comes first is the line of the word or keyword that begins it.
 #[cycle(slot_statement)]
-#[derive(Debug, Drop)]
+#[derive(Drop)]
 pub enum SlotStmt {
     /// `;`
     Empty,
@@ -174,7 +174,7 @@ pub enum SlotStmt {
 
 /// A test of an `if` and the body that runs where it is the first that holds.
 #[cycle(slot_statement)]
-#[derive(Debug, Drop)]
+#[derive(Drop)]
 pub struct SlotArm {
     /// The test.
     pub test: SlotExpr,
@@ -184,7 +184,7 @@ pub struct SlotArm {
 
 /// The head of a `for`.
 #[cycle(slot_statement)]
-#[derive(Debug, Drop)]
+#[derive(Drop)]
 pub struct SlotHead {
     /// The first statement, a declaration or an assignment; at most one.
     pub first: Seq<SlotStmt>,
