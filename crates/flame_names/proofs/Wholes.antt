@@ -9,7 +9,7 @@ use Rattle.flame_ops.specs.Ascii.{capitals}
 use Rattle.flame_spec.specs.KnownNames.{unit_names, variables_in, DeclaredNames, declared_by}
 use Rattle.flame_spec.specs.Paths.{at_key}
 use Rattle.flame_spec.specs.MessageFaults.{messages_faults}
-use Rattle.flame_spec.specs.NameFaults.{agents_faults, environment_faults, model_faults}
+use Rattle.flame_spec.specs.NameFaults.{agents_faults}
 use Rattle.flame_names.specs.NameLooks.{message_entry}
 use Rattle.flame_name_sets.specs.NameTables.{look, names_of}
 use Rattle.flame_names.proofs.MessageNames.{names_of-messages}
@@ -50,19 +50,18 @@ declared-is constants units messages model c u m =
     λ name. ap (λ table. unwrap_or (look name table) []) m ∙ variables_in-look name model.messages in
     λ i. record { constants = c i; units = u i; messages = names i; variables = λ name. each name i }
 
--- a model whose environment and messages have no faults has those of its agent types
+-- a model whose messages have no faults has behind its environment those of its agent types
 pub agents-are : (path : List ℕ) (model : Model) (declared : DeclaredNames) (messages : List MessageType)
     (agents : List AgentType)
     → messages ≡ model.messages
     → agents ≡ model.agents
     → declared ≡ declared_by model
-    → environment_faults (at_key path (codes "environment")) model ≡ []
     → messages_faults (at_key path (codes "messages")) messages ≡ []
-    → agents_faults declared (at_key path (codes "agents")) agents ≡ model_faults path model
-agents-are path model declared messages agents m a d environment none =
+    → agents_faults declared (at_key path (codes "agents")) agents
+    ≡ messages_faults (at_key path (codes "messages")) model.messages
+    ++ agents_faults (declared_by model) (at_key path (codes "agents")) model.agents
+agents-are path model declared messages agents m a d none =
     let rest = agents_faults (declared_by model) (at_key path (codes "agents")) model.agents in
     ap (λ known. agents_faults known (at_key path (codes "agents")) agents) d
     ∙ ap (agents_faults (declared_by model) (at_key path (codes "agents"))) a
-    ∙ sym
-    (ap (λ l. l ++ (messages_faults (at_key path (codes "messages")) model.messages ++ rest)) environment
-    ∙ ap (λ l. l ++ rest) (ap (messages_faults (at_key path (codes "messages"))) (sym m) ∙ none))
+    ∙ sym (ap (λ l. l ++ rest) (ap (messages_faults (at_key path (codes "messages"))) (sym m) ∙ none))

@@ -5,6 +5,7 @@ ghost use Rattle.flame_ops.specs.Ascii.{capitals};
 ghost use Rattle.flame_spec.specs.KnownNames.{is_among, variable_names};
 ghost use Rattle.flame_spec.specs.NameFaults.{memory_name_faults, memory_variable_faults, memory_faults};
 ghost use Rattle.flame_spec.specs.NameFaults.{function_names, agent_faults, agents_faults};
+ghost use Rattle.flame_spec.specs.FunctionFaults.{functions_faults};
 ghost use Rattle.flame_spec.specs.Paths.{at_key};
 ghost use Rattle.flame_names.specs.PlacePaths.{text_of};
 ghost use Rattle.flame_spec.specs.FirstFaults.{FailsFirst};
@@ -82,7 +83,7 @@ fn add_memory<'a>(
 }
 
 /// Adds the memory variables of the list at this place to none, with their capitals.
-fn add_memories<'a, 'p>(
+fn add_named<'a, 'p>(
     alloc: Global,
     constants: &Capitals,
     place: &'p Place<'p>,
@@ -103,6 +104,23 @@ fn add_memories<'a, 'p>(
     Ok(())
 }
 
+/// Adds the memory variables of the list at this place to none.
+fn add_memories<'a, 'p>(
+    alloc: Global,
+    constants: &Capitals,
+    place: &'p Place<'p>,
+    variables: &'a [Variable],
+    earlier: &mut Variables<'a>,
+) -> Result<(), Fail<NameFault>>
+    requires { earlier.old ≡ [] }
+    ensures none { OnOk result (memory_faults constants.now (text_of place.now) variables.now ≡ []) }
+    ensures variables { OnOk result (earlier.new ≡ variables.now) }
+    ensures first { IfErr result (FailsFirst (memory_faults constants.now (text_of place.now) variables.now)) }
+{
+    let mut own = Capitals::new(alloc);
+    add_named(alloc, constants, place, variables, earlier, &mut own)
+}
+
 /// The memory variables of the list at this place.
 fn memory<'a, 'p>(
     alloc: Global,
@@ -115,8 +133,7 @@ fn memory<'a, 'p>(
     ensures first { IfErr result (FailsFirst (memory_faults constants.now (text_of place.now) variables.now)) }
 {
     let mut earlier = Variables::new(alloc);
-    let mut own = Capitals::new(alloc);
-    add_memories(alloc, constants, place, variables, &mut earlier, &mut own)?;
+    add_memories(alloc, constants, place, variables, &mut earlier)?;
     Ok(earlier)
 }
 
@@ -128,6 +145,35 @@ fn share<'a>(functions: &'a [Function], shared: &mut Names<'a>) -> Result<(), No
     for function in functions {
         let _ = shared.add(function.name.as_str())?;
     }
+    Ok(())
+}
+
+/// The functions of the list at this place, in a type with this memory, added to those of the earlier types.
+fn walk_functions<'a, 'p>(
+    alloc: Global,
+    tables: &Tables<'_, '_>,
+    memory: &Variables<'_>,
+    place: &'p Place<'p>,
+    members: &'a [Function],
+    shared: &mut Names<'a>,
+) -> Result<(), Fail<NameFault>>
+    ensures none { OnOk result (functions_faults
+        (declared_of tables.now)
+        memory.now
+        (λ name. is_among name shared.old)
+        (text_of place.now)
+        members.now ≡ []) }
+    ensures functions { OnOk result ((name : List ℕ)
+        → is_among name shared.new ≡ (is_among name shared.old || is_among name (function_names members.now))) }
+    ensures first { IfErr result (FailsFirst (functions_faults
+        (declared_of tables.now)
+        memory.now
+        (λ name. is_among name shared.old)
+        (text_of place.now)
+        members.now)) }
+{
+    functions(alloc, tables, memory, shared, place, members)?;
+    share(members, shared)?;
     Ok(())
 }
 
@@ -169,15 +215,35 @@ fn add_agent<'a>(
         &Place::Key(place, "memory"),
         agent.memory.items(),
     )?;
-    functions(
+    walk_functions(
         alloc,
         tables,
         &memory,
-        shared,
         &Place::Key(place, "functions"),
         agent.functions.items(),
-    )?;
-    share(agent.functions.items(), shared)?;
+        shared,
+    )
+}
+
+/// Adds the agent types of the list at this place to none, and their functions.
+fn add_agents<'a, 'p>(
+    alloc: Global,
+    tables: &Tables<'_, '_>,
+    place: &'p Place<'p>,
+    agents: &'a [AgentType],
+    types: &mut Names<'a>,
+    shared: &mut Names<'a>,
+) -> Result<(), Fail<NameFault>>
+    requires types { types.old ≡ [] }
+    requires functions { shared.old ≡ [] }
+    ensures none { OnOk result (agents_faults (declared_of tables.now) (text_of place.now) agents.now ≡ []) }
+    ensures first { IfErr result
+        (FailsFirst (agents_faults (declared_of tables.now) (text_of place.now) agents.now)) }
+{
+    for (i, agent) in agents.iter().enumerate() {
+        let place = Place::Member(place, i);
+        add_agent(alloc, tables, &place, agent, types, shared)?;
+    }
     Ok(())
 }
 
@@ -194,15 +260,5 @@ pub fn agents<'p>(
 {
     let mut types = Names::new(alloc);
     let mut shared = Names::new(alloc);
-    for (i, agent) in agents.iter().enumerate() {
-        add_agent(
-            alloc,
-            tables,
-            &Place::Member(place, i),
-            agent,
-            &mut types,
-            &mut shared,
-        )?;
-    }
-    Ok(())
+    add_agents(alloc, tables, place, agents, &mut types, &mut shared)
 }

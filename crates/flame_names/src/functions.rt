@@ -33,6 +33,15 @@ pub struct Tables<'s, 'a> {
     pub messages: &'s MessageTable<'a>,
 }
 
+impl<'s, 'a> Tables<'s, 'a> {
+    /// The messages with their variables.
+    fn messages(&self) -> &'s MessageTable<'a>
+        ensures { result.now ≡ self.now.messages.now }
+    {
+        self.messages
+    }
+}
+
 /// The key of a sort, where there is one.
 fn sort(
     alloc: Global,
@@ -99,7 +108,7 @@ fn add_input<'a>(
         (FailsFirst (input_faults (declared_of tables.now) memory.now earlier.old (text_of place.now) input.now)) }
 {
     let name = input.message.as_str();
-    let Some(variables) = tables.messages.variables(name) else {
+    let Some(variables) = tables.messages().variables(name) else {
         return Err(fault(
             alloc,
             NameKind::UnknownMessage,
@@ -157,7 +166,7 @@ fn add_output<'a>(
     ensures first { IfErr result
         (FailsFirst (use_faults (declared_of tables.now) earlier.old (text_of place.now) name.now)) }
 {
-    let is_known = tables.messages.has(name);
+    let is_known = tables.messages().has(name);
     refuse(
         alloc,
         !is_known,

@@ -1,6 +1,6 @@
 //! The names in conditions.
 
-ghost use Rattle.std.specs.Prelude.{◌≡◌, [], IfErr, OnOk, codes};
+ghost use Rattle.std.specs.Prelude.{◌≡◌, ◌++◌, [], IfErr, OnOk, codes};
 ghost use Rattle.flame_spec.specs.Paths.{at_key};
 ghost use Rattle.flame_spec.specs.Leaves.{operand_faults, time_faults, leaf_faults, condition_faults};
 ghost use Rattle.flame_names.specs.PlacePaths.{text_of};
@@ -24,6 +24,15 @@ pub struct Scope<'s, 'a> {
     pub message: &'s Variables<'a>,
     /// The time units.
     pub units: &'s Lengths<'a>,
+}
+
+impl<'s, 'a> Scope<'s, 'a> {
+    /// The time units.
+    fn units(&self) -> &'s Lengths<'a>
+        ensures { result.now ≡ self.now.units.now }
+    {
+        self.units
+    }
 }
 
 /// The name in an operand.
@@ -59,6 +68,26 @@ fn side(
     operand(alloc, scope, &Place::Key(place, "value"), value)
 }
 
+/// The names in a comparison.
+fn compared(
+    alloc: Global,
+    scope: &Scope<'_, '_>,
+    place: &Place<'_>,
+    left: &Operand,
+    right: &Operand,
+) -> Result<(), Fail<NameFault>>
+    ensures none { OnOk result
+        (operand_faults (scope_of scope.now) (at_key (at_key (text_of place.now) (codes "lhs")) (codes "value")) left.now
+        ++ operand_faults (scope_of scope.now) (at_key (at_key (text_of place.now) (codes "rhs")) (codes "value")) right.now
+        ≡ []) }
+    ensures first { IfErr result (FailsFirst
+        (operand_faults (scope_of scope.now) (at_key (at_key (text_of place.now) (codes "lhs")) (codes "value")) left.now
+        ++ operand_faults (scope_of scope.now) (at_key (at_key (text_of place.now) (codes "rhs")) (codes "value")) right.now)) }
+{
+    side(alloc, scope, &Place::Key(place, "lhs"), left)?;
+    side(alloc, scope, &Place::Key(place, "rhs"), right)
+}
+
 /// The names in a time condition.
 fn time(
     alloc: Global,
@@ -72,7 +101,7 @@ fn time(
         (FailsFirst (time_faults (scope_of scope.now) (text_of place.now) period.now phase.now)) }
 {
     let name = period.as_str();
-    let is_known = scope.units.has(name);
+    let is_known = scope.units().has(name);
     refuse(
         alloc,
         !is_known,
@@ -95,10 +124,7 @@ fn leaves(
         (FailsFirst (leaf_faults (scope_of scope.now) condition.now (text_of place.now))) }
 {
     match condition {
-        Condition::Compare(_, left, right) => {
-            side(alloc, scope, &Place::Key(&*place, "lhs"), left)?;
-            side(alloc, scope, &Place::Key(&*place, "rhs"), right)
-        }
+        Condition::Compare(_, left, right) => { compared(alloc, scope, &*place, left, right) }
         Condition::And(left, right) => {
             leaves(alloc, scope, left, &Place::Key(&*place, "lhs"))?;
             leaves(alloc, scope, right, &Place::Key(&*place, "rhs"))

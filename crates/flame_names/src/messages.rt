@@ -129,6 +129,22 @@ fn add_constants<'a, 'p>(
     Ok(())
 }
 
+/// Adds the capitals of the constants of the list at this place to none.
+fn shout_constants<'p>(
+    alloc: Global,
+    place: &'p Place<'p>,
+    constants: &[Text],
+    shouted: &mut Capitals,
+) -> Result<(), Fail<NameFault>>
+    requires { shouted.old ≡ [] }
+    ensures none { OnOk result (constant_faults (text_of place.now) constants.now ≡ []) }
+    ensures capitals { OnOk result (shouted.new ≡ map capitals constants.now) }
+    ensures first { IfErr result (FailsFirst (constant_faults (text_of place.now) constants.now)) }
+{
+    let mut earlier = Names::new(alloc);
+    add_constants(alloc, place, constants, &mut earlier, shouted)
+}
+
 /// The constants of the list at this place, in capitals.
 pub fn constants<'p>(
     alloc: Global,
@@ -139,9 +155,8 @@ pub fn constants<'p>(
     ensures capitals { IfOk result (λ table. table ≡ map capitals constants.now) }
     ensures first { IfErr result (FailsFirst (constant_faults (text_of place.now) constants.now)) }
 {
-    let mut earlier = Names::new(alloc);
     let mut shouted = Capitals::new(alloc);
-    add_constants(alloc, place, constants, &mut earlier, &mut shouted)?;
+    shout_constants(alloc, place, constants, &mut shouted)?;
     Ok(shouted)
 }
 
@@ -207,6 +222,47 @@ fn add_message<'a>(
     )
 }
 
+/// Adds the messages of the list at this place to none, with their names and capitals.
+fn add_messages<'a, 'p>(
+    alloc: Global,
+    place: &'p Place<'p>,
+    messages: &'a [MessageType],
+    earlier: &mut Names<'a>,
+    shouted: &mut Capitals,
+    known: &mut MessageTable<'a>,
+) -> Result<(), Fail<NameFault>>
+    requires names { earlier.old ≡ [] }
+    requires capitals { shouted.old ≡ [] }
+    requires messages { known.old ≡ [] }
+    ensures none { OnOk result (messages_faults (text_of place.now) messages.now ≡ []) }
+    ensures messages { OnOk result (known.new ≡ map message_entry messages.now) }
+    ensures first { IfErr result (FailsFirst (messages_faults (text_of place.now) messages.now)) }
+{
+    for (i, message) in messages.iter().enumerate() {
+        let place = Place::Member(place, i);
+        let variables = add_message(alloc, &place, message, earlier, shouted)?;
+        known.add(message.name.as_str(), variables)?;
+    }
+    Ok(())
+}
+
+/// Adds the messages of the list at this place to none.
+fn fill_messages<'a, 'p>(
+    alloc: Global,
+    place: &'p Place<'p>,
+    messages: &'a [MessageType],
+    known: &mut MessageTable<'a>,
+) -> Result<(), Fail<NameFault>>
+    requires { known.old ≡ [] }
+    ensures none { OnOk result (messages_faults (text_of place.now) messages.now ≡ []) }
+    ensures messages { OnOk result (known.new ≡ map message_entry messages.now) }
+    ensures first { IfErr result (FailsFirst (messages_faults (text_of place.now) messages.now)) }
+{
+    let mut earlier = Names::new(alloc);
+    let mut shouted = Capitals::new(alloc);
+    add_messages(alloc, place, messages, &mut earlier, &mut shouted, known)
+}
+
 /// The messages of the list at this place, with their variables.
 pub fn messages<'a, 'p>(
     alloc: Global,
@@ -217,13 +273,7 @@ pub fn messages<'a, 'p>(
     ensures messages { IfOk result (λ table. table ≡ map message_entry messages.now) }
     ensures first { IfErr result (FailsFirst (messages_faults (text_of place.now) messages.now)) }
 {
-    let mut earlier = Names::new(alloc);
-    let mut shouted = Capitals::new(alloc);
     let mut known = MessageTable::new(alloc);
-    for (i, message) in messages.iter().enumerate() {
-        let place = Place::Member(place, i);
-        let variables = add_message(alloc, &place, message, &mut earlier, &mut shouted)?;
-        known.add(message.name.as_str(), variables)?;
-    }
+    fill_messages(alloc, place, messages, &mut known)?;
     Ok(known)
 }

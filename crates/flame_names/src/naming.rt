@@ -1,9 +1,11 @@
 //! The names of a model.
 
-ghost use Rattle.std.specs.Prelude.{◌≡◌, [], map, IfOk, IfErr, OnOk};
+ghost use Rattle.std.specs.Prelude.{◌≡◌, ◌++◌, [], map, codes, IfOk, IfErr, OnOk};
 ghost use Rattle.flame_ops.specs.Ascii.{capitals};
-ghost use Rattle.flame_spec.specs.KnownNames.{unit_names};
-ghost use Rattle.flame_spec.specs.NameFaults.{environment_faults, model_faults, name_faults};
+ghost use Rattle.flame_spec.specs.KnownNames.{unit_names, declared_by};
+ghost use Rattle.flame_spec.specs.MessageFaults.{messages_faults};
+ghost use Rattle.flame_spec.specs.NameFaults.{agents_faults, environment_faults, model_faults, name_faults};
+ghost use Rattle.flame_spec.specs.Paths.{at_key};
 ghost use Rattle.flame_names.specs.PlacePaths.{text_of};
 ghost use Rattle.flame_name_sets.specs.NameTables.{names_of};
 ghost use Rattle.flame_spec.specs.FirstFaults.{FailsFirst};
@@ -38,14 +40,33 @@ fn model_names(alloc: Global, place: &Place<'_>, model: &Model) -> Result<(), Fa
     ensures first { IfErr result (FailsFirst (model_faults (text_of place.now) model.now)) }
 {
     let (constants, units) = environment(alloc, &Place::Key(place, "environment"), model)?;
+    types(alloc, place, &constants, &units, model)
+}
+
+/// The names of the messages and agent types of the model at this place, which has these constants, in capitals, and
+/// these time units.
+fn types(
+    alloc: Global,
+    place: &Place<'_>,
+    constants: &Capitals,
+    units: &Lengths<'_>,
+    model: &Model,
+) -> Result<(), Fail<NameFault>>
+    requires constants { constants.now ≡ map capitals model.now.constants }
+    requires units { names_of units.now ≡ unit_names model.now.units }
+    ensures none { OnOk result (messages_faults (at_key (text_of place.now) (codes "messages")) model.now.messages
+        ++ agents_faults (declared_by model.now) (at_key (text_of place.now) (codes "agents")) model.now.agents ≡ []) }
+    ensures first { IfErr result (FailsFirst (messages_faults (at_key (text_of place.now) (codes "messages")) model.now.messages
+        ++ agents_faults (declared_by model.now) (at_key (text_of place.now) (codes "agents")) model.now.agents)) }
+{
     let messages = messages(
         alloc,
         &Place::Key(place, "messages"),
         model.messages.items(),
     )?;
     let tables = Tables {
-        constants: &constants,
-        units: &units,
+        constants,
+        units,
         messages: &messages,
     };
     agents(

@@ -1,6 +1,6 @@
 //! Places in a model file.
 
-ghost use Rattle.std.specs.Prelude.{◌≡◌, ◌++◌, IfOk, OnOk, string_bytes};
+ghost use Rattle.std.specs.Prelude.{◌≡◌, ◌++◌, IfOk, OnOk, codes, decimal, string_bytes};
 ghost use Rattle.flame_names.specs.PlacePaths.{text_of};
 
 use flame_rows::{NoMemory, Text};
@@ -36,15 +36,29 @@ impl<'a> Place<'a> {
             Place::Root => Ok(()),
             Place::Key(before, key) => {
                 before.write(text)?;
-                text.push_str("/")?;
-                text.push_str(key)?;
-                Ok(())
+                write_key(text, key)
             }
             Place::Member(before, number) => {
                 before.write(text)?;
-                write!(text, "/{number}")?;
-                Ok(())
+                write_number(text, *number)
             }
         }
     }
+}
+
+/// Adds a key, after a `/`, to the text.
+fn write_key(text: &mut String, key: &str) -> Result<(), NoMemory>
+    ensures { OnOk result (string_bytes text.new ≡ string_bytes text.old ++ (codes "/" ++ key.now)) }
+{
+    text.push_str("/")?;
+    text.push_str(key)?;
+    Ok(())
+}
+
+/// Adds a number, after a `/`, to the text.
+fn write_number(text: &mut String, number: usize) -> Result<(), NoMemory>
+    ensures { OnOk result (string_bytes text.new ≡ string_bytes text.old ++ (codes "/" ++ decimal number)) }
+{
+    write!(text, "/{number}")?;
+    Ok(())
 }

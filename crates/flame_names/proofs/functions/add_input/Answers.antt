@@ -20,7 +20,9 @@ returns-in_default-clause-first c =
     let name = c.args.input.now.message in
     let messages = c.args.tables.now.messages.now in
     let at : look name messages ≡ None =
-    ap (λ n. look n messages) (sym c.as_str-name.ensures) ∙ sym c.variables.ensures
+    ap (λ n. look n messages) (sym c.as_str-name.ensures)
+    ∙ ap (look c.as_str-name.result.now) (sym c.messages.ensures)
+    ∙ sym c.variables.ensures
     ∙ ap option_copied c.in_default.is in
     fails_first
     _
@@ -46,7 +48,9 @@ returns-in_err-add_new-clause-first c =
     let declared = declared_of c.args.tables.now in
     let path = text_of c.args.place.now in
     let at : look name messages ≡ Some c.in-Some.variables.now =
-    ap (λ n. look n messages) (sym c.as_str-name.ensures) ∙ sym c.variables.ensures
+    ap (λ n. look n messages) (sym c.as_str-name.ensures)
+    ∙ ap (look c.as_str-name.result.now) (sym c.messages.ensures)
+    ∙ sym c.variables.ensures
     ∙ ap option_copied c.in-Some.is in
     rw
     (p.1, p.2)
@@ -82,7 +86,9 @@ returns-clause-none c =
     let declared = declared_of c.args.tables.now in
     let path = text_of c.args.place.now in
     let at : look name messages ≡ Some c.in-Some.variables.now =
-    ap (λ n. look n messages) (sym c.as_str-name.ensures) ∙ sym c.variables.ensures
+    ap (λ n. look n messages) (sym c.as_str-name.ensures)
+    ∙ ap (look c.as_str-name.result.now) (sym c.messages.ensures)
+    ∙ sym c.variables.ensures
     ∙ ap option_copied c.in-Some.is in
     let whole = rest_is declared c.args.memory.now c.args.earlier.now path c.args.input.now c.in-Some.variables.now
     c.as_str-name.result.now
@@ -99,7 +105,9 @@ returns-clause-first c =
     let declared = declared_of c.args.tables.now in
     let path = text_of c.args.place.now in
     let at : look name messages ≡ Some c.in-Some.variables.now =
-    ap (λ n. look n messages) (sym c.as_str-name.ensures) ∙ sym c.variables.ensures
+    ap (λ n. look n messages) (sym c.as_str-name.ensures)
+    ∙ ap (look c.as_str-name.result.now) (sym c.messages.ensures)
+    ∙ sym c.variables.ensures
     ∙ ap option_copied c.in-Some.is in
     let whole = rest_is declared c.args.memory.now c.args.earlier.now path c.args.input.now c.in-Some.variables.now
     c.as_str-name.result.now

@@ -1,18 +1,18 @@
 use Rattle.std.proofs.Common.{◌∙◌, ◌++◌, sym, ap, codes}
 use Rattle.std.proofs.lemmas.Result.{err_from_is_err_and}
 use Rattle.flame_spec.specs.Paths.{at_key}
-use Rattle.flame_spec.specs.Leaves.{leaf_faults, operand_faults}
+use Rattle.flame_spec.specs.Leaves.{leaf_faults}
 use Rattle.flame_names.specs.PlacePaths.{text_of}
 use Rattle.flame_names.specs.TableScopes.{scope_of}
 use Rattle.flame_names.proofs.Rests.{fails-append}
-use Rattle.flame_names.proofs.Sides.{leaf_faults-And, leaf_faults-Or, leaf_faults-Compare}
+use Rattle.flame_names.proofs.Sides.{leaf_faults-And, leaf_faults-Or}
 use Rattle.flame_names.proofs.leaves.+leaves.Goals as goal
 
 pub returns-in_err-leaves-in-And-clause-first : goal.returns-in_err-leaves-in-And-clause-first
 returns-in_err-leaves-in-And-clause-first t c =
     let p = err_from_is_err_and
-    c.from_residual-in_err-leaves-in-And.result
-    c.from_residual-in_err-leaves-in-And.ensures.1 in
+    c.from_residual.result
+    c.from_residual.ensures.1 in
     let scope = scope_of c.args.scope.now in
     let path = text_of c.args.place.now in
     rw
@@ -53,21 +53,3 @@ returns-in_err-leaves-in-Or-clause-first t c =
     ++ leaf_faults scope c.in-Or.right (at_key path (codes "rhs")))
     (sym c.deref-in-Or.ensures))
     c.in_err-leaves-in-Or.ensures.first)
-
-pub returns-in_err-side-in-Compare-clause-first : goal.returns-in_err-side-in-Compare-clause-first
-returns-in_err-side-in-Compare-clause-first t c =
-    let p = err_from_is_err_and
-    c.from_residual.result
-    c.from_residual.ensures.1 in
-    let scope = scope_of c.args.scope.now in
-    let path = text_of c.args.place.now in
-    rw
-    (p.1, p.2)
-    (fails-append
-    _
-    (leaf_faults scope c.args.condition.now path)
-    (operand_faults scope (at_key (at_key path (codes "lhs")) (codes "value")) c.in-Compare.left)
-    (operand_faults scope (at_key (at_key path (codes "rhs")) (codes "value")) c.in-Compare.right)
-    (ap (λ condition. leaf_faults scope condition path) c.in-Compare.is
-    ∙ leaf_faults-Compare scope path _ c.in-Compare.left c.in-Compare.right)
-    c.in_err-side-in-Compare.ensures.first)

@@ -1,53 +1,29 @@
-use Rattle.std.proofs.Common.{◌∙◌, sym, ap, map}
+use Rattle.std.proofs.Common.{◌∙◌, ◌++◌, sym, ap, codes}
 use Rattle.std.proofs.lemmas.Result.{IfErr-weaker, on_ok_weaker}
+use Rattle.flame_spec.specs.KnownNames.{declared_by}
+use Rattle.flame_spec.specs.MessageFaults.{messages_faults}
+use Rattle.flame_spec.specs.NameFaults.{agents_faults}
+use Rattle.flame_spec.specs.Paths.{at_key}
 use Rattle.flame_names.specs.PlacePaths.{text_of}
-use Rattle.flame_names.specs.NameLooks.{message_entry}
 use Rattle.flame_names.proofs.Rests.{fails-same}
-use Rattle.flame_names.proofs.Wholes.{declared-is, agents-are}
 use Rattle.flame_names.proofs.naming.model_names.Goals as goal
 
 pub returns-clause-none : goal.returns-clause-none
 returns-clause-none c =
-    let whole =
-    agents-are
-    (text_of c.args.place.now)
-    c.args.model.now
-    _
-    c.items.result.now
-    c.items-2.result.now
-    c.items.ensures
-    c.items-2.ensures
-    (declared-is
-    c.in_ok-constants.constants
-    c.in_ok-constants.units
-    c.in_ok-messages.messages
-    c.args.model.now
-    c.in_ok-constants.ensures.constants
-    c.in_ok-constants.ensures.units
-    (c.in_ok-messages.ensures.messages ∙ ap (map message_entry) c.items.ensures))
-    c.in_ok-constants.ensures.none
-    c.in_ok-messages.ensures.none in
-    on_ok_weaker c.agents.result (λ e. sym whole ∙ e) c.agents.ensures.none
+    let path = text_of c.args.place.now in
+    let model = c.args.model.now in
+    let rest =
+    messages_faults (at_key path (codes "messages")) model.messages
+    ++ agents_faults (declared_by model) (at_key path (codes "agents")) model.agents in
+    let whole = ap (λ l. l ++ rest) c.in_ok-constants.ensures.none in
+    on_ok_weaker c.types.result (λ e. whole ∙ e) c.types.ensures.none
 
 pub returns-clause-first : goal.returns-clause-first
 returns-clause-first c =
-    let whole =
-    agents-are
-    (text_of c.args.place.now)
-    c.args.model.now
-    _
-    c.items.result.now
-    c.items-2.result.now
-    c.items.ensures
-    c.items-2.ensures
-    (declared-is
-    c.in_ok-constants.constants
-    c.in_ok-constants.units
-    c.in_ok-messages.messages
-    c.args.model.now
-    c.in_ok-constants.ensures.constants
-    c.in_ok-constants.ensures.units
-    (c.in_ok-messages.ensures.messages ∙ ap (map message_entry) c.items.ensures))
-    c.in_ok-constants.ensures.none
-    c.in_ok-messages.ensures.none in
-    IfErr-weaker c.agents.result _ _ (λ fail. fails-same fail _ _ whole) c.agents.ensures.first
+    let path = text_of c.args.place.now in
+    let model = c.args.model.now in
+    let rest =
+    messages_faults (at_key path (codes "messages")) model.messages
+    ++ agents_faults (declared_by model) (at_key path (codes "agents")) model.agents in
+    let whole = ap (λ l. l ++ rest) c.in_ok-constants.ensures.none in
+    IfErr-weaker c.types.result _ _ (λ fail. fails-same fail _ _ (sym whole)) c.types.ensures.first

@@ -5,7 +5,7 @@ use Rattle.flame_spec.specs.KnownNames.{variable_names}
 use Rattle.flame_spec.specs.Paths.{at_number}
 use Rattle.flame_spec.specs.NameFaults.{memory_variable_faults, memory_faults}
 use Rattle.flame_names.specs.PlacePaths.{text_of}
-use Rattle.flame_names.proofs.agents.add_memories.Given as goal
+use Rattle.flame_names.proofs.agents.add_named.Given as goal
 
 abbrev pub invariant-loop-i : goal.invariant-loop-i
 invariant-loop-i l = record {

@@ -11,7 +11,7 @@ use Rattle.flame_names.specs.PlacePaths.{text_of}
 use Rattle.flame_names.specs.TableScopes.{declared_of}
 use Rattle.flame_names.proofs.Rests.{fails-member, none-member}
 use Rattle.flame_names.proofs.Sharing.{names_of_functions-push}
-use Rattle.flame_names.proofs.agents.agents.Goals as goal
+use Rattle.flame_names.proofs.agents.add_agents.Goals as goal
 
 pub returns-in_err-add_agent-clause-first : goal.returns-in_err-add_agent-clause-first
 returns-in_err-add_agent-clause-first c =

@@ -4,7 +4,7 @@ use Rattle.flame_spec.specs.Paths.{at_number}
 use Rattle.flame_spec.specs.NameFaults.{memory_variable_faults}
 use Rattle.flame_names.specs.PlacePaths.{text_of}
 use Rattle.flame_names.proofs.Rests.{fails-member}
-use Rattle.flame_names.proofs.agents.add_memories.Goals as goal
+use Rattle.flame_names.proofs.agents.add_named.Goals as goal
 
 pub returns-in_err-add_memory-clause-first : goal.returns-in_err-add_memory-clause-first
 returns-in_err-add_memory-clause-first c =

@@ -9,7 +9,7 @@ use Rattle.flame_name_sets.specs.NameTables.{look}
 use Rattle.flame_names.proofs.Rests.{fails-member}
 use Rattle.flame_names.proofs.MessageNames.{names_of-messages}
 use Rattle.flame_name_sets.proofs.Looks.{look-none}
-use Rattle.flame_names.proofs.messages.messages.Goals as goal
+use Rattle.flame_names.proofs.messages.add_messages.Goals as goal
 
 pub returns-in_err-variables-clause-first : goal.returns-in_err-variables-clause-first
 returns-in_err-variables-clause-first c =

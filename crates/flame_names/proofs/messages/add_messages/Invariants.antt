@@ -6,7 +6,7 @@ use Rattle.flame_spec.specs.Paths.{at_number}
 use Rattle.flame_spec.specs.MessageFaults.{message_faults, messages_faults}
 use Rattle.flame_names.specs.PlacePaths.{text_of}
 use Rattle.flame_names.specs.NameLooks.{message_entry}
-use Rattle.flame_names.proofs.messages.messages.Given as goal
+use Rattle.flame_names.proofs.messages.add_messages.Given as goal
 
 abbrev pub invariant-loop-i : goal.invariant-loop-i
 invariant-loop-i l = record {

@@ -5,7 +5,7 @@ use Rattle.flame_spec.specs.Paths.{at_number}
 use Rattle.flame_spec.specs.NameFaults.{type_names, names_of_functions, agent_faults, agents_faults}
 use Rattle.flame_names.specs.PlacePaths.{text_of}
 use Rattle.flame_names.specs.TableScopes.{declared_of}
-use Rattle.flame_names.proofs.agents.agents.Given as goal
+use Rattle.flame_names.proofs.agents.add_agents.Given as goal
 
 abbrev pub invariant-loop-i : goal.invariant-loop-i
 invariant-loop-i l = record {
