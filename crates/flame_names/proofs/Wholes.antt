@@ -1,15 +1,11 @@
--- The faults of a model, part by part.
-use Rattle.std.proofs.Common.{◌≡◌, ℕ, ℤ, List, [], ◌∷◌, ◌++◌, map, codes, cond, refl, sym, ap, ◌∙◌, Bool, true, false, Option, Some, unwrap_or}
+-- What the tables of a model declare.
+use Rattle.std.proofs.Common.{◌≡◌, ℕ, ℤ, List, [], ◌∷◌, map, cond, refl, ap, ◌∙◌, Bool, true, false, Option, Some, unwrap_or}
 use Rattle.std.specs.Str.{bytes_eq}
 use Rattle.flame_spec.specs.declared.models.Model.{Model}
-use Rattle.flame_spec.specs.declared.models.AgentType.{AgentType}
 use Rattle.flame_spec.specs.declared.models.MessageType.{MessageType}
 use Rattle.flame_spec.specs.declared.models.Variable.{Variable}
 use Rattle.flame_ops.specs.Ascii.{capitals}
 use Rattle.flame_spec.specs.KnownNames.{unit_names, variables_in, DeclaredNames, declared_by}
-use Rattle.flame_spec.specs.Paths.{at_key}
-use Rattle.flame_spec.specs.MessageFaults.{messages_faults}
-use Rattle.flame_spec.specs.NameFaults.{agents_faults}
 use Rattle.flame_names.specs.NameLooks.{message_entry}
 use Rattle.flame_name_sets.specs.NameTables.{look, names_of}
 use Rattle.flame_names.proofs.MessageNames.{names_of-messages}
@@ -49,19 +45,3 @@ declared-is constants units messages model c u m =
     let each : (name : List ℕ) → unwrap_or (look name messages) [] ≡ variables_in model.messages name =
     λ name. ap (λ table. unwrap_or (look name table) []) m ∙ variables_in-look name model.messages in
     λ i. record { constants = c i; units = u i; messages = names i; variables = λ name. each name i }
-
--- a model whose messages have no faults has behind its environment those of its agent types
-pub agents-are : (path : List ℕ) (model : Model) (declared : DeclaredNames) (messages : List MessageType)
-    (agents : List AgentType)
-    → messages ≡ model.messages
-    → agents ≡ model.agents
-    → declared ≡ declared_by model
-    → messages_faults (at_key path (codes "messages")) messages ≡ []
-    → agents_faults declared (at_key path (codes "agents")) agents
-    ≡ messages_faults (at_key path (codes "messages")) model.messages
-    ++ agents_faults (declared_by model) (at_key path (codes "agents")) model.agents
-agents-are path model declared messages agents m a d none =
-    let rest = agents_faults (declared_by model) (at_key path (codes "agents")) model.agents in
-    ap (λ known. agents_faults known (at_key path (codes "agents")) agents) d
-    ∙ ap (agents_faults (declared_by model) (at_key path (codes "agents"))) a
-    ∙ sym (ap (λ l. l ++ rest) (ap (messages_faults (at_key path (codes "messages"))) (sym m) ∙ none))

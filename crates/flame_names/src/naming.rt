@@ -6,6 +6,7 @@ ghost use Rattle.flame_spec.specs.KnownNames.{unit_names, declared_by};
 ghost use Rattle.flame_spec.specs.MessageFaults.{messages_faults};
 ghost use Rattle.flame_spec.specs.NameFaults.{agents_faults, environment_faults, model_faults, name_faults};
 ghost use Rattle.flame_spec.specs.Paths.{at_key};
+ghost use Rattle.flame_names.specs.NameLooks.{message_entry};
 ghost use Rattle.flame_names.specs.PlacePaths.{text_of};
 ghost use Rattle.flame_name_sets.specs.NameTables.{names_of};
 ghost use Rattle.flame_spec.specs.FirstFaults.{FailsFirst};
@@ -13,7 +14,7 @@ ghost use Rattle.flame_spec.specs.FirstFaults.{FailsFirst};
 use crate::agents::agents;
 use crate::functions::Tables;
 use crate::lengths::{Lengths, units};
-use crate::messages::{constants, messages};
+use crate::messages::{MessageTable, constants, messages};
 use crate::path::Place;
 use crate::table::Capitals;
 use flame_rows::Fail;
@@ -64,10 +65,35 @@ fn types(
         &Place::Key(place, "messages"),
         model.messages.items(),
     )?;
+    agent_types(alloc, place, constants, units, &messages, model)
+}
+
+/// The names of the agent types of the model at this place, which has these constants, in capitals, these time units
+/// and these messages.
+fn agent_types(
+    alloc: Global,
+    place: &Place<'_>,
+    constants: &Capitals,
+    units: &Lengths<'_>,
+    messages: &MessageTable<'_>,
+    model: &Model,
+) -> Result<(), Fail<NameFault>>
+    requires constants { constants.now ≡ map capitals model.now.constants }
+    requires units { names_of units.now ≡ unit_names model.now.units }
+    requires messages { messages.now ≡ map message_entry model.now.messages }
+    ensures none { OnOk result (agents_faults
+        (declared_by model.now)
+        (at_key (text_of place.now) (codes "agents"))
+        model.now.agents ≡ []) }
+    ensures first { IfErr result (FailsFirst (agents_faults
+        (declared_by model.now)
+        (at_key (text_of place.now) (codes "agents"))
+        model.now.agents)) }
+{
     let tables = Tables {
         constants,
         units,
-        messages: &messages,
+        messages,
     };
     agents(
         alloc,
