@@ -1,5 +1,5 @@
 -- What is legal stays so until it comes.
-use Rattle.std.proofs.Common.{◌≡◌, ℕ, zero, suc, ⊎_elim, Bool, true, false, List, [], ◌∷◌, Option, Some, None, refl, sym, ap, ◌∙◌, subst, get_or-set_same}
+use Rattle.std.proofs.Common.{◌≡◌, ℕ, zero, suc, ⊎_elim, Bool, true, false, List, [], ◌∷◌, ◌++◌, Option, Some, None, refl, sym, ap, ◌∙◌, subst, get_or-set_same}
 use Rattle.std.specs.Prelude.{◌&&◌, nat_lt, not, is_some, is_none, slice_get, slice_set, slice_index_or, length}
 use Rattle.std.specs.List.{list_all}
 use Rattle.std.proofs.lemmas.Bool.{and_parts, and_from, cases_eq, true≢false, false≢true, not-true}
@@ -9,17 +9,19 @@ use Rattle.flame_meaning.proofs.Eachs.{each_at}
 use Rattle.flame_world.specs.Iterations.{Round}
 use Rattle.flame_events.specs.declared.events.Event.{Event}
 use Rattle.flame_events.specs.declared.events.Event.TheVariants as event
-use Rattle.flame_events.specs.CoreStates.{Work, Waiting, Open, is_waiting, is_shut, works_of, has_left, part_in, Core, status_of, work_of, is_frozen}
+use Rattle.flame_events.specs.CoreLaws.{EventsLeadTo}
+use Rattle.flame_events.specs.CoreStates.{Work, Waiting, Open, is_waiting, is_shut, works_of, has_left, part_in, Core, status_of, work_of, is_frozen, opening_core}
 use Rattle.flame_events.specs.LegalEvents.{predecessors, inputs_of, outputs_of, writers, are_shut, may_open, may_run, may_hand_in, may_shut, may_freeze, is_over, is_legal}
-use Rattle.flame_events.specs.EventSteps.{joined_board, handed_in, after}
+use Rattle.flame_events.specs.EventSteps.{joined_board, handed_in, after, are_legal}
 use Rattle.flame_events.proofs.Weights.{Rows}
 use Rattle.flame_events.proofs.Works.{all_of_list, kept_is_output, without, part_in-without-else}
 use Rattle.flame_events.proofs.Sound.{both_wait, can_open, opens_with}
 use Rattle.flame_events.proofs.Legality.{may_shut_is, each_also}
 use Rattle.flame_events.proofs.CoreWidths.{status_below}
 use Rattle.flame_events.proofs.Absorbing.{get_set}
+use Rattle.flame_events.proofs.Growing.{histories_grow}
 use Rattle.flame_events.proofs.KeptCores.{KeptWork, KeptCore, kept_core}
-use Rattle.flame_orders.specs.LastingLegality.{LegalityLasts}
+use Rattle.flame_orders.specs.LastingLegality.{LegalityLasts, LegalityLastsLong}
 use Rattle.flame_orders.specs.UntouchedParts.{function_of, piece_of, frozen_by}
 use Rattle.flame_orders.proofs.Untouched.{other_functions_stay, other_pieces_stay, other_marks_stay}
 
@@ -332,3 +334,21 @@ still_legal round pieces core e (event.Freeze m) kept legal may apart = freeze_l
 
 pub legality_lasts : LegalityLasts
 legality_lasts round pieces core e x led legal may apart = still_legal round pieces core e x (kept_core round pieces core led) legal may apart
+
+-- ---- many events
+
+pub led_on : (round : Round) (pieces : ℕ) (core : Core) (e : Event) → EventsLeadTo round pieces core → is_legal round.source.model core e ≡ true
+    → EventsLeadTo round pieces (after round pieces core e)
+led_on round pieces core e led legal = record {
+  agents = led.agents;
+  events = led.events ++ e ∷ [];
+  leads = histories_grow round pieces (opening_core round.source.model led.agents) core (after round pieces core e) led.events (e ∷ []) led.leads
+      (record { legal = and_from (is_legal round.source.model core e) true legal refl; left = refl });
+}
+
+pub legality_lasts_long : LegalityLastsLong
+legality_lasts_long round pieces core [] x led legal may apart = may
+legality_lasts_long round pieces core (e ∷ events) x led legal may apart =
+    let next = after round pieces core e in
+    let both = and_parts (is_legal round.source.model core e) (are_legal round pieces next events) legal in
+    legality_lasts_long round pieces next events x (led_on round pieces core e led both.0) both.1 (legality_lasts round pieces core e x led both.0 may apart.0) apart.1

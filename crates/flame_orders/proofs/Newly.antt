@@ -1,5 +1,5 @@
 -- What an event newly allows.
-use Rattle.std.proofs.Common.{◌≡◌, ℕ, zero, suc, ◌<◌, ◌⊎◌, inl, inr, ⊎_elim, Bool, true, false, List, [], ◌∷◌, ◌++◌, length, map, Option, Some, None, refl, sym, ap, ◌∙◌, arith, subst, get_or-set_same}
+use Rattle.std.proofs.Common.{◌≡◌, ℕ, zero, suc, ◌<◌, ◌⊎◌, inl, inr, ⊎_elim, Bool, true, false, List, [], ◌∷◌, length, map, Option, Some, None, refl, sym, ap, ◌∙◌, arith, subst, get_or-set_same}
 use Rattle.std.specs.Prelude.{◌==◌, ◌&&◌, nat_lt, not, is_some, is_none, slice_get, slice_set, slice_index_or}
 use Rattle.std.specs.List.{list_all, position_or_len}
 use Rattle.std.proofs.lemmas.Bool.{and_parts, and_from, cases_eq, cases_Bool, ltb-true, lt-ltb, true≢false, false≢true}
@@ -18,8 +18,7 @@ use Rattle.flame_world.specs.declared.faults.SimFault.{SimFault}
 use Rattle.flame_world.specs.Iterations.{Round, taking, outcome_in}
 use Rattle.flame_events.specs.declared.events.Event.{Event}
 use Rattle.flame_events.specs.declared.events.Event.TheVariants as event
-use Rattle.flame_events.specs.CoreStates.{Work, Waiting, Open, is_waiting, is_shut, works_of, has_left, part_in, fault_in, Core, status_of, work_of, is_frozen, opening_core}
-use Rattle.flame_events.specs.CoreLaws.{EventsLeadTo}
+use Rattle.flame_events.specs.CoreStates.{Work, Waiting, Open, is_waiting, is_shut, works_of, has_left, part_in, fault_in, Core, status_of, work_of, is_frozen}
 use Rattle.flame_events.specs.LegalEvents.{predecessors, inputs_of, outputs_of, writers, are_shut, may_open, may_run, may_hand_in, may_shut, may_freeze, is_over, is_legal}
 use Rattle.flame_events.specs.EventSteps.{fresh_work, opened, with_agent, ran_agent, ran_next, joined_board, handed_in, done_with, after}
 use Rattle.flame_events.proofs.EvenCuts.{cuts_are_even}
@@ -31,12 +30,11 @@ use Rattle.flame_events.proofs.Sound.{can_open}
 use Rattle.flame_events.proofs.Legality.{may_shut_is}
 use Rattle.flame_events.proofs.CoreWidths.{status_below}
 use Rattle.flame_events.proofs.Absorbing.{get_set}
-use Rattle.flame_events.proofs.Growing.{histories_grow}
 use Rattle.flame_events.proofs.KeptCores.{KeptWork, KeptCore, kept_core, open_there}
 use Rattle.flame_orders.specs.NewlyLegal.{Allows, NewlyLegalIsAllowed}
 use Rattle.flame_orders.specs.UntouchedParts.{function_of, frozen_by}
 use Rattle.flame_orders.proofs.Untouched.{other_functions_stay, other_pieces_stay, other_marks_stay}
-use Rattle.flame_orders.proofs.Lasting.{runs, Hands, hands, over_at, none_left}
+use Rattle.flame_orders.proofs.Lasting.{led_on, runs, Hands, hands, over_at, none_left}
 
 -- ---- lists
 
@@ -163,15 +161,6 @@ handed_is round pieces core f k m legal = go (part_in outs found.work.parts m) r
           (ap (λ o. status_of (handed_in f k m (outputs_of round.source.model f) o core) f) found.there
           ∙ ap (λ o. status_of (joined_board f k m (outputs_of round.source.model f) found.work o core) f) is);
     }
-
-pub led_on : (round : Round) (pieces : ℕ) (core : Core) (e : Event) → EventsLeadTo round pieces core → is_legal round.source.model core e ≡ true
-    → EventsLeadTo round pieces (after round pieces core e)
-led_on round pieces core e led legal = record {
-  agents = led.agents;
-  events = led.events ++ e ∷ [];
-  leads = histories_grow round pieces (opening_core round.source.model led.agents) core (after round pieces core e) led.events (e ∷ []) led.leads
-      (record { legal = and_from (is_legal round.source.model core e) true legal refl; left = refl });
-}
 
 done_waits : (o : Option SimFault) → is_waiting (done_with o) ≡ false
 done_waits None = refl

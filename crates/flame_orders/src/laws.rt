@@ -1,13 +1,17 @@
 //! Laws of orders of events. Each function is its contract: it computes nothing.
 
-ghost use Rattle.flame_orders.specs.LastingLegality.{LegalityLasts};
+ghost use Rattle.flame_orders.specs.LastingLegality.{LegalityLasts, LegalityLastsLong};
 ghost use Rattle.flame_orders.specs.NewlyLegal.{NewlyLegalIsAllowed};
+ghost use Rattle.flame_orders.specs.WholeFunctions.{WholeFunctionsRun, OpenedPiecesAreTakers, OpenedFunctionsMove};
 ghost use Rattle.flame_orders.specs.UntouchedParts.{OtherFunctionsStay, OtherPiecesStay, OtherMarksStay};
 
+use flame_spec_laws::names_differ;
+
 /// In a core to which events led, each legal when it came, from one with which an iteration begins: what is legal still is
-/// after any other legal event.
+/// after any other legal event, and while others come, each legal when it comes.
 pub fn legality_lasts()
-    ensures { LegalityLasts }
+    ensures one { LegalityLasts }
+    ensures many { LegalityLastsLong }
 {}
 
 /// In a core to which events led, each legal when it came, from one with which an iteration begins: what is legal after a
@@ -15,6 +19,19 @@ pub fn legality_lasts()
 pub fn newly_legal()
     ensures { NewlyLegalIsAllowed }
 {}
+
+/// Where events of an accepted source led to a core, and a function is open of which no agent ran: its agents may run, then
+/// hand in all their messages, and then it may be shut, each event legal when it comes. It is done with the least fault
+/// of its agents, and the field has what these leave together. Of a function that was opened just now no agent ran, and
+/// its agents are its takers; so where it is opened and runs at once, the field is what the serial step makes of it
+/// where nobody faults.
+pub fn whole_functions()
+    ensures fresh { WholeFunctionsRun }
+    ensures takers { OpenedPiecesAreTakers }
+    ensures opened { OpenedFunctionsMove }
+{
+    names_differ();
+}
 
 /// What an event leaves as it was: each function but its own, with its pieces; where it is one of a piece, each piece of
 /// another number; and each mark but that of the board that it freezes.

@@ -1,5 +1,8 @@
-use Rattle.flame_orders.proofs.Lasting.{legality_lasts}
+use Rattle.flame_orders.proofs.Lasting.{legality_lasts, legality_lasts_long}
 use Rattle.flame_orders.proofs.laws.legality_lasts.Goals as goal
 
-pub returns : goal.returns
-returns c = legality_lasts
+pub returns-clause-one : goal.returns-clause-one
+returns-clause-one c = legality_lasts
+
+pub returns-clause-many : goal.returns-clause-many
+returns-clause-many c = legality_lasts_long
