@@ -35,7 +35,7 @@ use Rattle.flame_events.proofs.Absorbing.{agents_run_at_once}
 use Rattle.flame_events.proofs.Growing.{histories_grow}
 use Rattle.flame_events.proofs.HandedTogether.{parts_are_handed_in_at_once}
 use Rattle.flame_events.proofs.KeptCores.{KeptWork, kept_core, open_there}
-use Rattle.flame_orders.specs.WholeFunctions.{all_agent_events, all_hand_in_events, function_events, agents_in, left_by, done_by, WholeFunctionsRun, OpenedPiecesAreTakers, OpenedFunctionsMove}
+use Rattle.flame_orders.specs.WholeFunctions.{all_agent_events, all_hand_in_events, function_events, agents_in_pieces, left_by, done_by, WholeFunctionsRun, OpenedPiecesAreTakers, OpenedFunctionsMove}
 use Rattle.flame_orders.proofs.Gatherings.{came, came_twice, nobody_came, joined_more, fresh_parts, length-fresh_parts, all_sent, parts_join, get_behind, set_behind, set_read}
 use Rattle.flame_orders.proofs.Lasting.{led_on}
 use Rattle.flame_orders.proofs.OnceOutputs.{outputs_once}
@@ -93,24 +93,24 @@ module _ (round : Round) (pieces f : ℕ) (place : Place) (there : slice_get (fu
       record { legal = all.0; left = sym (all.1 ∙ is) }
 
   all_ran : (before works : List Work) (rows : Rows) → Each (IsReady outs) works
-      → Leads round pieces (stage (before ++ works) (with_rows rows)) (all_agent_events f (length before) works) (stage (before ++ map ran works) (with_rows (rows ++ agents_in works)))
+      → Leads round pieces (stage (before ++ works) (with_rows rows)) (all_agent_events f (length before) works) (stage (before ++ map ran works) (with_rows (rows ++ agents_in_pieces works)))
   all_ran before [] rows ready = record { legal = refl; left = ap (λ l. stage (before ++ []) (with_rows l)) (append-nil rows) }
   all_ran before (work ∷ works) rows ready =
       let more = all_ran (before ++ ran work ∷ []) works (rows ++ work.agents) ready.1 in
       let from : (before ++ ran work ∷ []) ++ works ≡ before ++ ran work ∷ works = append_assoc before (ran work ∷ []) works in
       let to : (before ++ ran work ∷ []) ++ map ran works ≡ before ++ ran work ∷ map ran works = append_assoc before (ran work ∷ []) (map ran works) in
       let number : length (before ++ ran work ∷ []) ≡ length before + 1 = length_push before (ran work) in
-      let whole : (rows ++ work.agents) ++ agents_in works ≡ rows ++ (work.agents ++ agents_in works) = append_assoc rows work.agents (agents_in works) in
+      let whole : (rows ++ work.agents) ++ agents_in_pieces works ≡ rows ++ (work.agents ++ agents_in_pieces works) = append_assoc rows work.agents (agents_in_pieces works) in
       let rest : Leads round pieces (stage (before ++ ran work ∷ works) (with_rows (rows ++ work.agents))) (all_agent_events f (length before + 1) works)
-      (stage (before ++ ran work ∷ map ran works) (with_rows (rows ++ agents_in (work ∷ works)))) =
+      (stage (before ++ ran work ∷ map ran works) (with_rows (rows ++ agents_in_pieces (work ∷ works)))) =
       subst (λ l. Leads round pieces (stage l (with_rows (rows ++ work.agents))) (all_agent_events f (length before + 1) works)
-      (stage (before ++ ran work ∷ map ran works) (with_rows (rows ++ agents_in (work ∷ works))))) from
+      (stage (before ++ ran work ∷ map ran works) (with_rows (rows ++ agents_in_pieces (work ∷ works))))) from
       (subst (λ n. Leads round pieces (stage ((before ++ ran work ∷ []) ++ works) (with_rows (rows ++ work.agents))) (all_agent_events f n works)
-      (stage (before ++ ran work ∷ map ran works) (with_rows (rows ++ agents_in (work ∷ works))))) number
+      (stage (before ++ ran work ∷ map ran works) (with_rows (rows ++ agents_in_pieces (work ∷ works))))) number
       (subst (λ c. Leads round pieces (stage ((before ++ ran work ∷ []) ++ works) (with_rows (rows ++ work.agents))) (all_agent_events f (length (before ++ ran work ∷ [])) works) c)
       (λ i. stage (to i) (with_rows (whole i))) more)) in
       histories_grow round pieces (stage (before ++ work ∷ works) (with_rows rows)) (stage (before ++ ran work ∷ works) (with_rows (rows ++ work.agents)))
-      (stage (before ++ ran work ∷ map ran works) (with_rows (rows ++ agents_in (work ∷ works))))
+      (stage (before ++ ran work ∷ map ran works) (with_rows (rows ++ agents_in_pieces (work ∷ works))))
       (agent_events f (length before) work) (all_agent_events f (length before + 1) works)
       (one_ran before work works rows ready.0) rest
 
@@ -156,24 +156,24 @@ module _ (round : Round) (pieces f : ℕ) (place : Place) (there : slice_get (fu
 
     all_handed : (before works : List Work) (rows : Rows) → Each (IsReady outs) works
         → Leads round pieces (stage (before ++ map ran works) (with_sent_of all rows)) (all_hand_in_events outs f (length before) works)
-        (stage (before ++ map over works) (with_sent_of all (rows ++ agents_in works)))
+        (stage (before ++ map over works) (with_sent_of all (rows ++ agents_in_pieces works)))
     all_handed before [] rows ready = record { legal = refl; left = ap (λ l. stage (before ++ []) (with_sent_of all l)) (append-nil rows) }
     all_handed before (work ∷ works) rows ready =
         let more = all_handed (before ++ over work ∷ []) works (rows ++ work.agents) ready.1 in
         let from : (before ++ over work ∷ []) ++ map ran works ≡ before ++ over work ∷ map ran works = append_assoc before (over work ∷ []) (map ran works) in
         let to : (before ++ over work ∷ []) ++ map over works ≡ before ++ over work ∷ map over works = append_assoc before (over work ∷ []) (map over works) in
         let number : length (before ++ over work ∷ []) ≡ length before + 1 = length_push before (over work) in
-        let whole : (rows ++ work.agents) ++ agents_in works ≡ rows ++ (work.agents ++ agents_in works) = append_assoc rows work.agents (agents_in works) in
+        let whole : (rows ++ work.agents) ++ agents_in_pieces works ≡ rows ++ (work.agents ++ agents_in_pieces works) = append_assoc rows work.agents (agents_in_pieces works) in
         let rest : Leads round pieces (stage (before ++ over work ∷ map ran works) (with_sent_of all (rows ++ work.agents))) (all_hand_in_events outs f (length before + 1) works)
-        (stage (before ++ over work ∷ map over works) (with_sent_of all (rows ++ agents_in (work ∷ works)))) =
+        (stage (before ++ over work ∷ map over works) (with_sent_of all (rows ++ agents_in_pieces (work ∷ works)))) =
         subst (λ l. Leads round pieces (stage l (with_sent_of all (rows ++ work.agents))) (all_hand_in_events outs f (length before + 1) works)
-        (stage (before ++ over work ∷ map over works) (with_sent_of all (rows ++ agents_in (work ∷ works))))) from
+        (stage (before ++ over work ∷ map over works) (with_sent_of all (rows ++ agents_in_pieces (work ∷ works))))) from
         (subst (λ n. Leads round pieces (stage ((before ++ over work ∷ []) ++ map ran works) (with_sent_of all (rows ++ work.agents))) (all_hand_in_events outs f n works)
-        (stage (before ++ over work ∷ map over works) (with_sent_of all (rows ++ agents_in (work ∷ works))))) number
+        (stage (before ++ over work ∷ map over works) (with_sent_of all (rows ++ agents_in_pieces (work ∷ works))))) number
         (subst (λ c. Leads round pieces (stage ((before ++ over work ∷ []) ++ map ran works) (with_sent_of all (rows ++ work.agents))) (all_hand_in_events outs f (length (before ++ over work ∷ [])) works) c)
         (λ i. stage (to i) (with_sent_of all (whole i))) more)) in
         histories_grow round pieces (stage (before ++ ran work ∷ map ran works) (with_sent_of all rows)) (stage (before ++ over work ∷ map ran works) (with_sent_of all (rows ++ work.agents)))
-        (stage (before ++ over work ∷ map over works) (with_sent_of all (rows ++ agents_in (work ∷ works))))
+        (stage (before ++ over work ∷ map over works) (with_sent_of all (rows ++ agents_in_pieces (work ∷ works))))
         (hand_in_events outs f (length before)) (all_hand_in_events outs f (length before + 1) works)
         (one_handed before work (map ran works) rows ready.0) rest
 
@@ -193,7 +193,7 @@ module _ (round : Round) (pieces f : ℕ) (place : Place) (there : slice_get (fu
   all_over [] = refl
   all_over (work ∷ works) = and_from (is_over outs (over work)) (list_all (is_over outs) (map over works)) (is_over_now work) (all_over works)
 
-  faults : (works : List Work) → Each (IsReady outs) works → fault_in (map over works) ≡ least_fault round.iteration f run (agents_in works)
+  faults : (works : List Work) → Each (IsReady outs) works → fault_in (map over works) ≡ least_fault round.iteration f run (agents_in_pieces works)
   faults [] ready = refl
   faults (work ∷ works) ready =
       let t : Ideal = record { agents = λ g. []; run = λ g. run } in
@@ -201,16 +201,16 @@ module _ (round : Round) (pieces f : ℕ) (place : Place) (there : slice_get (fu
       let rest = faults works ready.1 in
       first-cons_option (over work).fault (filter_map (λ (w : Work). w.fault) (map over works))
       ∙ (λ i. option_or (here i) (rest i))
-      ∙ sym (least_fault-append round t f work.agents (agents_in works))
+      ∙ sym (least_fault-append round t f work.agents (agents_in_pieces works))
 
   shut_off : (works : List Work) (field : Field) → Each (IsReady outs) works
       → Leads round pieces (stage (map over works) field) (event.Shut f ∷ [])
-      (record { statuses = slice_set core.statuses f (done_with (least_fault round.iteration f run (agents_in works))); field = field; frozen = core.frozen })
+      (record { statuses = slice_set core.statuses f (done_with (least_fault round.iteration f run (agents_in_pieces works))); field = field; frozen = core.frozen })
   shut_off works field ready =
       let last = map over works in
       let now = stage last field in
       let is : status_of now f ≡ Open last = get_or-set_same core.statuses f (Open last) Waiting less in
-      let statuses : slice_set (slice_set core.statuses f (Open last)) f (done_with (fault_in (works_of (status_of now f)))) ≡ slice_set core.statuses f (done_with (least_fault round.iteration f run (agents_in works))) =
+      let statuses : slice_set (slice_set core.statuses f (Open last)) f (done_with (fault_in (works_of (status_of now f)))) ≡ slice_set core.statuses f (done_with (least_fault round.iteration f run (agents_in_pieces works))) =
       set-set core.statuses f (Open last) (done_with (fault_in (works_of (status_of now f))))
       ∙ ap (λ s. slice_set core.statuses f (done_with (fault_in (works_of s)))) is
       ∙ ap (λ o. slice_set core.statuses f (done_with o)) (faults works ready) in
@@ -223,9 +223,9 @@ module _ (round : Round) (pieces f : ℕ) (place : Place) (there : slice_get (fu
 
   pub whole_run : (works : List Work) → HasNoTwice outs → ((rows : Rows) (m : ℕ) → is_in m outs ≡ false → messages_of (sent_from run rows) m ≡ [])
       → IsSorted core.field → status_of core f ≡ Open works → Each (IsReady outs) works
-      → Leads round pieces core (function_events round.source.model f works) (done_by round f (agents_in works) (left_by round f place (agents_in works) core.field) core)
+      → Leads round pieces core (function_events round.source.model f works) (done_by round f (agents_in_pieces works) (left_by round f place (agents_in_pieces works) core.field) core)
   whole_run works once none sorted is ready =
-      let agents = agents_in works in
+      let agents = agents_in_pieces works in
       let start : core ≡ stage works (with_rows []) =
       let statuses = set_read core.statuses f (Open works) Waiting less is in
       let field = nobody_came place run core.field sorted in
@@ -278,7 +278,7 @@ opened_pieces_are_takers round pieces f place core led some there legal =
     let same : works_of (status_of (after round pieces core (event.Open f)) f) ≡ map (fresh_work outs) (cut pieces takers) = ap works_of is in (
       is ∙ ap Open (sym same),
       subst (Each (λ (work : Work). work.ran ≡ 0)) (sym same) (mapped (λ (work : Work). work.ran ≡ 0) (fresh_work outs) (λ bag. refl) (cut pieces takers)),
-      ap agents_in same ∙ cut_whole outs pieces takers some,
+      ap agents_in_pieces same ∙ cut_whole outs pieces takers some,
     )
 
 pub opened_functions_move : MessagesDiffer → OpenedFunctionsMove
@@ -295,8 +295,8 @@ opened_functions_move differ round pieces f place core accepted led some there l
     (mapped (λ (work : Work). work.ran ≡ 0) (fresh_work outs) (λ bag. refl) (cut pieces takers)) in
     let statuses : (o : Option SimFault) → slice_set (slice_set core.statuses f (Open works)) f (done_with o) ≡ slice_set core.statuses f (done_with o) =
     λ o. set-set core.statuses f (Open works) (done_with o) in
-    let ends : done_by round f (agents_in works) (left_by round f place (agents_in works) begun.field) begun ≡ done_by round f takers (moved round f place core.field) core =
-    ap (λ (c : Core). done_by round f (agents_in works) (left_by round f place (agents_in works) c.field) c) step
+    let ends : done_by round f (agents_in_pieces works) (left_by round f place (agents_in_pieces works) begun.field) begun ≡ done_by round f takers (moved round f place core.field) core =
+    ap (λ (c : Core). done_by round f (agents_in_pieces works) (left_by round f place (agents_in_pieces works) c.field) c) step
     ∙ ap (λ rows. done_by round f rows (left_by round f place rows left.field) left) (cut_whole outs pieces takers some)
     ∙ (λ i. record { statuses = statuses (least_fault round.iteration f (outcome_in round f core.field) takers) i; field = moved round f place core.field; frozen = core.frozen }) in
     let events : function_events model f works ≡ function_events model f (works_of (status_of begun f)) = ap (λ s. function_events model f (works_of s)) (sym is) in

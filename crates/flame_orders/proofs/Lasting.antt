@@ -22,7 +22,7 @@ use Rattle.flame_events.proofs.Absorbing.{get_set}
 use Rattle.flame_events.proofs.Growing.{histories_grow}
 use Rattle.flame_events.proofs.KeptCores.{KeptWork, KeptCore, kept_core}
 use Rattle.flame_orders.specs.LastingLegality.{LegalityLasts, LegalityLastsLong}
-use Rattle.flame_orders.specs.UntouchedParts.{function_of, piece_of, frozen_by}
+use Rattle.flame_orders.specs.UntouchedParts.{its_function, its_piece, frozen_by}
 use Rattle.flame_orders.proofs.Untouched.{other_functions_stay, other_pieces_stay, other_marks_stay}
 
 -- ---- what a legal event finds
@@ -58,7 +58,7 @@ hands outs core f k m legal = go (work_of core f k) refl legal
         record { work = work; there = is; over = not-true (has_left work) both.0; part = both.1 }
 
 -- an event of a function finds it open, but where it opens it
-pub finds_open : (model : Model) (core : Core) (e : Event) (f : ℕ) → is_legal model core e ≡ true → function_of e ≡ Some f → (e ≡ event.Open f → ⊥) → IsOpen core f
+pub finds_open : (model : Model) (core : Core) (e : Event) (f : ℕ) → is_legal model core e ≡ true → its_function e ≡ Some f → (e ≡ event.Open f → ⊥) → IsOpen core f
 finds_open model core (event.Open g) f legal is else = let same : g ≡ f = cc in absurd (else (ap event.Open same))
 finds_open model core (event.Agent g k) f legal is else =
     let same : g ≡ f = cc in
@@ -73,7 +73,7 @@ finds_open model core (event.Shut g) f legal is else =
 finds_open model core (event.Freeze m) f legal is else = absurd cc
 
 -- an event of a function finds it not shut
-finds_unshut : (model : Model) (core : Core) (e : Event) (f : ℕ) → is_legal model core e ≡ true → function_of e ≡ Some f → is_shut (status_of core f) ≡ true → ⊥
+finds_unshut : (model : Model) (core : Core) (e : Event) (f : ℕ) → is_legal model core e ≡ true → its_function e ≡ Some f → is_shut (status_of core f) ≡ true → ⊥
 finds_unshut model core (event.Open g) f legal is shut =
     let same : g ≡ f = cc in both_wait (status_of core g) (can_open model core g legal).waits (ap (λ h. is_shut (status_of core h)) same ∙ shut)
 finds_unshut model core (event.Agent g k) f legal is shut =
@@ -131,7 +131,7 @@ open_lasts round pieces core e g legal may apart =
 -- ---- a piece that an event does not change
 
 piece_lasts : (round : Round) (pieces : ℕ) (core : Core) (e : Event) (g j : ℕ) (work : Work) → is_legal round.source.model core e ≡ true
-    → work_of core g j ≡ Some work → (function_of e ≡ Some g → piece_of e ≡ Some j → ⊥) → (e ≡ event.Shut g → ⊥)
+    → work_of core g j ≡ Some work → (its_function e ≡ Some g → its_piece e ≡ Some j → ⊥) → (e ≡ event.Shut g → ⊥)
     → work_of (after round pieces core e) g j ≡ work_of core g j
 piece_lasts round pieces core (event.Open f) g j work legal at apart shut =
     ap (λ s. slice_get (works_of s) j) (other_functions_stay round pieces g (event.Open f) core
@@ -175,7 +175,7 @@ no_part_left outs work m long over some = go (part_in outs work.parts m) refl so
 -- ---- an agent may still run
 
 agent_apart : (model : Model) (core : Core) (e : Event) (g j : ℕ) (work : Work) → is_legal model core e ≡ true → work_of core g j ≡ Some work → has_left work ≡ true
-    → (event.Agent g j ≡ e → ⊥) → function_of e ≡ Some g → piece_of e ≡ Some j → ⊥
+    → (event.Agent g j ≡ e → ⊥) → its_function e ≡ Some g → its_piece e ≡ Some j → ⊥
 agent_apart model core (event.Open f) g j work legal at left apart one other = cc
 agent_apart model core (event.Agent f k) g j work legal at left apart one other =
     let f_is : f ≡ g = cc in let k_is : k ≡ j = cc in apart (λ i. event.Agent (sym f_is i) (sym k_is i))
@@ -239,7 +239,7 @@ module _ (round : Round) (pieces : ℕ) (core : Core) (g j m : ℕ) (kept : Kept
   long : length found.work.parts ≡ length outs
   long = (each_at (KeptWork outs) (works_of (status_of core g)) j found.work (kept.works g).each found.there).long
 
-  still : (e : Event) → is_legal round.source.model core e ≡ true → (function_of e ≡ Some g → piece_of e ≡ Some j → ⊥) → (e ≡ event.Shut g → ⊥) → MayStill e
+  still : (e : Event) → is_legal round.source.model core e ≡ true → (its_function e ≡ Some g → its_piece e ≡ Some j → ⊥) → (e ≡ event.Shut g → ⊥) → MayStill e
   still e legal apart shut = ap (λ o. may_hand_in outs o m) (piece_lasts round pieces core e g j found.work legal found.there apart shut) ∙ may
 
   twice : (f k n : ℕ) → g ≡ f → j ≡ k → is_legal round.source.model core (event.HandIn f k n) ≡ true → (event.HandIn g j m ≡ event.HandIn f k n → ⊥)
@@ -280,7 +280,7 @@ module _ (round : Round) (pieces : ℕ) (core : Core) (g j m : ℕ) (kept : Kept
 -- ---- a function may still be shut
 
 shut_apart : (round : Round) (pieces : ℕ) (core : Core) (e : Event) (g : ℕ) → KeptCore round.source.model pieces core → is_legal round.source.model core e ≡ true
-    → may_shut (outputs_of round.source.model g) (status_of core g) ≡ true → (event.Shut g ≡ e → ⊥) → function_of e ≡ Some g → ⊥
+    → may_shut (outputs_of round.source.model g) (status_of core g) ≡ true → (event.Shut g ≡ e → ⊥) → its_function e ≡ Some g → ⊥
 shut_apart round pieces core (event.Open f) g kept legal may apart is =
     let same : f ≡ g = cc in
     true≢false (sym (can_open round.source.model core f legal).waits ∙ ap (λ h. is_waiting (status_of core h)) same

@@ -32,7 +32,7 @@ use Rattle.flame_events.proofs.CoreWidths.{status_below}
 use Rattle.flame_events.proofs.Absorbing.{get_set}
 use Rattle.flame_events.proofs.KeptCores.{KeptWork, KeptCore, kept_core, open_there}
 use Rattle.flame_orders.specs.NewlyLegal.{Allows, NewlyLegalIsAllowed}
-use Rattle.flame_orders.specs.UntouchedParts.{function_of, frozen_by}
+use Rattle.flame_orders.specs.UntouchedParts.{its_function, frozen_by}
 use Rattle.flame_orders.proofs.Untouched.{other_functions_stay, other_pieces_stay, other_marks_stay}
 use Rattle.flame_orders.proofs.Lasting.{led_on, runs, Hands, hands, over_at, none_left}
 
@@ -190,7 +190,7 @@ module _ (round : Round) (pieces : ℕ) (core : Core) (kept : KeptCore round.sou
   next e = after round pieces core e
 
   -- after an event of its own a function does not wait
-  own_begun : (e : Event) (f : ℕ) → is_legal model core e ≡ true → function_of e ≡ Some f → is_waiting (status_of (next e) f) ≡ true → ⊥
+  own_begun : (e : Event) (f : ℕ) → is_legal model core e ≡ true → its_function e ≡ Some f → is_waiting (status_of (next e) f) ≡ true → ⊥
   own_begun (event.Open g) f legal is waits =
       let same : g ≡ f = cc in
       false≢true (sym (ap is_waiting (opened_is round pieces core g kept legal).is) ∙ subst (λ h. is_waiting (status_of (next (event.Open g)) h) ≡ true) (sym same) waits)
@@ -207,7 +207,7 @@ module _ (round : Round) (pieces : ℕ) (core : Core) (kept : KeptCore round.sou
   own_begun (event.Freeze m) f legal is waits = cc
 
   -- nor is it shut, unless that shuts it
-  own_unshut : (e : Event) (f : ℕ) → is_legal model core e ≡ true → function_of e ≡ Some f → (e ≡ event.Shut f → ⊥) → is_shut (status_of (next e) f) ≡ true → ⊥
+  own_unshut : (e : Event) (f : ℕ) → is_legal model core e ≡ true → its_function e ≡ Some f → (e ≡ event.Shut f → ⊥) → is_shut (status_of (next e) f) ≡ true → ⊥
   own_unshut (event.Open g) f legal is apart shut =
       let same : g ≡ f = cc in
       false≢true (sym (ap is_shut (opened_is round pieces core g kept legal).is) ∙ subst (λ h. is_shut (status_of (next (event.Open g)) h) ≡ true) (sym same) shut)
@@ -220,8 +220,8 @@ module _ (round : Round) (pieces : ℕ) (core : Core) (kept : KeptCore round.sou
   own_unshut (event.Shut g) f legal is apart shut = let same : g ≡ f = cc in apart (ap event.Shut same)
   own_unshut (event.Freeze m) f legal is apart shut = cc
 
-  owner : (e : Event) (h : ℕ) → (function_of e ≡ Some h) ⊎ (function_of e ≡ Some h → ⊥)
-  owner e h = go (function_of e)
+  owner : (e : Event) (h : ℕ) → (its_function e ≡ Some h) ⊎ (its_function e ≡ Some h → ⊥)
+  owner e h = go (its_function e)
     where
       go : (o : Option ℕ) → (o ≡ Some h) ⊎ (o ≡ Some h → ⊥)
       go None = inr (λ is. cc)
@@ -229,8 +229,8 @@ module _ (round : Round) (pieces : ℕ) (core : Core) (kept : KeptCore round.sou
 
   shut_before : (e : Event) (h : ℕ) → is_legal model core e ≡ true → (e ≡ event.Shut h → ⊥) → is_shut (status_of (next e) h) ≡ true → is_shut (status_of core h) ≡ true
   shut_before e h legal apart shut = ⊎_elim
-      (λ (own : function_of e ≡ Some h). absurd (own_unshut e h legal own apart shut))
-      (λ (else : function_of e ≡ Some h → ⊥). sym (ap is_shut (other_functions_stay round pieces h e core else)) ∙ shut)
+      (λ (own : its_function e ≡ Some h). absurd (own_unshut e h legal own apart shut))
+      (λ (else : its_function e ≡ Some h → ⊥). sym (ap is_shut (other_functions_stay round pieces h e core else)) ∙ shut)
       (owner e h)
 
   all_shut_before : (e : Event) (numbers : List ℕ) → is_legal model core e ≡ true → ((h : ℕ) → is_in h numbers ≡ true → e ≡ event.Shut h → ⊥)
@@ -247,14 +247,14 @@ module _ (round : Round) (pieces : ℕ) (core : Core) (kept : KeptCore round.sou
       let a = and_parts _ _ may in
       let b = and_parts _ _ a.0 in
       let c = and_parts _ _ b.0 in
-      let not_own : function_of e ≡ Some g → ⊥ = λ is. own_begun e g legal is c.1 in
+      let not_own : its_function e ≡ Some g → ⊥ = λ is. own_begun e g legal is c.1 in
       let same = other_functions_stay round pieces g e core not_own in (
         and_from (nat_lt g (function_count model) && is_waiting (status_of core g) && are_shut core (predecessors model g)) (list_all (is_frozen core) (inputs_of model g))
             (and_from (nat_lt g (function_count model) && is_waiting (status_of core g)) (are_shut core (predecessors model g))
             (and_from (nat_lt g (function_count model)) (is_waiting (status_of core g)) c.0 (sym (ap is_waiting same) ∙ c.1))
             (all_shut_before e (predecessors model g) legal earlier b.1))
             (each_in (is_frozen (next e)) (is_frozen core) (inputs_of model g) (λ m within at. sym (other_marks_stay round pieces m e core (fed m within)) ∙ at) a.1),
-        λ is. not_own (sym (ap function_of is)),
+        λ is. not_own (sym (ap its_function is)),
       )
 
   abbrev Old : Event → Event → Type 0
@@ -288,7 +288,7 @@ module _ (round : Round) (pieces : ℕ) (core : Core) (kept : KeptCore round.sou
   run_before : (e : Event) (g j : ℕ) → work_of (next e) g j ≡ work_of core g j → (event.Agent g j ≡ e → ⊥) → may_run (work_of (next e) g j) ≡ true → Old e (event.Agent g j)
   run_before e g j same apart may = (sym (ap may_run same) ∙ may, apart)
 
-  elsewhere : (e : Event) (f g j : ℕ) → function_of e ≡ Some f → (f ≡ g → ⊥) → work_of (next e) g j ≡ work_of core g j
+  elsewhere : (e : Event) (f g j : ℕ) → its_function e ≡ Some f → (f ≡ g → ⊥) → work_of (next e) g j ≡ work_of core g j
   elsewhere e f g j is apart =
       ap (λ s. slice_get (works_of s) j) (other_functions_stay round pieces g e core (λ other. let same : Some f ≡ Some g = sym is ∙ other in let here : f ≡ g = cc in apart here))
 
@@ -422,9 +422,9 @@ module _ (round : Round) (pieces : ℕ) (core : Core) (kept : KeptCore round.sou
 
   -- ---- a function may be shut
 
-  shut_old : (e : Event) (g : ℕ) → (function_of e ≡ Some g → ⊥) → may_shut (outputs_of model g) (status_of (next e) g) ≡ true → Old e (event.Shut g)
+  shut_old : (e : Event) (g : ℕ) → (its_function e ≡ Some g → ⊥) → may_shut (outputs_of model g) (status_of (next e) g) ≡ true → Old e (event.Shut g)
   shut_old e g else may =
-      (sym (ap (may_shut (outputs_of model g)) (other_functions_stay round pieces g e core else)) ∙ may, λ is. else (sym (ap function_of is)))
+      (sym (ap (may_shut (outputs_of model g)) (other_functions_stay round pieces g e core else)) ∙ may, λ is. else (sym (ap its_function is)))
 
   -- a function that was just opened may be shut where it has no piece
   new_shuts : (f : ℕ) → is_legal model core (event.Open f) ≡ true → may_shut (outputs_of model f) (status_of (next (event.Open f)) f) ≡ true

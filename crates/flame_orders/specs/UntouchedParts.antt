@@ -10,20 +10,20 @@ use Rattle.flame_events.specs.EventSteps.{after}
 -- ---- whose event it is
 
 -- the function of the event, where it is not one of a board [own]
-abbrev pub function_of : Event → Option ℕ
-function_of (event.Open function) = Some function
-function_of (event.Agent function piece) = Some function
-function_of (event.HandIn function piece message) = Some function
-function_of (event.Shut function) = Some function
-function_of (event.Freeze message) = None
+abbrev pub its_function : Event → Option ℕ
+its_function (event.Open function) = Some function
+its_function (event.Agent function piece) = Some function
+its_function (event.HandIn function piece message) = Some function
+its_function (event.Shut function) = Some function
+its_function (event.Freeze message) = None
 
 -- the number of its piece, where it is one of a piece [own]
-abbrev pub piece_of : Event → Option ℕ
-piece_of (event.Open function) = None
-piece_of (event.Agent function piece) = Some piece
-piece_of (event.HandIn function piece message) = Some piece
-piece_of (event.Shut function) = None
-piece_of (event.Freeze message) = None
+abbrev pub its_piece : Event → Option ℕ
+its_piece (event.Open function) = None
+its_piece (event.Agent function piece) = Some piece
+its_piece (event.HandIn function piece message) = Some piece
+its_piece (event.Shut function) = None
+its_piece (event.Freeze message) = None
 
 -- the board that it freezes [own]
 abbrev pub frozen_by : Event → Option ℕ
@@ -39,7 +39,7 @@ frozen_by (event.Freeze message) = Some message
 abbrev pub OtherFunctionsStay : Type 0
 OtherFunctionsStay =
     (round : Round) (pieces function : ℕ) (event : Event) (core : Core)
-    → ¬ (function_of event ≡ Some function)
+    → ¬ (its_function event ≡ Some function)
     → status_of (after round pieces core event) function ≡ status_of core function
 
 -- a piece stays as it is at an event of a piece of another number [own]
@@ -47,7 +47,7 @@ abbrev pub OtherPiecesStay : Type 0
 OtherPiecesStay =
     (round : Round) (pieces function piece : ℕ) (event : Event) (core : Core)
     → is_of_piece event ≡ true
-    → ¬ (piece_of event ≡ Some piece)
+    → ¬ (its_piece event ≡ Some piece)
     → work_of (after round pieces core event) function piece ≡ work_of core function piece
 
 -- the mark of a board stays at an event that does not freeze it [own]

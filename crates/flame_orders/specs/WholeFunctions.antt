@@ -44,8 +44,8 @@ function_events model function works =
 -- ---- what they leave
 
 -- the agents of these pieces, piece by piece [own]
-abbrev pub agents_in : List Work → List (List ℤ)
-agents_in works = flat_map (λ work. work.agents) works
+abbrev pub agents_in_pieces : List Work → List (List ℤ)
+agents_in_pieces works = flat_map (λ work. work.agents) works
 
 -- what these agents leave of the function of this place: survivors arrived in the next state, births are set aside, and
 -- messages joined their boards [FLAME User Manual; when births act: own]
@@ -83,7 +83,7 @@ WholeFunctionsRun =
     → status_of core function ≡ Open works
     → Each (λ work. work.ran ≡ 0) works
     → Leads round pieces core (function_events round.source.model function works)
-    (done_by round function (agents_in works) (left_by round function place (agents_in works) core.field) core)
+    (done_by round function (agents_in_pieces works) (left_by round function place (agents_in_pieces works) core.field) core)
 
 -- the pieces of a function that was opened just now: no agent of them ran, and piece by piece they have its takers [own]
 abbrev pub OpenedPiecesAreTakers : Type 0
@@ -97,7 +97,7 @@ OpenedPiecesAreTakers =
     let works : List Work = works_of (status_of begun function) in
     (status_of begun function ≡ Open works)
     × Each (λ work. work.ran ≡ 0) works
-    × (agents_in works ≡ taking round function place core.field)
+    × (agents_in_pieces works ≡ taking round function place core.field)
 
 -- where it is opened and then runs at once: these events lead to the core in which it is done with the least fault of its
 -- takers, and the field is what the serial step makes of it where nobody faults [own]
