@@ -6,3 +6,5 @@ pub mod SortedFields
 pub mod SentOutputs
 pub mod Gatherings
 pub mod FunctionRuns
+pub mod CutWorks
+pub mod OneBeginnings

@@ -5,3 +5,4 @@ pub mod LastingLegality
 pub mod NewlyLegal
 pub mod WholeFunctions
 pub mod UntouchedParts
+pub mod OneBeginning

@@ -3,6 +3,8 @@
 ghost use Rattle.flame_orders.specs.LastingLegality.{LegalityLasts, LegalityLastsLong};
 ghost use Rattle.flame_orders.specs.NewlyLegal.{NewlyLegalIsAllowed};
 ghost use Rattle.flame_orders.specs.WholeFunctions.{WholeFunctionsRun, OpenedPiecesAreTakers, OpenedFunctionsMove};
+ghost use Rattle.flame_orders.specs.OneBeginning.{FrozenBoardsAgree, OutcomesAgree, PiecesAgree};
+ghost use Rattle.flame_orders.specs.OneBeginning.{OpenFunctionsAgree, DoneFunctionsAgree};
 ghost use Rattle.flame_orders.specs.UntouchedParts.{OtherFunctionsStay, OtherPiecesStay, OtherMarksStay};
 
 use flame_spec_laws::names_differ;
@@ -40,3 +42,18 @@ pub fn others_stay()
     ensures pieces { OtherPiecesStay }
     ensures marks { OtherMarksStay }
 {}
+
+/// What two cores agree on to which events of an accepted source led, each legal when it came, from one beginning, which has
+/// a bag for each agent type: each board that is frozen in both; the outcomes of each function the boards of whose
+/// inputs are; the agents of each piece that is there in both, where takers are cut into as many pieces; the agents of
+/// each function that is open in both, its pieces laid end to end; and the fault, or that there is none, of each that is
+/// done in both.
+pub fn beginnings_decide()
+    ensures boards { FrozenBoardsAgree }
+    ensures outcomes { OutcomesAgree }
+    ensures pieces { PiecesAgree }
+    ensures open { OpenFunctionsAgree }
+    ensures done { DoneFunctionsAgree }
+{
+    names_differ();
+}
