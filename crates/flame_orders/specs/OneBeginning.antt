@@ -12,8 +12,8 @@ use Rattle.flame_events.specs.LegalEvents.{inputs_of}
 use Rattle.flame_orders.specs.WholeFunctions.{agents_in_pieces}
 
 -- events of an accepted source, each legal when it came, lead to each of two cores from one beginning, which has a bag
--- for each agent type. Takers are cut into at most so many pieces on the way to the one, and into at most so many others
--- on the way to the other, at least one each [own]
+-- for each agent type. Takers are cut into at most so many pieces on the way to the one core, and into at most so many
+-- others on the way to the other, at least one each [own]
 pub record HaveOneBeginning (round : Round) (pieces other_pieces : ℕ) (core other : Core) : Type 0 where
   pub accepted : IsAccepted round.source
   pub agents : List (List (List ℤ))
