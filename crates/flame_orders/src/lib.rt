@@ -1,4 +1,5 @@
-//! Which orders of events come to one and the same: what is still legal after an event, what is newly so, and what stays.
+//! Laws of the orders of events, for runners: what is still legal after an event, what is newly so, and what stays; what a
+//! whole function leaves; and what two cores from one beginning agree on.
 #![tactic(auto)]
 
 pub mod laws;
