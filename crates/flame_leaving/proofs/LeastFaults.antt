@@ -13,8 +13,8 @@ use Rattle.flame_spec.specs.declared.outcomes.Outcome.{Outcome}
 use Rattle.flame_spec.specs.declared.outcomes.Outcome.TheVariants.{Ended, Faulted}
 use Rattle.flame_spec.specs.Lists.{first}
 use Rattle.flame_world.specs.declared.faults.SimFault.{SimFault}
-use Rattle.flame_world.specs.AgentRuns.{fault_by, least_fault}
-use Rattle.flame_leaving.specs.WholeLaws.{AreTogether, lesser, least_of, FaultIsTheLeast}
+use Rattle.flame_world.specs.AgentRuns.{fault_by}
+use Rattle.flame_leaving.specs.WholeLaws.{lesser, least_of, FaultIsTheLeast}
 
 abbrev Rows : Type 0
 Rows = List (List ℤ)
