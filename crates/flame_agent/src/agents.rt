@@ -1,14 +1,17 @@
 //! Runs of functions for agents.
 
 ghost use Rattle.std.specs.Prelude.{◌≡◌, IfOk};
+ghost use Rattle.std.specs.List.{All};
 ghost use Rattle.flame_world.specs.Meaning.{outcome_under};
 ghost use Rattle.flame_world.specs.Settings.{boards_of};
+ghost use Rattle.flame_leaving.specs.Leavings.{AreLeft};
 ghost use Rattle.flame_agent.specs.FunctionFits.{FitsFunction};
 ghost use Rattle.flame_agent.specs.ViewsForAll.{AreForAll};
 
 use crate::codes::code_of;
 use crate::shared::SharedViews;
 use crate::views::views_of;
+use flame_leaving::Leaving;
 use flame_machine::Room;
 use flame_program::Program;
 use flame_program::laws::programs_mean;
@@ -50,4 +53,34 @@ pub fn run_agent(
         setting.fuel,
     )?;
     Ok(outcome)
+}
+
+/// What these agents leave, told by their memories, that run the function of this number one after another, under this
+/// setting of the program: all of them run, also where one faults, and the fault of the first that does is kept. The
+/// views that no memory changes are made once, and there is one room for all. The memories, the constants and the
+/// messages of the boards are as wide as the model declares. `NoMemory` comes where none is found, and where 32 bits
+/// cannot number the function's inputs.
+pub fn run_agents(
+    alloc: Global,
+    program: &Program,
+    setting: &Setting<'_>,
+    function: u32,
+    agents: &[Row],
+) -> Result<Leaving, NoMemory>
+    requires source { setting.now.source.now ≡ program.now }
+    requires fits { All (λ memory. FitsFunction program.now.model function setting.now memory) agents.now }
+    ensures { IfOk result (AreLeft setting.now.iteration function (outcome_under setting.now function) agents.now) }
+{
+    // Their number fits, as that of what any iterator over a slice has left.
+    let _agents = agents.iter();
+    let mut leaving = Leaving::nothing(alloc);
+    let mut room = Room::new(alloc);
+    let shared = SharedViews::of(alloc, program, setting, function, agents.len())?;
+    for memory in agents {
+        let outcome = run_agent(
+            alloc, &mut room, program, setting, function, &shared, memory,
+        )?;
+        leaving.add(setting.iteration, function, memory, outcome)?;
+    }
+    Ok(leaving)
 }

@@ -1,5 +1,5 @@
 -- What events that run agents leave, put together from what the body makes.
-use Rattle.std.proofs.Common.{◌≡◌, ℕ, ◌+◌, ◌<◌, true, false, Vec, ⊎_elim, get_or-set_same, get_or-set_other, List, [], ◌∷◌, ◌++◌, length, map, Some, refl, sym, ap, ◌∙◌, subst, append-nil, Result, IfOk}
+use Rattle.std.proofs.Common.{◌≡◌, ℕ, ◌+◌, ◌<◌, true, false, Vec, ⊎_elim, get_or-set_same, get_or-set_other, List, [], ◌∷◌, ◌++◌, length, map, Option, Some, None, refl, sym, ap, ◌∙◌, subst, append-nil, Result, IfOk}
 use Rattle.std.specs.Global.{Global}
 use Rattle.std.specs.Prelude.{ℤ, slice_get, slice_index_or, slice_set}
 use Rattle.std.specs.Option.{option_or}
@@ -13,7 +13,8 @@ use Rattle.flame_spec.specs.Accepted.{IsAccepted}
 use Rattle.flame_spec.specs.Choice.{takers}
 use Rattle.flame_spec.specs.Functions.{Place, functions}
 use Rattle.flame_world.specs.declared.turns.Turn.{Turn}
-use Rattle.flame_world.specs.AgentRuns.{born_by, births_of, kept}
+use Rattle.flame_spec.specs.Lists.{first}
+use Rattle.flame_world.specs.AgentRuns.{born_by, births_of, fault_by, kept, sent_by}
 use Rattle.flame_spec.specs.States.{state_place}
 use Rattle.flame_world.specs.Fields.{changed_pool, joined, pool_in}
 use Rattle.flame_world.specs.Iterations.{Round, iteration, outcome_in, staying}
@@ -37,7 +38,8 @@ use Rattle.flame_pieces.specs.declared.statuses.Status.TheVariants as is
 use Rattle.flame_pieces.specs.KeptWorks.{outputs_in}
 use Rattle.flame_pieces.specs.KeptStatuses.{HasOutputs}
 use Rattle.flame_progress.specs.declared.counts.Counts.{Counts}
-use Rattle.flame_progress.specs.declared.leavings.Leaving.{Leaving}
+use Rattle.flame_leaving.specs.declared.leavings.Leaving.{Leaving}
+use Rattle.flame_leaving.specs.Leavings.{AreLeft}
 use Rattle.flame_progress.specs.declared.progress.Progress.{Progress}
 use Rattle.flame_progress.specs.KeptCores.{core_of}
 use Rattle.flame_progress.specs.KeptPools.{bags_of}
@@ -46,7 +48,6 @@ use Rattle.flame_progress.specs.KeptWorkEvents.{added}
 use Rattle.flame_progress.specs.Tallying.{Came}
 use Rattle.flame_progress.proofs.Changed.{changed_pool-to}
 use Rattle.flame_progress.proofs.Tallied.{counted_kept, status_kept}
-use Rattle.flame_core.specs.AgentLeavings.{IsLeft}
 use Rattle.flame_core.specs.KeptReady.{IsKeptCore}
 use Rattle.flame_core.specs.SeenCores.{Seen, IsReached, round_in, start_in, when_came}
 
@@ -86,13 +87,17 @@ open_is round pieces f place core works agent from stay pool at agent_is from_is
 
 -- ---- an agent runs
 
+first-one : {X : Type 0} (o : Option X) → first (cons_option o []) ≡ o
+first-one None = refl
+first-one (Some x) = refl
+
 pub agent_is : (round : Round) (pieces f k : ℕ) (place : Place) (core : Core) (work : Work) (memory : List ℤ) (leaving : Leaving) (agent to : ℕ)
     → slice_get (functions round.source.model) f ≡ Some place
     → work_of core f k ≡ Some work
     → slice_get work.agents work.ran ≡ Some memory
     → agent ≡ place.agent
     → to ≡ state_place place.type place.function.next
-    → IsLeft round.iteration f memory (outcome_in round f core.field memory) leaving
+    → AreLeft round.iteration f (outcome_in round f core.field) (memory ∷ []) leaving
     → (let next : Core = record core {
       statuses = with_work core f k (added (outputs_of round.source.model f) leaving work);
       field = record core.field {
@@ -107,15 +112,15 @@ agent_is round pieces f k place core work memory leaving agent to at there next 
     let ran : added outputs leaving work ≡ with_agent round f work memory outcome =
     λ i. record {
       agents = work.agents;
-      ran = work.ran + left.one i;
-      parts = with_sent outputs (left.sent_are i) work.parts;
-      fault = option_or work.fault (left.fault_is i);
+      ran = work.ran + left.ran i;
+      parts = with_sent outputs ((left.sent ∙ append-nil (sent_by outcome)) i) work.parts;
+      fault = option_or work.fault ((left.fault ∙ first-one (fault_by round.iteration f memory outcome)) i);
     } in
     let pools : changed_pool agent to (λ pool. merge pool (ascending leaving.survivors.items)) core.field.pools
     ≡ changed_pool place.agent (state_place place.type place.function.next) (λ pool. merge pool (ascending (cons_option (kept outcome) []))) core.field.pools =
-    λ i. changed_pool (agent_same i) (to_same i) (λ pool. merge pool (ascending (left.survivors_are i))) core.field.pools in
+    λ i. changed_pool (agent_same i) (to_same i) (λ pool. merge pool (ascending (left.survivors i))) core.field.pools in
     let born : joined (births_of leaving.born.items) core.field.born ≡ joined (births_of (born_by outcome ++ [])) core.field.born =
-    ap (λ l. joined (births_of l) core.field.born) (left.born_are ∙ sym (append-nil (born_by outcome))) in
+    ap (λ l. joined (births_of l) core.field.born) left.born in
     let made_is : (let made : Core = record core {
       statuses = with_work core f k (added outputs leaving work);
       field = record core.field {

@@ -16,7 +16,7 @@ use Rattle.flame_meaning.proofs.Leavings.{rows_have_widths}
 use Rattle.flame_world.specs.AgentRuns.{born_by, born_from, sent_by, sent_from}
 use Rattle.flame_world.proofs.Eachs.{all_each, each_flat_map}
 
-each_at : {X : Type 0} (P : X → Type 0) (xs : List X) → Each P xs → All P xs
+pub each_at : {X : Type 0} (P : X → Type 0) (xs : List X) → Each P xs → All P xs
 each_at P [] all = λ k d less. absurd (omega (arith, less))
 each_at P (x ∷ xs) all = at (each_at P xs all.1)
   where

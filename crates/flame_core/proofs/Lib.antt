@@ -2,7 +2,6 @@ mod BoardBags
 mod StatePlaces
 mod LeftRows
 pub mod NamedNumbers
-mod TakenRuns
 mod Gets
 mod Beginnings
 mod Stepped
@@ -15,7 +14,7 @@ mod Past
 mod Finished
 mod Faulting
 mod Counting
-mod Leaving
+mod Nexts
 mod Running
 mod Allowed
 mod SharedPieces

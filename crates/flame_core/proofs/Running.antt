@@ -21,10 +21,10 @@ use Rattle.flame_progress.specs.KeptCores.{core_of}
 use Rattle.flame_progress.specs.Tallying.{Tallies}
 use Rattle.flame_progress.proofs.Known.{open_within}
 use Rattle.flame_route.specs.declared.routes.Route.{Route}
-use Rattle.flame_core.specs.AgentLeavings.{IsNext}
+use Rattle.flame_core.specs.NextAgents.{IsNext}
 use Rattle.flame_core.specs.KeptShares.{IsFed}
 use Rattle.flame_core.specs.KeptSteps.{GoesBy}
-use Rattle.flame_core.proofs.Leaving.{each_passes, has_next}
+use Rattle.flame_core.proofs.Nexts.{each_passes, has_next}
 use Rattle.flame_core.proofs.Openings.{all_found}
 use Rattle.flame_core.proofs.Shown.{marked_within}
 use Rattle.flame_meaning.proofs.Eachs.{each_at}

@@ -21,7 +21,7 @@ use Rattle.flame_events.specs.CoreStates.{Work, Core}
 use Rattle.flame_events.specs.EventSteps.{with_sent, with_work}
 use Rattle.flame_events.specs.LegalEvents.{outputs_of}
 use Rattle.flame_events.proofs.Holding.{messages_of-append}
-use Rattle.flame_progress.specs.declared.leavings.Leaving.{Leaving}
+use Rattle.flame_leaving.specs.declared.leavings.Leaving.{Leaving}
 use Rattle.flame_progress.specs.KeptWorkEvents.{added}
 use Rattle.flame_rows.proofs.Merging.{merge-ascending}
 use Rattle.flame_core.specs.KeptShares.{as_sent}

@@ -1,7 +1,7 @@
 -- What a function comes to, put together from what its agents leave.
 use Rattle.std.proofs.Common.{◌≡◌, ℕ, ◌<◌, List, [], length, map, get_or, Option, Some, None, Ok, Err, sym, ap, ◌∙◌, arith, subst, refl}
 use Rattle.std.specs.Prelude.{ℤ, ◌==◌, not, option_map, slice_get, slice_index_or}
-use Rattle.std.specs.List.{filter, filter_map}
+use Rattle.std.specs.List.{filter}
 use Rattle.flame_rows.specs.Bags.{ascending, merge}
 use Rattle.flame_spec.specs.declared.models.AgentType.{AgentType}
 use Rattle.flame_spec.specs.declared.models.Model.{Model}
@@ -12,10 +12,12 @@ use Rattle.flame_spec.specs.Functions.{Place, functions}
 use Rattle.flame_spec.specs.States.{states, state_place}
 use Rattle.flame_meaning.specs.RangeLaws.{Each}
 use Rattle.flame_world.specs.declared.faults.SimFault.{SimFault}
-use Rattle.flame_world.specs.AgentRuns.{births_of, born_from, kept, least_fault, messages_of, sent_from}
+use Rattle.flame_world.specs.AgentRuns.{births_of, least_fault, messages_of}
 use Rattle.flame_world.specs.Fields.{Field, changed_pool, joined}
 use Rattle.flame_world.specs.Iterations.{Round, moved, outcome_in, resting, staying, step, step_at, taking, unless_faulted}
 use Rattle.flame_world.specs.WorldFits.{AreWide, FitMessages, FitsField}
+use Rattle.flame_leaving.specs.declared.leavings.Leaving.{Leaving}
+use Rattle.flame_leaving.specs.Leavings.{AreLeft}
 use Rattle.flame_body.specs.FunctionBodies.{input_width}
 use Rattle.flame_agent.specs.FunctionFits.{AreBoardsFor}
 use Rattle.flame_program.proofs.Acceptances.{variables-found}
@@ -30,10 +32,7 @@ use Rattle.flame_cond.specs.Said.{AreConditionsOf}
 use Rattle.flame_pool.specs.Choosing.{choices_of}
 use Rattle.flame_rows.specs.Parted.{whose}
 use Rattle.flame_pool.proofs.AsChosen.{whose_are_takers}
-use Rattle.flame_core.specs.declared.takers.Left.{Left}
 use Rattle.flame_core.specs.KeptSteps.{GoesBy, HasRoute}
-use Rattle.flame_core.specs.declared.takers.Ran.{Ran}
-use Rattle.flame_core.specs.TakerRuns.{Leaves}
 use Rattle.flame_core.proofs.Gets.{has-at, mapped-get, position-passes}
 use Rattle.flame_spec.specs.declared.outcomes.Outcome.{Outcome}
 use Rattle.flame_spec.specs.declared.outcomes.Source.{Source}
@@ -65,22 +64,20 @@ module _ (round : Round) (function : ℕ) (place : Place) (field : Field) (at : 
       ap (λ p. step_at p round function field) at ∙ ap (λ o. unless_faulted o (moved round function place field)) is
 
   -- agents, births and messages, where what the takers leave went where it belongs
-  pub settled : (left : Left) (route : Route) (middle : List (List (List (List ℤ)))) (after : Field)
-      → left.kept.items ≡ filter_map (λ memory. kept (outcome_in round function field memory)) (taking round function place field)
-      → left.sent.items ≡ sent_from (outcome_in round function field) (taking round function place field)
-      → left.born.items ≡ born_from (outcome_in round function field) (taking round function place field)
+  pub settled : (leaving : Leaving) (route : Route) (middle : List (List (List (List ℤ)))) (after : Field)
+      → AreLeft round.iteration function (outcome_in round function field) (taking round function place field) leaving
       → route.agent ≡ place.agent
       → route.to ≡ state_place place.type place.function.next
       → middle ≡ changed_pool place.agent (state_place place.type place.function.current) (staying round function place) field.pools
-      → after.pools ≡ changed_pool route.agent route.to (λ pool. merge pool (ascending left.kept.items)) middle
-      → after.born ≡ joined (births_of left.born.items) field.born
-      → after.boards ≡ joined (messages_of left.sent.items) field.boards
+      → after.pools ≡ changed_pool route.agent route.to (λ pool. merge pool (ascending leaving.survivors.items)) middle
+      → after.born ≡ joined (births_of leaving.born.items) field.born
+      → after.boards ≡ joined (messages_of leaving.sent.items) field.boards
       → after ≡ moved round function place field
-  settled left route middle after keeps sends bears agent to middle_is pools born boards =
+  settled leaving route middle after left agent to middle_is pools born boards =
       λ i. record {
-        pools = (pools ∙ (λ j. changed_pool (agent j) (to j) (λ pool. merge pool (ascending (keeps j))) (middle_is j))) i;
-        born = (born ∙ (λ j. joined (births_of (bears j)) field.born)) i;
-        boards = (boards ∙ (λ j. joined (messages_of (sends j)) field.boards)) i;
+        pools = (pools ∙ (λ j. changed_pool (agent j) (to j) (λ pool. merge pool (ascending (left.survivors j))) (middle_is j))) i;
+        born = (born ∙ (λ j. joined (births_of (left.born j)) field.born)) i;
+        boards = (boards ∙ (λ j. joined (messages_of (left.sent j)) field.boards)) i;
       }
 
 -- ---- what fits
@@ -125,22 +122,20 @@ takers-wide round function place field at fits =
 -- ---- boards that are read
 
 -- under a setting with these boards, what is left is what the boards of all messages leave
-pub leaves-named : (setting : Setting) (source : Source) (function : ℕ) (all : List (List (List ℤ))) (rows agents : List (List ℤ)) (ran : Ran)
+pub left-named : (setting : Setting) (source : Source) (function : ℕ) (all : List (List (List ℤ))) (agents : List (List ℤ)) (leaving : Leaving)
     → setting.source.now ≡ source
     → boards_of setting ≡ boards_named (place_of source function) source.model all
-    → rows ≡ agents
-    → Leaves setting.iteration function (outcome_under setting function) rows ran
-    → Leaves setting.iteration function
-    (λ memory. outcome source function memory all setting.constants.now setting.iteration setting.fuel) agents ran
-leaves-named setting source function all rows agents ran same named listed leaves =
+    → AreLeft setting.iteration function (outcome_under setting function) agents leaving
+    → AreLeft setting.iteration function
+    (λ memory. outcome source function memory all setting.constants.now setting.iteration setting.fuel) agents leaving
+left-named setting source function all agents leaving same named left =
     let there : boards_of setting ≡ boards_named (place_of setting.source.now function) setting.source.now.model all =
     named ∙ ap (λ (s : Source). boards_named (place_of s function) s.model all) (sym same) in
     let run : (memory : List ℤ) → outcome_under setting function memory
     ≡ outcome source function memory all setting.constants.now setting.iteration setting.fuel =
     λ memory. named_boards_are_enough setting function memory all there
     ∙ ap (λ (s : Source). outcome s function memory all setting.constants.now setting.iteration setting.fuel) same in
-    subst (λ (g : List ℤ → Outcome). Leaves setting.iteration function g agents ran) (λ i memory. run memory i)
-    (subst (λ (a : List (List ℤ)). Leaves setting.iteration function (outcome_under setting function) a ran) listed leaves)
+    subst (λ (g : List ℤ → Outcome). AreLeft setting.iteration function g agents leaving) (λ i memory. run memory i) left
 
 -- ---- routes
 

@@ -34,7 +34,7 @@ use Rattle.flame_events.proofs.Sound.{opens_with, past_waiting}
 use Rattle.flame_events.proofs.Spots.{get_there}
 use Rattle.flame_route.specs.declared.routes.Route.{Route}
 use Rattle.flame_progress.specs.declared.counts.Counts.{Counts}
-use Rattle.flame_progress.specs.declared.leavings.Leaving.{Leaving}
+use Rattle.flame_leaving.specs.declared.leavings.Leaving.{Leaving}
 use Rattle.flame_progress.specs.declared.progress.Progress.{Progress}
 use Rattle.flame_progress.specs.KeptCores.{core_of, HasOutputsAt}
 use Rattle.flame_progress.specs.KeptWorkEvents.{added}

@@ -6,9 +6,8 @@ pub mod CoreCalls
 pub mod SeenCores
 -- ---- the words that only bodies and proofs use; what runners promise is said in flame_world's words
 pub mod KeptFields
-pub mod TakerRuns
 pub mod KeptSteps
-pub mod AgentLeavings
+pub mod NextAgents
 pub mod KeptReady
 pub mod KeptShares
 pub mod KeptStarts

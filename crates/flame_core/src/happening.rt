@@ -1,37 +1,32 @@
 //! What events make of an iteration.
 
-ghost use Rattle.std.specs.Prelude.{◌≡◌, ℕ, ℤ, List, true, IfOk, OnOk, OnErr, IsTrue, map};
-ghost use Rattle.flame_spec.specs.declared.outcomes.Outcome.TheVariants.{Ended, Faulted};
+ghost use Rattle.std.specs.Prelude.{◌≡◌, ◌∷◌, [], ℤ, List, true, IfOk, OnOk, OnErr, IsTrue, map};
 ghost use Rattle.flame_meaning.specs.Outcomes.{outcome, place_of};
 ghost use Rattle.flame_index.specs.FrozenBoards.{shared_messages};
-ghost use Rattle.flame_agent.specs.FunctionFits.{FitsFunction};
 ghost use Rattle.flame_world.specs.InputBoards.{boards_named};
-ghost use Rattle.flame_world.specs.Meaning.{outcome_under};
-ghost use Rattle.flame_world.specs.Settings.{boards_of};
+ghost use Rattle.flame_leaving.specs.Leavings.{AreLeft};
 ghost use Rattle.flame_events.specs.declared.events.Event.TheVariants as kind;
 ghost use Rattle.flame_events.specs.EventSteps.{after};
 ghost use Rattle.flame_events.specs.LegalEvents.{is_legal};
 ghost use Rattle.flame_progress.specs.KeptCores.{core_of};
 ghost use Rattle.flame_progress.specs.Tallying.{Came};
 ghost use Rattle.flame_core.specs.KeptReady.{Ready};
-ghost use Rattle.flame_core.specs.KeptSteps.{round_of};
-ghost use Rattle.flame_core.specs.AgentLeavings.{FitsAgent, HasNext, IsLeft, IsNext};
+ghost use Rattle.flame_core.specs.KeptSteps.{FitsRun, round_of};
+ghost use Rattle.flame_core.specs.NextAgents.{HasNext, IsNext};
 ghost use Rattle.flame_core.specs.CoreCalls.{takes_memory};
 
 use crate::inputs::input_boards;
 use crate::parting::part;
 use crate::rounds::Round;
 use crate::steps::route_of;
-use crate::takers::fault_of;
-use flame_agent::{Room, SharedViews, run_agent};
+use crate::takers::run_over;
 use flame_events::Event;
 use flame_index::Frozen;
-use flame_program::Program;
-use flame_progress::{Counts, Leaving, Progress, freeze, hand_in, shut, works_of};
-use flame_rows::{NoMemory, Row, Seq};
-use flame_spec::{Effect, Fault, Outcome};
-use flame_world::Setting;
+use flame_leaving::Leaving;
+use flame_progress::{Counts, Progress, freeze, hand_in, shut, works_of};
+use flame_rows::{NoMemory, Seq};
 use std::alloc::Global;
+use std::slice;
 use std::sync::Arc;
 
 /// The takers of the function leave their state, in pieces.
@@ -58,117 +53,6 @@ fn open_function(
     Ok(())
 }
 
-/// What an agent leaves that ended.
-fn ended(alloc: Global, effect: Effect) -> Result<Leaving, NoMemory>
-    ensures { IfOk result (λ leaving. (iteration : ℤ) (function : ℕ) (memory : List ℤ)
-        → IsLeft iteration function memory (Ended effect) leaving) }
-{
-    let Effect {
-        memory,
-        sent,
-        born,
-        ..
-    } = effect;
-    let mut survivors = Vec::new(alloc);
-    if let Some(memory) = memory {
-        survivors.push(memory)?;
-    }
-    Ok(Leaving {
-        ran: 1,
-        survivors,
-        sent: sent.into_items(),
-        born: born.into_items(),
-        fault: None,
-    })
-}
-
-/// What the agent of this memory leaves that faulted.
-fn faulted(
-    alloc: Global,
-    setting: &Setting<'_>,
-    function: u32,
-    memory: &Row,
-    fault: Fault,
-) -> Result<Leaving, NoMemory>
-    ensures { IfOk result (IsLeft setting.now.iteration function memory.now (Faulted fault)) }
-{
-    Ok(Leaving {
-        ran: 1,
-        survivors: Vec::new(alloc),
-        sent: Vec::new(alloc),
-        born: Vec::new(alloc),
-        fault: Some(fault_of(setting, function, memory, fault)?),
-    })
-}
-
-/// What the function does for the agent of this memory, which is run alone.
-fn run_alone(
-    alloc: Global,
-    program: &Program,
-    setting: &Setting<'_>,
-    function: u32,
-    memory: &Row,
-) -> Result<Outcome, NoMemory>
-    requires source { setting.now.source.now ≡ program.now }
-    requires fits { FitsFunction program.now.model function setting.now memory.now }
-    ensures { IfOk result (λ o. o ≡ outcome_under setting.now function memory.now) }
-{
-    let mut room = Room::new(alloc);
-    let shared = SharedViews::of(alloc, program, setting, function, 1)?;
-    let outcome = run_agent(
-        alloc, &mut room, program, setting, function, &shared, memory,
-    )?;
-    Ok(outcome)
-}
-
-/// What the agent of this memory leaves that runs the function, where the setting has those boards that the function's
-/// inputs name.
-fn left_under(
-    alloc: Global,
-    program: &Program,
-    setting: &Setting<'_>,
-    function: u32,
-    memory: &Row,
-) -> Result<Leaving, NoMemory>
-    requires source { setting.now.source.now ≡ program.now }
-    requires fits { FitsFunction program.now.model function setting.now memory.now }
-    ensures { IfOk result (λ leaving. (all : List (List (List ℤ)))
-        → boards_of setting.now ≡ boards_named (place_of program.now function) program.now.model all
-        → IsLeft setting.now.iteration function memory.now (outcome program.now function memory.now all
-        setting.now.constants.now setting.now.iteration setting.now.fuel) leaving) }
-{
-    match run_alone(alloc, program, setting, function, memory)? {
-        Outcome::Ended(effect) => ended(alloc, effect),
-        Outcome::Faulted(fault) => faulted(alloc, setting, function, memory, fault),
-    }
-}
-
-/// What the agent of this memory leaves that runs the function, with these boards of its inputs.
-fn leaving_of(
-    alloc: Global,
-    round: &Round<'_>,
-    function: u32,
-    memory: &Row,
-    boards: &Seq<Arc<Frozen>>,
-) -> Result<Leaving, NoMemory>
-    requires { FitsAgent round.now.program.now.model function round.now.constants.now (map shared_messages boards.now)
-        memory.now }
-    ensures { IfOk result (λ leaving. (all : List (List (List ℤ)))
-        → map shared_messages boards.now
-        ≡ boards_named (place_of round.now.program.now function) round.now.program.now.model all
-        → IsLeft round.now.iteration function memory.now (outcome round.now.program.now function memory.now all
-        round.now.constants.now round.now.iteration round.now.fuel) leaving) }
-{
-    let setting = Setting {
-        source: round.program.source(),
-        constants: round.constants,
-        boards,
-        iteration: round.iteration,
-        fuel: round.fuel,
-    };
-    left_under(alloc, round.program, &setting, function, memory)
-}
-
 /// The next agent of the piece runs: what it leaves.
 fn next_leaving(
     alloc: Global,
@@ -179,15 +63,15 @@ fn next_leaving(
     boards: &Seq<Arc<Frozen>>,
 ) -> Result<Leaving, NoMemory>
     requires fits { (memory : List ℤ) → IsNext (core_of progress.now) function piece memory
-        → FitsAgent round.now.program.now.model function round.now.constants.now (map shared_messages boards.now)
-        memory }
+        → FitsRun round.now.program.now.model function round.now.constants.now (map shared_messages boards.now)
+        (memory ∷ []) }
     requires there { HasNext (core_of progress.now) function piece }
     ensures { IfOk result (λ leaving. (all : List (List (List ℤ))) (memory : List ℤ)
         → IsNext (core_of progress.now) function piece memory
         → map shared_messages boards.now
         ≡ boards_named (place_of round.now.program.now function) round.now.program.now.model all
-        → IsLeft round.now.iteration function memory (outcome round.now.program.now function memory all
-        round.now.constants.now round.now.iteration round.now.fuel) leaving) }
+        → AreLeft round.now.iteration function (λ own. outcome round.now.program.now function own all
+        round.now.constants.now round.now.iteration round.now.fuel) (memory ∷ []) leaving) }
 {
     let Some(work) = progress.work(function, piece) else {
         unreachable!()
@@ -195,7 +79,7 @@ fn next_leaving(
     let Some(memory) = work.next() else {
         unreachable!()
     };
-    leaving_of(alloc, round, function, memory, boards)
+    run_over(alloc, round, function, slice::from_ref(memory), boards)
 }
 
 /// The next agent of the piece runs.

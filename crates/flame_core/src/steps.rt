@@ -1,6 +1,6 @@
 //! One function of an iteration.
 
-ghost use Rattle.std.specs.Prelude.{◌≡◌, ◌<◌, ℕ, ℤ, List, [], Some, IfOk, OnOk, length, map, slice_get, slice_index_or};
+ghost use Rattle.std.specs.Prelude.{◌≡◌, ◌<◌, ℤ, List, [], Some, IfOk, OnOk, length, map, slice_get, slice_index_or};
 ghost use Rattle.std.specs.List.{All};
 ghost use Rattle.flame_rows.specs.Bags.{ascending, merge};
 ghost use Rattle.flame_spec.specs.Before.{function_count};
@@ -14,21 +14,23 @@ ghost use Rattle.flame_world.specs.AgentRuns.{births_of, messages_of};
 ghost use Rattle.flame_world.specs.InputBoards.{boards_named};
 ghost use Rattle.flame_world.specs.Iterations.{step as meant, taking, staying};
 ghost use Rattle.flame_world.specs.WorldFits.{FitsField};
+ghost use Rattle.flame_leaving.specs.Leavings.{AreLeft};
 ghost use Rattle.flame_progress.specs.KeptPools.{bags_of, pools_of};
 ghost use Rattle.flame_core.specs.KeptFields.{board_bag, field_of};
 ghost use Rattle.flame_core.specs.KeptSteps.{GoesBy, HasRoute, FitsRun, result_of, round_of};
-ghost use Rattle.flame_core.specs.TakerRuns.{Leaves};
 
 use crate::fields::{Field, arrive, bear, exchange, freeze, send};
 use crate::parting::part;
 use crate::rounds::Round;
-use crate::takers::{Left, Ran, run_named};
+use crate::takers::run_over;
 use crate::wants::{Readers, wants_of};
 use flame_index::Frozen;
+use flame_leaving::Leaving;
 use flame_progress::Gathering;
 use flame_route::Route;
-use flame_rows::{Bag, NoMemory, Seq};
-use flame_world::{Setting, SimFault};
+use flame_rows::{Bag, NoMemory, Row, Seq};
+use flame_spec::{Born, Sent};
+use flame_world::SimFault;
 use std::alloc::Global;
 use std::sync::Arc;
 
@@ -84,48 +86,48 @@ fn leave(
     Ok(takers)
 }
 
-/// The function runs for these agents, with these boards of its inputs.
+/// What these agents leave that run the function, with these boards of its inputs.
 fn run(
     alloc: Global,
     round: &Round<'_>,
     function: u32,
     takers: &Bag,
     boards: Vec<Arc<Frozen>>,
-) -> Result<Ran, NoMemory>
+) -> Result<Leaving, NoMemory>
     requires fits { FitsRun round.now.program.now.model function round.now.constants.now
         (map shared_messages boards.items) takers.now }
-    ensures { IfOk result (λ ran. (all : List (List (List ℤ)))
+    ensures { IfOk result (λ leaving. (all : List (List (List ℤ)))
         → map shared_messages boards.items
         ≡ boards_named (place_of round.now.program.now function) round.now.program.now.model all
-        → Leaves round.now.iteration function (λ memory. outcome round.now.program.now function memory all
-        round.now.constants.now round.now.iteration round.now.fuel) takers.now ran) }
+        → AreLeft round.now.iteration function (λ memory. outcome round.now.program.now function memory all
+        round.now.constants.now round.now.iteration round.now.fuel) takers.now leaving) }
 {
     let boards = Seq::of(boards);
-    let setting = Setting {
-        source: round.program.source(),
-        constants: round.constants,
-        boards: &boards,
-        iteration: round.iteration,
-        fuel: round.fuel,
-    };
-    run_named(alloc, round.program, &setting, function, takers.rows())
+    run_over(alloc, round, function, takers.rows(), &boards)
 }
 
 /// What the takers left goes where it belongs: survivors arrive, births are set aside, messages join their boards.
-fn settle(alloc: Global, route: &Route, field: Field, left: Left) -> Result<Field, NoMemory>
+fn settle(
+    alloc: Global,
+    route: &Route,
+    field: Field,
+    survivors: Vec<Row>,
+    sent: Vec<Sent>,
+    born: Vec<Born>,
+) -> Result<Field, NoMemory>
     requires to { route.now.to < length (slice_index_or (pools_of field.pools) route.now.agent []) }
-    requires births { All (λ birth. birth.agent < length field.born.items) left.born.items }
-    requires messages { All (λ message. message.message < length field.boards.items) left.sent.items }
+    requires births { All (λ birth. birth.agent < length field.born.items) born.items }
+    requires messages { All (λ message. message.message < length field.boards.items) sent.items }
     ensures pools { IfOk result (λ after. pools_of after.pools ≡ changed_pool route.now.agent route.now.to
-        (λ pool. merge pool (ascending left.kept.items)) (pools_of field.pools)) }
-    ensures born { IfOk result (λ after. bags_of after.born ≡ joined (births_of left.born.items) (bags_of field.born)) }
+        (λ pool. merge pool (ascending survivors.items)) (pools_of field.pools)) }
+    ensures born { IfOk result (λ after. bags_of after.born ≡ joined (births_of born.items) (bags_of field.born)) }
     ensures boards { IfOk result (λ after. map board_bag after.boards.items
-        ≡ joined (messages_of left.sent.items) (map board_bag field.boards.items)) }
+        ≡ joined (messages_of sent.items) (map board_bag field.boards.items)) }
 {
     let mut field = field;
-    arrive(&mut field.pools, route.agent, route.to, left.kept)?;
-    bear(&mut field.born, left.born)?;
-    send(alloc, &mut field.boards, left.sent)?;
+    arrive(&mut field.pools, route.agent, route.to, survivors)?;
+    bear(&mut field.born, born)?;
+    send(alloc, &mut field.boards, sent)?;
     Ok(field)
 }
 
@@ -151,8 +153,16 @@ pub(crate) fn step(
     };
     let wants = wants_of(alloc, round.program, function, inputs.len(), readers);
     let boards = freeze(alloc, &mut field.boards, inputs, &wants)?;
-    match run(alloc, round, function, &takers, boards)? {
-        Ran::Faulted(fault) => Ok(Stepped::Faulted(fault)),
-        Ran::Left(left) => Ok(Stepped::On(settle(alloc, route, field, left)?)),
+    let leaving = run(alloc, round, function, &takers, boards)?;
+    let Leaving {
+        survivors,
+        sent,
+        born,
+        fault,
+        ..
+    } = leaving;
+    match fault {
+        Some(fault) => Ok(Stepped::Faulted(fault)),
+        None => Ok(Stepped::On(settle(alloc, route, field, survivors, sent, born)?)),
     }
 }

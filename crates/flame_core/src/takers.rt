@@ -1,140 +1,66 @@
-//! The agents that take a function, one after another.
+//! The agents that take a function.
 
-ghost use Rattle.std.specs.Prelude.{◌≡◌, ◌++◌, ℤ, List, [], Some, IfOk, OnOk};
-ghost use Rattle.std.specs.List.{All, cons_option};
-ghost use Rattle.flame_spec.specs.declared.outcomes.Outcome.TheVariants.{Faulted};
-ghost use Rattle.flame_agent.specs.FunctionFits.{FitsFunction};
-ghost use Rattle.flame_world.specs.AgentRuns.{fault_by};
+ghost use Rattle.std.specs.Prelude.{◌≡◌, ℤ, List, IfOk, map};
+ghost use Rattle.std.specs.List.{All};
 ghost use Rattle.flame_meaning.specs.Outcomes.{outcome, place_of};
+ghost use Rattle.flame_index.specs.FrozenBoards.{shared_messages};
 ghost use Rattle.flame_world.specs.InputBoards.{boards_named};
-ghost use Rattle.flame_world.specs.Meaning.{outcome_under};
 ghost use Rattle.flame_world.specs.Settings.{boards_of};
-ghost use Rattle.flame_core.specs.TakerRuns.{Leaves};
+ghost use Rattle.flame_leaving.specs.Leavings.{AreLeft};
+ghost use Rattle.flame_agent.specs.FunctionFits.{FitsFunction};
+ghost use Rattle.flame_core.specs.KeptSteps.{FitsRun};
 
-use flame_agent::{Room, SharedViews, run_agent};
+use crate::rounds::Round;
+use flame_agent::run_agents;
+use flame_index::Frozen;
+use flame_leaving::Leaving;
 use flame_program::Program;
-use flame_rows::{NoMemory, Row};
-use flame_spec::{Born, Effect, Fault, Outcome, Sent};
-use flame_world::{Setting, SimFault};
+use flame_rows::{NoMemory, Row, Seq};
+use flame_world::Setting;
 use std::alloc::Global;
+use std::sync::Arc;
 
-/// What agents leave that ended.
-#[derive(Debug, Drop)]
-pub(crate) struct Left {
-    /// The memories of those that live on.
-    pub kept: Vec<Row>,
-    /// All messages, agent by agent.
-    pub sent: Vec<Sent>,
-    /// All births, agent by agent.
-    pub born: Vec<Born>,
-}
-
-/// What the takers of a function come to.
-#[derive(Debug, Drop)]
-pub(crate) enum Ran {
-    /// All ended, and left this.
-    Left(Left),
-    /// The least that faulted.
-    Faulted(SimFault),
-}
-
-impl Left {
-    fn nothing(alloc: Global) -> Left
-        ensures kept { result.kept.items ≡ [] }
-        ensures sent { result.sent.items ≡ [] }
-        ensures born { result.born.items ≡ [] }
-    {
-        Left {
-            kept: Vec::new(alloc),
-            sent: Vec::new(alloc),
-            born: Vec::new(alloc),
-        }
-    }
-
-    /// Adds what a further agent left.
-    fn add(&mut self, effect: Effect) -> Result<(), NoMemory>
-        ensures kept { OnOk result (self.new.kept.items ≡ self.old.kept.items ++ cons_option effect.memory []) }
-        ensures sent { OnOk result (self.new.sent.items ≡ self.old.sent.items ++ effect.sent) }
-        ensures born { OnOk result (self.new.born.items ≡ self.old.born.items ++ effect.born) }
-    {
-        let Effect {
-            memory,
-            sent,
-            born,
-            ..
-        } = effect;
-        if let Some(memory) = memory {
-            self.kept.push(memory)?;
-        }
-        let (mut sent, mut born) = (sent.into_items(), born.into_items());
-        self.sent.append(&mut sent)?;
-        self.born.append(&mut born)?;
-        Ok(())
-    }
-}
-
-/// The fault of an agent with this memory.
-pub(crate) fn fault_of(
-    setting: &Setting<'_>,
-    function: u32,
-    memory: &Row,
-    fault: Fault,
-) -> Result<SimFault, NoMemory>
-    ensures { IfOk result (λ sim. fault_by setting.now.iteration function memory.now (Faulted fault) ≡ Some sim) }
-{
-    Ok(SimFault {
-        iteration: setting.iteration,
-        function,
-        cause: fault.cause,
-        line: fault.line,
-        memory: memory.copy()?,
-    })
-}
-
-/// Runs the function for each of these agents under this setting, up to the first that faults.
-fn run_takers(
+/// What these agents leave that run the function, where the setting has those boards that the function's inputs name: what
+/// they leave over the boards of all messages.
+fn run_named(
     alloc: Global,
     program: &Program,
     setting: &Setting<'_>,
     function: u32,
-    takers: &[Row],
-) -> Result<Ran, NoMemory>
+    agents: &[Row],
+) -> Result<Leaving, NoMemory>
     requires source { setting.now.source.now ≡ program.now }
-    requires fits { All (λ memory. FitsFunction program.now.model function setting.now memory) takers.now }
-    ensures { IfOk result (Leaves setting.now.iteration function (outcome_under setting.now function) takers.now) }
-{
-    let mut left = Left::nothing(alloc);
-    let mut room = Room::new(alloc);
-    let shared = SharedViews::of(alloc, program, setting, function, takers.len())?;
-    for memory in takers {
-        match run_agent(
-            alloc, &mut room, program, setting, function, &shared, memory,
-        )? {
-            Outcome::Ended(effect) => left.add(effect)?,
-            Outcome::Faulted(fault) => {
-                let fault = fault_of(setting, function, memory, fault)?;
-                return Ok(Ran::Faulted(fault));
-            }
-        }
-    }
-    Ok(Ran::Left(left))
-}
-
-/// The same, where the setting has those boards that the function's inputs name: what is left is what the agents leave
-/// over the boards of all messages.
-pub(crate) fn run_named(
-    alloc: Global,
-    program: &Program,
-    setting: &Setting<'_>,
-    function: u32,
-    takers: &[Row],
-) -> Result<Ran, NoMemory>
-    requires source { setting.now.source.now ≡ program.now }
-    requires fits { All (λ memory. FitsFunction program.now.model function setting.now memory) takers.now }
-    ensures { IfOk result (λ ran. (all : List (List (List ℤ)))
+    requires fits { All (λ memory. FitsFunction program.now.model function setting.now memory) agents.now }
+    ensures { IfOk result (λ leaving. (all : List (List (List ℤ)))
         → boards_of setting.now ≡ boards_named (place_of program.now function) program.now.model all
-        → Leaves setting.now.iteration function (λ memory. outcome program.now function memory all
-        setting.now.constants.now setting.now.iteration setting.now.fuel) takers.now ran) }
+        → AreLeft setting.now.iteration function (λ memory. outcome program.now function memory all
+        setting.now.constants.now setting.now.iteration setting.now.fuel) agents.now leaving) }
 {
-    run_takers(alloc, program, setting, function, takers)
+    run_agents(alloc, program, setting, function, agents)
+}
+
+/// The same, with these boards of the function's inputs.
+pub(crate) fn run_over(
+    alloc: Global,
+    round: &Round<'_>,
+    function: u32,
+    agents: &[Row],
+    boards: &Seq<Arc<Frozen>>,
+) -> Result<Leaving, NoMemory>
+    requires { FitsRun round.now.program.now.model function round.now.constants.now (map shared_messages boards.now)
+        agents.now }
+    ensures { IfOk result (λ leaving. (all : List (List (List ℤ)))
+        → map shared_messages boards.now
+        ≡ boards_named (place_of round.now.program.now function) round.now.program.now.model all
+        → AreLeft round.now.iteration function (λ memory. outcome round.now.program.now function memory all
+        round.now.constants.now round.now.iteration round.now.fuel) agents.now leaving) }
+{
+    let setting = Setting {
+        source: round.program.source(),
+        constants: round.constants,
+        boards,
+        iteration: round.iteration,
+        fuel: round.fuel,
+    };
+    run_named(alloc, round.program, &setting, function, agents)
 }

@@ -8,7 +8,7 @@ use Rattle.flame_events.specs.EventSteps.{with_sent}
 use Rattle.flame_pieces.specs.declared.statuses.Status as run
 use Rattle.flame_pieces.specs.declared.statuses.Status.TheVariants as is
 use Rattle.flame_pieces.specs.KeptWorks.{outputs_in}
-use Rattle.flame_progress.specs.declared.leavings.Leaving.{Leaving}
+use Rattle.flame_leaving.specs.declared.leavings.Leaving.{Leaving}
 
 -- so many agents more of it ran, and left this [own]
 abbrev pub added : List ℕ → Leaving → Work → Work

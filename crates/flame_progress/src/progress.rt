@@ -22,10 +22,10 @@ ghost use Rattle.flame_progress.specs.KeptWorkEvents.{added, are_left, without, 
 use crate::boards::Board;
 use crate::gatherings::Gathering;
 use crate::handing::hand_over_at;
-use crate::leavings::Leaving;
 use crate::pools::{pool_of, replace};
 use crate::settling::settle_function;
 use flame_index::Frozen;
+use flame_leaving::Leaving;
 use flame_pieces::{Status, Work};
 use flame_rows::{Bag, NoMemory};
 use flame_spec::Born;

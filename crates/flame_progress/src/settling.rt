@@ -12,7 +12,7 @@ ghost use Rattle.flame_progress.specs.KeptPools.{bag_of, bags_of, pools_of};
 ghost use Rattle.flame_progress.specs.KeptWorkEvents.{added, are_left};
 
 use crate::gatherings::Gathering;
-use crate::leavings::Leaving;
+use flame_leaving::Leaving;
 use flame_pieces::{Status, Work};
 use flame_rows::NoMemory;
 use flame_spec::Born;

@@ -13,7 +13,7 @@ use Rattle.flame_events.specs.CoreStates.{Core, work_of}
 use Rattle.flame_events.specs.EventSteps.{with_work}
 use Rattle.flame_events.specs.LegalEvents.{outputs_of}
 use Rattle.flame_progress.specs.declared.counts.Counts.{Counts}
-use Rattle.flame_progress.specs.declared.leavings.Leaving.{Leaving}
+use Rattle.flame_leaving.specs.declared.leavings.Leaving.{Leaving}
 use Rattle.flame_progress.specs.KeptCores.{core_of, HasOutputsAt}
 use Rattle.flame_progress.specs.KeptWorkEvents.{added}
 use Rattle.flame_progress.specs.Tallying.{Came}

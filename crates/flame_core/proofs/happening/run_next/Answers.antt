@@ -15,10 +15,10 @@ use Rattle.flame_progress.specs.Tallying.{Came}
 use Rattle.flame_progress.proofs.Written.{on_err}
 use Rattle.flame_progress.proofs.Known.{open_within}
 use Rattle.flame_progress.proofs.Tallied.{came, counted_kept, status_kept}
-use Rattle.flame_core.specs.AgentLeavings.{HasNext, IsNext}
+use Rattle.flame_core.specs.NextAgents.{HasNext, IsNext}
 use Rattle.flame_core.specs.KeptSteps.{round_of}
 use Rattle.flame_core.proofs.Comings.{agent_is}
-use Rattle.flame_core.proofs.Leaving.{has_next, left_of_it}
+use Rattle.flame_core.proofs.Nexts.{has_next, left_of_it}
 use Rattle.flame_core.proofs.Running.{next_wide, running_below}
 use Rattle.flame_core.proofs.TakenIn.{began, fed_of}
 use Rattle.flame_core.proofs.Stepped.{has-route}
@@ -55,9 +55,13 @@ next_leaving-requires-clause-fits c = λ memory next.
     record {
       place = goes.place;
       there = goes.there;
-      wide = next_wide model core c.args.function c.args.piece goes.place memory c.requires.ready.fits goes.there (subst P kept.core next);
+      memories = (
+        next_wide model core c.args.function c.args.piece goes.place memory c.requires.ready.fits goes.there
+            (subst P kept.core next),
+        tt,
+      );
       known = c.requires.ready.known;
-      read = c.in_ok-boards.ensures.wide goes.place goes.there c.requires.ready.fits.field.boards;
+      wide = c.in_ok-boards.ensures.wide goes.place goes.there c.requires.ready.fits.field.boards;
     }
 
 pub settle-requires-clause-left : goal.settle-requires-clause-left
@@ -72,7 +76,7 @@ settle-requires-clause-left c =
     let work = next.is.work in
     ap (λ (k′ : Core). are_left c.in_ok-leaving.leaving.ran (work_of k′ f k)) kept.core
     ∙ ap (are_left c.in_ok-leaving.leaving.ran) next.is.there
-    ∙ ap (λ n. are_left n (Some work)) left.one
+    ∙ ap (λ n. are_left n (Some work)) left.ran
     ∙ le-leb (work.ran + 1) (length work.agents) (omega (arith, left_of_it core f k next c.requires.legal))
 
 pub settle-requires-clause-known : goal.settle-requires-clause-known

@@ -12,12 +12,10 @@ use Rattle.flame_spec.specs.States.{state_place}
 use Rattle.flame_world.specs.Fields.{joined}
 use Rattle.flame_world.specs.Iterations.{outcome_in, staying, taking}
 use Rattle.flame_world.specs.WorldFits.{AreWide}
-use Rattle.flame_core.specs.declared.takers.Ran.{Ran}
-use Rattle.flame_core.specs.declared.takers.Ran.TheVariants.{Left, Faulted}
+use Rattle.flame_leaving.specs.Leavings.{AreLeft}
 use Rattle.flame_progress.specs.KeptPools.{bag_of, bags_of, pools_of}
 use Rattle.flame_core.specs.KeptFields.{board_bag, field_of}
 use Rattle.flame_core.specs.KeptSteps.{round_of}
-use Rattle.flame_core.specs.TakerRuns.{Leaves}
 use Rattle.flame_progress.proofs.Changed.{changed_pool-length}
 use Rattle.flame_core.proofs.LeftRows.{born-within, sent-within}
 use Rattle.flame_core.proofs.NamedNumbers.{numbers-within}
@@ -83,11 +81,11 @@ settle-requires-clause-births c =
     let read = c.in_ok-boards.ensures.read ∙ ap (map (λ message. slice_index_or all message [])) c.items-inputs.ensures in
     let named = frozen-named source c.args.function goes.place c.route_of-route.result.now.inputs all _ goes.there goes.routed.inputs read in
     let run : List ℤ → Outcome = λ memory. outcome source c.args.function memory all round.constants.now round.iteration round.fuel in
-    let left : Leaves round.iteration c.args.function run c.in_ok-takers.takers (Left c.in-Left.left) =
-    subst (λ (ran : Ran). Leaves round.iteration c.args.function run c.in_ok-takers.takers ran) c.in-Left.is (c.in_ok-fault.ensures all named) in
+    let left : AreLeft round.iteration c.args.function run c.in_ok-takers.takers c.in_ok-leaving.leaving =
+    c.in_ok-leaving.ensures all named in
     let count : length source.model.agents ≡ length c.args.field.born.items =
     zip-length _ source.model.agents (bags_of c.args.field.born) c.requires.fits.born ∙ length-map c.args.field.born.items bag_of in
-    subst (λ (births : List Born). All (λ (b : Born). b.agent < length c.args.field.born.items) births) (sym left.3)
+    subst (λ (births : List Born). All (λ (b : Born). b.agent < length c.args.field.born.items) births) (sym left.born)
     (subst (λ n. All (λ (b : Born). b.agent < n) (born_from run c.in_ok-takers.takers)) count
     (born-within source c.args.function all round.constants.now round.iteration round.fuel c.in_ok-takers.takers))
 
@@ -100,18 +98,18 @@ settle-requires-clause-messages c =
     let read = c.in_ok-boards.ensures.read ∙ ap (map (λ message. slice_index_or all message [])) c.items-inputs.ensures in
     let named = frozen-named source c.args.function goes.place c.route_of-route.result.now.inputs all _ goes.there goes.routed.inputs read in
     let run : List ℤ → Outcome = λ memory. outcome source c.args.function memory all round.constants.now round.iteration round.fuel in
-    let left : Leaves round.iteration c.args.function run c.in_ok-takers.takers (Left c.in-Left.left) =
-    subst (λ (ran : Ran). Leaves round.iteration c.args.function run c.in_ok-takers.takers ran) c.in-Left.is (c.in_ok-fault.ensures all named) in
+    let left : AreLeft round.iteration c.args.function run c.in_ok-takers.takers c.in_ok-leaving.leaving =
+    c.in_ok-leaving.ensures all named in
     let count : length source.model.messages ≡ length c.freeze.new.boards.items =
     zip-length _ source.model.messages all c.requires.fits.boards
     ∙ ap length (sym c.in_ok-boards.ensures.kept)
     ∙ length-map c.freeze.new.boards.items board_bag in
-    subst (λ (sent : List Sent). All (λ (s : Sent). s.message < length c.freeze.new.boards.items) sent) (sym left.2)
+    subst (λ (sent : List Sent). All (λ (s : Sent). s.message < length c.freeze.new.boards.items) sent) (sym left.sent)
     (subst (λ n. All (λ (s : Sent). s.message < n) (sent_from run c.in_ok-takers.takers)) count
     (sent-within source c.args.function all round.constants.now round.iteration round.fuel c.in_ok-takers.takers))
 
-pub returns-in-Faulted : goal.returns-in-Faulted
-returns-in-Faulted c =
+pub returns-in-Some : goal.returns-in-Some
+returns-in-Some c =
     let round = c.args.round.now in
     let source = round.program.now in
     let goes = c.route_of-route.ensures in
@@ -122,13 +120,13 @@ returns-in-Faulted c =
     let run : List ℤ → Outcome = outcome_in (round_of round) c.args.function field in
     let took : c.in_ok-takers.takers ≡ taking (round_of round) c.args.function goes.place field =
     c.in_ok-takers.ensures.takers goes.place field goes.there refl in
-    let fault : Leaves round.iteration c.args.function run c.in_ok-takers.takers (Faulted c.in-Faulted.fault) =
-    subst (λ (ran : Ran). Leaves round.iteration c.args.function run c.in_ok-takers.takers ran) c.in-Faulted.is (c.in_ok-fault.ensures all named) in
-    sym (step-faults (round_of round) c.args.function goes.place field goes.there c.in-Faulted.fault
-    (ap (least_fault round.iteration c.args.function run) (sym took) ∙ fault))
+    let left : AreLeft round.iteration c.args.function run c.in_ok-takers.takers c.in_ok-leaving.leaving =
+    c.in_ok-leaving.ensures all named in
+    sym (step-faults (round_of round) c.args.function goes.place field goes.there c.in-Some.fault
+    (ap (least_fault round.iteration c.args.function run) (sym took) ∙ sym left.fault ∙ c.in-Some.is))
 
-pub returns-in_ok-settle-in-Left : goal.returns-in_ok-settle-in-Left
-returns-in_ok-settle-in-Left c =
+pub returns-in_ok-settle-in-None : goal.returns-in_ok-settle-in-None
+returns-in_ok-settle-in-None c =
     let round = c.args.round.now in
     let source = round.program.now in
     let goes = c.route_of-route.ensures in
@@ -140,12 +138,12 @@ returns-in_ok-settle-in-Left c =
     let run : List ℤ → Outcome = outcome_in (round_of round) c.args.function field in
     let took : c.in_ok-takers.takers ≡ taking (round_of round) c.args.function goes.place field =
     c.in_ok-takers.ensures.takers goes.place field goes.there refl in
-    let left : Leaves round.iteration c.args.function run (taking (round_of round) c.args.function goes.place field) (Left c.in-Left.left) =
-    subst (λ (agents : List (List ℤ)). Leaves round.iteration c.args.function run agents (Left c.in-Left.left)) took
-    (subst (λ (ran : Ran). Leaves round.iteration c.args.function run c.in_ok-takers.takers ran) c.in-Left.is (c.in_ok-fault.ensures all named)) in
-    let done = c.in_ok-settle-in-Left.ensures in
-    ap Ok (settled (round_of round) c.args.function goes.place field goes.there c.in-Left.left route (pools_of c.leave.new.pools)
-    (field_of c.in_ok-settle-in-Left.field-0) left.1 left.2 left.3 goes.routed.agent goes.routed.to
+    let left : AreLeft round.iteration c.args.function run (taking (round_of round) c.args.function goes.place field) c.in_ok-leaving.leaving =
+    subst (λ (agents : List (List ℤ)). AreLeft round.iteration c.args.function run agents c.in_ok-leaving.leaving) took
+    (c.in_ok-leaving.ensures all named) in
+    let done = c.in_ok-settle-in-None.ensures in
+    ap Ok (settled (round_of round) c.args.function goes.place field goes.there c.in_ok-leaving.leaving route (pools_of c.leave.new.pools)
+    (field_of c.in_ok-settle-in-None.field-0) left goes.routed.agent goes.routed.to
     (c.in_ok-takers.ensures.others goes.place goes.there) done.pools done.born
-    (done.boards ∙ ap (joined (messages_of c.in-Left.left.sent.items)) c.in_ok-boards.ensures.kept))
-    ∙ sym (step-goes (round_of round) c.args.function goes.place field goes.there left.0)
+    (done.boards ∙ ap (joined (messages_of c.in_ok-leaving.leaving.sent.items)) c.in_ok-boards.ensures.kept))
+    ∙ sym (step-goes (round_of round) c.args.function goes.place field goes.there (sym left.fault ∙ c.in-None.is))

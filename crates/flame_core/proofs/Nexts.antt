@@ -1,36 +1,12 @@
--- What the next agent of a piece leaves.
-use Rattle.std.proofs.Common.{◌≡◌, ℕ, zero, suc, ◌<◌, Bool, true, List, [], ◌∷◌, length, Option, Some, None, refl, sym, ap, ◌∙◌, subst, arith}
+-- The next agent of a piece.
+use Rattle.std.proofs.Common.{◌≡◌, ℕ, zero, suc, ◌<◌, Bool, true, List, [], ◌∷◌, length, Option, Some, None, refl, sym, ap, ◌∙◌, arith}
 use Rattle.std.specs.Prelude.{ℤ, slice_get, slice_index_or}
 use Rattle.std.specs.List.{All, list_all}
 use Rattle.std.proofs.lemmas.Bool.{and_parts, false≢true, ltb-true}
-use Rattle.flame_spec.specs.declared.outcomes.Outcome.{Outcome}
-use Rattle.flame_spec.specs.declared.outcomes.Source.{Source}
-use Rattle.flame_meaning.specs.Outcomes.{outcome, place_of}
-use Rattle.flame_world.specs.declared.settings.Setting.{Setting}
-use Rattle.flame_world.specs.InputBoards.{boards_named}
-use Rattle.flame_world.specs.Meaning.{outcome_under}
-use Rattle.flame_world.specs.Settings.{boards_of}
-use Rattle.flame_world.proofs.NamedBoards.{named_boards_are_enough}
 use Rattle.flame_events.specs.CoreStates.{Work, Core, work_of}
 use Rattle.flame_events.specs.LegalEvents.{may_run}
 use Rattle.flame_events.proofs.Spots.{get_there}
-use Rattle.flame_progress.specs.declared.leavings.Leaving.{Leaving}
-use Rattle.flame_core.specs.AgentLeavings.{HasNext, IsLeft, IsNext}
-
--- what is left under a setting is left over the boards of all messages
-pub named_left : (setting : Setting) (source : Source) (f : ℕ) (all : List (List (List ℤ))) (memory : List ℤ) (leaving : Leaving)
-    → setting.source.now ≡ source
-    → boards_of setting ≡ boards_named (place_of source f) source.model all
-    → IsLeft setting.iteration f memory (outcome_under setting f memory) leaving
-    → IsLeft setting.iteration f memory (outcome source f memory all setting.constants.now setting.iteration setting.fuel) leaving
-named_left setting source f all memory leaving same named left =
-    let P : Source → Type 0 = λ s.
-    boards_of setting ≡ boards_named (place_of s f) s.model all
-    → IsLeft setting.iteration f memory (outcome s f memory all setting.constants.now setting.iteration setting.fuel) leaving in
-    let Q : Outcome → Type 0 = λ o. IsLeft setting.iteration f memory o leaving in
-    subst P same (λ own. subst Q (named_boards_are_enough setting f memory all own) left) named
-
--- ---- the next agent
+use Rattle.flame_core.specs.NextAgents.{HasNext, IsNext}
 
 -- a piece that may run has a next agent
 pub has_next : (core : Core) (f k : ℕ) → may_run (work_of core f k) ≡ true → HasNext core f k

@@ -1,0 +1,133 @@
+//! What agents leave.
+
+ghost use Rattle.std.specs.Prelude.{◌≡◌, ◌+◌, ◌<◌, ◌^◌, ◌++◌, ◌∷◌, [], ℕ, ℤ, List, Some, IfOk, OnOk};
+ghost use Rattle.std.specs.List.{cons_option};
+ghost use Rattle.std.specs.Option.{option_or};
+ghost use Rattle.flame_spec.specs.declared.outcomes.Outcome.{Outcome as Ends};
+ghost use Rattle.flame_spec.specs.declared.outcomes.Outcome.TheVariants.{Faulted};
+ghost use Rattle.flame_world.specs.AgentRuns.{fault_by};
+ghost use Rattle.flame_leaving.specs.Leavings.{AreLeft};
+
+use flame_rows::{NoMemory, Row};
+use flame_spec::{Born, Effect, Fault, Outcome, Sent};
+use flame_world::SimFault;
+use std::alloc::Global;
+
+/// What some agents leave that ran a function, one after another.
+#[derive(Debug, Drop)]
+pub struct Leaving {
+    /// How many they are.
+    pub ran: usize,
+    /// The memories of those that live on.
+    pub survivors: Vec<Row>,
+    /// Their messages.
+    pub sent: Vec<Sent>,
+    /// The agents that they added.
+    pub born: Vec<Born>,
+    /// The fault of the first that faulted.
+    pub fault: Option<SimFault>,
+}
+
+/// The fault of an agent with this memory.
+fn fault_of(iteration: i32, function: u32, memory: &Row, fault: Fault) -> Result<SimFault, NoMemory>
+    ensures { IfOk result (λ sim. fault_by iteration function memory.now (Faulted fault) ≡ Some sim) }
+{
+    Ok(SimFault {
+        iteration,
+        function,
+        cause: fault.cause,
+        line: fault.line,
+        memory: memory.copy()?,
+    })
+}
+
+impl Leaving {
+    /// What no agent leaves.
+    pub fn nothing(alloc: Global) -> Leaving
+        ensures { (iteration : ℤ) (function : ℕ) (run : List ℤ → Ends) → AreLeft iteration function run [] result }
+    {
+        Leaving {
+            ran: 0,
+            survivors: Vec::new(alloc),
+            sent: Vec::new(alloc),
+            born: Vec::new(alloc),
+            fault: None,
+        }
+    }
+
+    /// Adds what a further agent left that ended.
+    fn end(&mut self, effect: Effect) -> Result<(), NoMemory>
+        ensures survivors { OnOk result (self.new.survivors.items
+            ≡ self.old.survivors.items ++ cons_option effect.memory []) }
+        ensures sent { OnOk result (self.new.sent.items ≡ self.old.sent.items ++ effect.sent) }
+        ensures born { OnOk result (self.new.born.items ≡ self.old.born.items ++ effect.born) }
+        ensures ran { OnOk result (self.new.ran ≡ self.old.ran) }
+        ensures fault { OnOk result (self.new.fault ≡ self.old.fault) }
+    {
+        let Effect {
+            memory,
+            sent,
+            born,
+            ..
+        } = effect;
+        if let Some(memory) = memory {
+            self.survivors.push(memory)?;
+        }
+        let (mut sent, mut born) = (sent.into_items(), born.into_items());
+        self.sent.append(&mut sent)?;
+        self.born.append(&mut born)?;
+        Ok(())
+    }
+
+    /// Keeps the fault of a further agent, where none faulted before it.
+    fn fail(
+        &mut self,
+        iteration: i32,
+        function: u32,
+        memory: &Row,
+        fault: Fault,
+    ) -> Result<(), NoMemory>
+        ensures fault { OnOk result (self.new.fault
+            ≡ option_or self.old.fault (fault_by iteration function memory.now (Faulted fault))) }
+        ensures survivors { OnOk result (self.new.survivors.items ≡ self.old.survivors.items) }
+        ensures sent { OnOk result (self.new.sent.items ≡ self.old.sent.items) }
+        ensures born { OnOk result (self.new.born.items ≡ self.old.born.items) }
+        ensures ran { OnOk result (self.new.ran ≡ self.old.ran) }
+    {
+        if self.fault.is_some() {
+            return Ok(());
+        }
+        let fault = fault_of(iteration, function, memory, fault)?;
+        self.fault = Some(fault);
+        Ok(())
+    }
+
+    /// A further agent ran, with this memory, the function of this number in the iteration of this number, and so it
+    /// ended: where this is what some agents leave, it is what these and then that one leave. After `NoMemory` it may
+    /// have a part of what that one left, and is of no further use.
+    pub fn add(
+        &mut self,
+        iteration: i32,
+        function: u32,
+        memory: &Row,
+        outcome: Outcome,
+    ) -> Result<(), NoMemory>
+        requires { self.old.ran + 1 < 2 ^ 64 }
+        ensures { OnOk result ((run : List ℤ → Ends) (agents : List (List ℤ))
+            → run memory.now ≡ outcome
+            → AreLeft iteration function run agents self.old
+            → AreLeft iteration function run (agents ++ memory.now ∷ []) self.new) }
+    {
+        self.ran += 1;
+        match outcome {
+            Outcome::Ended(effect) => {
+                self.end(effect)?;
+                Ok(())
+            }
+            Outcome::Faulted(fault) => {
+                self.fail(iteration, function, memory, fault)?;
+                Ok(())
+            }
+        }
+    }
+}
