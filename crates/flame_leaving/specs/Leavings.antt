@@ -1,13 +1,14 @@
 -- What agents leave that run a function one after another.
 use Rattle.std.specs.Prelude.{◌≡◌, ℕ, ℤ, List, length}
 use Rattle.std.specs.List.{filter_map}
+use Rattle.flame_rows.specs.Bags.{ascending}
 use Rattle.flame_spec.specs.declared.outcomes.Outcome.{Outcome}
 use Rattle.flame_world.specs.AgentRuns.{kept, sent_from, born_from, least_fault}
 use Rattle.flame_leaving.specs.declared.leavings.Leaving.{Leaving}
 
 -- these agents leave this, where they run the function of this number in the iteration of this number and `run` gives
 -- the outcome for an agent's memory: how many ran, the memories that are kept, the messages and the births, agent by
--- agent, and the first fault [own]
+-- agent, and the fault of the least of them in content order that faults [own]
 pub record AreLeft
     (iteration : ℤ) (function : ℕ) (run : List ℤ → Outcome) (agents : List (List ℤ)) (leaving : Leaving) :
     Type 0 where
@@ -15,4 +16,4 @@ pub record AreLeft
   pub survivors : leaving.survivors.items ≡ filter_map (λ memory. kept (run memory)) agents
   pub sent : leaving.sent.items ≡ sent_from run agents
   pub born : leaving.born.items ≡ born_from run agents
-  pub fault : leaving.fault ≡ least_fault iteration function run agents
+  pub fault : leaving.fault ≡ least_fault iteration function run (ascending agents)
