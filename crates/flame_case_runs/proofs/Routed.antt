@@ -9,7 +9,7 @@ use Rattle.flame_route.specs.declared.routes.Route.{Route}
 use Rattle.flame_route.specs.declared.routes.Routes.{Routes}
 use Rattle.flame_route.specs.ModelRoutes.{AreRoutesOf, IsRouteOf}
 use Rattle.flame_world.specs.InputBoards.{boards_named}
-use Rattle.flame_core.proofs.NamedNumbers.{named-numbers}
+use Rattle.flame_round.proofs.NamedNumbers.{named-numbers}
 
 -- ---- two lists, place by place
 

@@ -52,7 +52,7 @@ module _ (model : Model) (progress : Progress) (counts : Counts) (tallies : Tall
   -- ---- a board is frozen
 
   pub record CanFreeze (m : ℕ) : Type 0 where
-    pub known : m < length progress.boards.items
+    pub known : m < length progress.field.boards.items
     pub inputs : (thing_at counts.inputs.things m).done ≡ false
 
   pub can_freeze : (m : ℕ) → may_freeze model core m ≡ true → CanFreeze m
@@ -74,7 +74,7 @@ module _ (model : Model) (progress : Progress) (counts : Counts) (tallies : Tall
   pub record CanHandIn (f k m : ℕ) : Type 0 where
     pub known : f < length progress.statuses.items
     pub there : k < length (works_of (status_of core f))
-    pub board : m < length progress.boards.items
+    pub board : m < length progress.field.boards.items
     pub gathers : is_frozen core m ≡ false
     pub once : OutputsOnce (kept_at progress f)
 

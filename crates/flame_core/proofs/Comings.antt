@@ -42,11 +42,11 @@ use Rattle.flame_leaving.specs.declared.leavings.Leaving.{Leaving}
 use Rattle.flame_leaving.specs.Leavings.{AreLeft}
 use Rattle.flame_progress.specs.declared.progress.Progress.{Progress}
 use Rattle.flame_progress.specs.KeptCores.{core_of}
-use Rattle.flame_progress.specs.KeptPools.{bags_of}
+use Rattle.flame_field.specs.KeptPools.{bags_of}
 use Rattle.flame_progress.specs.KeptCounts.{Counted}
 use Rattle.flame_progress.specs.KeptWorkEvents.{added}
 use Rattle.flame_progress.specs.Tallying.{Came}
-use Rattle.flame_progress.proofs.Changed.{changed_pool-to}
+use Rattle.flame_field.proofs.Changed.{changed_pool-to}
 use Rattle.flame_progress.proofs.Tallied.{counted_kept, status_kept}
 use Rattle.flame_core.specs.KeptReady.{IsKeptCore}
 use Rattle.flame_core.specs.SeenCores.{Seen, IsReached, round_in, start_in, when_came}
@@ -227,9 +227,9 @@ finished every seen entry same accepted reached complete r ends =
     ∙ ap (λ (s : Seen). iteration s.source s.world s.iteration s.fuel) same)
     ends
 
-pub as_many : (model : Model) (progress : Progress) → FitsCore model (core_of progress) → length model.agents ≡ length progress.pools.items
+pub as_many : (model : Model) (progress : Progress) → FitsCore model (core_of progress) → length model.agents ≡ length progress.field.pools.items
 as_many model progress fits =
-    zip-length _ model.agents (core_of progress).field.pools fits.field.pools ∙ length-map progress.pools.items bags_of
+    zip-length _ model.agents (core_of progress).field.pools fits.field.pools ∙ length-map progress.field.pools.items bags_of
 
 -- ---- what is kept when a function is opened
 

@@ -6,7 +6,7 @@ use Rattle.flame_world.specs.declared.worlds.World.{World}
 use Rattle.flame_progress.specs.declared.counts.Counts.{Counts}
 use Rattle.flame_progress.specs.declared.progress.Progress.{Progress}
 use Rattle.flame_progress.specs.KeptCores.{core_of}
-use Rattle.flame_core.specs.declared.rounds.Round as run
+use Rattle.flame_round.specs.declared.rounds.Round as run
 use Rattle.flame_core.specs.KeptReady.{Ready, IsKeptCore}
 use Rattle.flame_core.specs.SeenCores.{Seen}
 use Rattle.flame_core.proofs.Comings.{reached_fits}

@@ -1,16 +1,8 @@
-mod BoardBags
-mod StatePlaces
-mod LeftRows
-pub mod NamedNumbers
-mod Gets
-mod Beginnings
-mod Stepped
 mod InOrders
 mod Openings
 mod OutputsOnce
 mod Comings
 mod Ranks
-mod Past
 mod Finished
 mod Faulting
 mod Counting

@@ -11,8 +11,8 @@ use Rattle.flame_route.specs.declared.routes.Route.{Route}
 use Rattle.flame_route.specs.declared.routes.Routes.{Routes}
 use Rattle.flame_route.specs.ModelRoutes.{AreRoutesOf, IsRouteOf}
 use Rattle.flame_route.proofs.Places.{zip-length}
-use Rattle.flame_core.specs.KeptSteps.{GoesBy}
-use Rattle.flame_core.proofs.Gets.{has-at}
+use Rattle.flame_round.specs.KeptRounds.{GoesBy}
+use Rattle.flame_round.proofs.Gets.{has-at}
 
 pub routes_many : (model : Model) (routes : Routes) → AreRoutesOf model routes → function_count model ≡ length routes.routes
 routes_many model routes are = zip-length (IsRouteOf model) (functions model) routes.routes are.each

@@ -13,17 +13,17 @@ use Rattle.flame_events.specs.CoreStates.{Core, is_waiting, status_of, work_of, 
 use Rattle.flame_events.specs.LegalEvents.{inputs_at, inputs_of, may_run}
 use Rattle.flame_events.proofs.Sound.{opens_with}
 use Rattle.flame_pieces.specs.KeptStatuses.{status_of as kept_status}
-use Rattle.flame_progress.specs.declared.boards.Board.{Board}
+use Rattle.flame_field.specs.declared.boards.Board.{Board}
 use Rattle.flame_progress.specs.declared.counts.Counts.{Counts}
 use Rattle.flame_progress.specs.declared.progress.Progress.{Progress}
-use Rattle.flame_progress.specs.KeptBoards.{board_bag, is_board_frozen}
+use Rattle.flame_field.specs.KeptBoards.{board_bag, is_board_frozen}
 use Rattle.flame_progress.specs.KeptCores.{core_of}
 use Rattle.flame_progress.specs.Tallying.{Tallies}
 use Rattle.flame_progress.proofs.Known.{open_within}
 use Rattle.flame_route.specs.declared.routes.Route.{Route}
 use Rattle.flame_core.specs.NextAgents.{IsNext}
 use Rattle.flame_core.specs.KeptShares.{IsFed}
-use Rattle.flame_core.specs.KeptSteps.{GoesBy}
+use Rattle.flame_round.specs.KeptRounds.{GoesBy}
 use Rattle.flame_core.proofs.Nexts.{each_passes, has_next}
 use Rattle.flame_core.proofs.Openings.{all_found}
 use Rattle.flame_core.proofs.Shown.{marked_within}
@@ -31,8 +31,8 @@ use Rattle.flame_meaning.proofs.Eachs.{each_at}
 
 -- boards that are shared are the boards that they were
 pub same_core : (progress : Progress) (boards : Vec Board Global)
-    → map board_bag boards.items ≡ map board_bag progress.boards.items
-    → map is_board_frozen boards.items ≡ map is_board_frozen progress.boards.items
+    → map board_bag boards.items ≡ map board_bag progress.field.boards.items
+    → map is_board_frozen boards.items ≡ map is_board_frozen progress.field.boards.items
     → core_of (record progress { boards = boards }) ≡ core_of progress
 same_core progress boards bags marks =
     let core = core_of progress in
@@ -72,8 +72,8 @@ fed_frozen model progress f route goes fed began =
     (each_passes (is_frozen core) (inputs_of model f) (fed.fed began))
 
 pub fed_known : (model : Model) (progress : Progress) (f : ℕ) (route : Route) (goes : GoesBy model f route) → IsFed model progress f
-    → is_waiting (status_of (core_of progress) f) ≡ false → All (λ m. m < length progress.boards.items) route.inputs
+    → is_waiting (status_of (core_of progress) f) ≡ false → All (λ m. m < length progress.field.boards.items) route.inputs
 fed_known model progress f route goes fed began = λ j d less.
     let core = core_of progress in
     let frozen = fed_frozen model progress f route goes fed began in
-    omega (arith, marked_within core.frozen (slice_index_or route.inputs j d) (frozen j d less), length-map progress.boards.items is_board_frozen)
+    omega (arith, marked_within core.frozen (slice_index_or route.inputs j d) (frozen j d less), length-map progress.field.boards.items is_board_frozen)

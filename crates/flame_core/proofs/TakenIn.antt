@@ -41,11 +41,11 @@ use Rattle.flame_progress.specs.KeptWorkEvents.{added}
 use Rattle.flame_progress.specs.Tallying.{Came}
 use Rattle.flame_progress.proofs.Known.{open_within}
 use Rattle.flame_progress.proofs.Tallied.{came, counted_kept, status_kept}
-use Rattle.flame_core.specs.declared.rounds.Round as run
+use Rattle.flame_round.specs.declared.rounds.Round as run
 use Rattle.flame_core.specs.CoreCalls.{Absorbed, CanAbsorb}
 use Rattle.flame_core.specs.KeptReady.{InOrder, Ready}
 use Rattle.flame_core.specs.KeptShares.{as_sent, CanTakeIn, IsFed, IsSettingOf}
-use Rattle.flame_core.specs.KeptSteps.{GoesBy, round_of}
+use Rattle.flame_round.specs.KeptRounds.{GoesBy, round_of}
 use Rattle.flame_core.specs.SeenCores.{Seen, round_in, when_came}
 use Rattle.flame_core.proofs.SharedPieces.{absorbed_is, in_parts, parts_have}
 use Rattle.flame_meaning.proofs.Eachs.{each_at}

@@ -13,7 +13,7 @@ use Rattle.flame_progress.specs.declared.counts.Counts.{Counts}
 use Rattle.flame_progress.specs.declared.progress.Progress.{Progress}
 use Rattle.flame_progress.specs.KeptCores.{core_of}
 use Rattle.flame_progress.specs.Tallying.{Tallies}
-use Rattle.flame_core.specs.declared.rounds.Round as run
+use Rattle.flame_round.specs.declared.rounds.Round as run
 use Rattle.flame_core.specs.SeenCores.{Seen, IsReached}
 
 -- a function that began has its boards frozen, and a frozen board its writers shut; functions have no more pieces than this

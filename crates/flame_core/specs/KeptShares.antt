@@ -14,7 +14,7 @@ use Rattle.flame_events.specs.CoreStates.{Work, Core, is_frozen, is_waiting, sta
 use Rattle.flame_events.specs.LegalEvents.{inputs_of}
 use Rattle.flame_progress.specs.declared.progress.Progress.{Progress}
 use Rattle.flame_progress.specs.KeptCores.{core_of}
-use Rattle.flame_core.specs.declared.rounds.Round as run
+use Rattle.flame_round.specs.declared.rounds.Round as run
 
 -- messages of this type with these rows [own]
 abbrev pub as_sent : ℕ → List (List ℤ) → List Sent

@@ -4,9 +4,7 @@
 -- ---- how a core is seen, and what its calls answer
 pub mod CoreCalls
 pub mod SeenCores
--- ---- the words that only bodies and proofs use; what runners promise is said in flame_world's words
-pub mod KeptFields
-pub mod KeptSteps
+-- ---- the words that only bodies and proofs use
 pub mod NextAgents
 pub mod KeptReady
 pub mod KeptShares

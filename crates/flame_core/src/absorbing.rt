@@ -12,20 +12,20 @@ ghost use Rattle.flame_events.specs.AbsorbedPieces.{agent_events};
 ghost use Rattle.flame_events.specs.EventSteps.{replay};
 ghost use Rattle.flame_pieces.specs.KeptWorks.{work_of as kept_work};
 ghost use Rattle.flame_progress.specs.declared.counts.Counts.{Counts as Kept};
-ghost use Rattle.flame_progress.specs.KeptBoards.{board_bag, is_board_frozen};
+ghost use Rattle.flame_field.specs.KeptBoards.{board_bag, is_board_frozen};
 ghost use Rattle.flame_progress.specs.KeptCores.{core_of};
 ghost use Rattle.flame_progress.specs.Tallying.{Came};
 ghost use Rattle.flame_core.specs.KeptShares.{as_sent, CanTakeIn, IsFed, IsSettingOf};
 ghost use Rattle.flame_core.specs.KeptReady.{Ready};
-ghost use Rattle.flame_core.specs.KeptSteps.{GoesBy, round_of};
+ghost use Rattle.flame_round.specs.KeptRounds.{GoesBy, round_of};
 
-use crate::rounds::Round;
 use crate::starting::same_rows;
-use crate::steps::route_of;
+use flame_field::Board;
 use flame_index::Frozen;
 use flame_leaving::Leaving;
 use flame_pieces::Work;
-use flame_progress::{Board, Progress};
+use flame_progress::Progress;
+use flame_round::{Round, route_of};
 use flame_route::Route;
 use flame_rows::{NoMemory, Row, Same};
 use flame_spec::Sent;
@@ -111,7 +111,7 @@ pub(crate) fn can_absorb(round: &Round<'_>, progress: &Progress, share: &Share<'
             is_untouched(work, piece)
                 && is_setting(
                     round,
-                    &progress.boards,
+                    &progress.field.boards,
                     piece.function,
                     route_of(round, piece.function),
                     share.setting(),

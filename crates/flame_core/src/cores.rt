@@ -4,6 +4,7 @@ mod changes;
 mod ends;
 mod reading;
 
+use flame_field::Want;
 use flame_program::Program;
 use flame_progress::{Counts, Progress};
 use flame_world::World;
@@ -21,6 +22,7 @@ pub struct Core<'a> {
     pieces: u32,
     progress: Progress,
     counts: Counts,
+    wants: Vec<Vec<Want>>,
 }
 
 impl<'a> Model for Core<'a> {

@@ -9,16 +9,15 @@ ghost use Rattle.flame_world.specs.WorldFits.{FitMessages};
 ghost use Rattle.flame_agent.specs.FunctionFits.{AreBoardsFor};
 ghost use Rattle.flame_events.specs.CoreStates.{is_waiting, status_of};
 ghost use Rattle.flame_progress.specs.declared.counts.Counts.{Counts as Kept};
-ghost use Rattle.flame_progress.specs.KeptBoards.{board_bag};
+ghost use Rattle.flame_field.specs.KeptBoards.{board_bag};
 ghost use Rattle.flame_progress.specs.KeptCores.{core_of};
 ghost use Rattle.flame_progress.specs.Tallying.{Came, Tallies};
 ghost use Rattle.flame_core.specs.KeptShares.{IsFed};
 
-use crate::rounds::Round;
-use crate::steps::route_of;
-use crate::wants::{single_readers, wants_of};
+use flame_field::share;
 use flame_index::Frozen;
-use flame_progress::{Progress, share};
+use flame_progress::Progress;
+use flame_round::{Round, route_of};
 use flame_rows::{NoMemory, Seq};
 use std::alloc::Global;
 use std::sync::Arc;
@@ -35,17 +34,15 @@ pub(crate) fn input_boards(
     requires began { is_waiting (status_of (core_of progress.old) function) ≡ false }
     ensures read { IfOk result (λ boards. map shared_messages boards
         ≡ boards_named (place_of round.now.program.now function) round.now.program.now.model
-        (map board_bag progress.old.boards.items)) }
+        (map board_bag progress.old.field.boards.items)) }
     ensures wide { IfOk result (λ boards. (place : Place)
         → slice_get (functions round.now.program.now.model) function ≡ Some place
-        → FitMessages round.now.program.now.model (map board_bag progress.old.boards.items)
+        → FitMessages round.now.program.now.model (map board_bag progress.old.field.boards.items)
         → AreBoardsFor round.now.program.now.model place.function.inputs (map shared_messages boards)) }
     ensures kept { (counts : Kept) → Tallies round.now.program.now.model progress.old counts
         → Came round.now.program.now.model (core_of progress.old) progress.new counts }
 {
-    let route = route_of(round, function);
-    let inputs = route.inputs.items();
-    let readers = single_readers(progress, function);
-    let wants = wants_of(alloc, round.program, function, inputs.len(), readers);
-    Ok(Seq::of(share(alloc, &mut progress.boards, inputs, &wants)?))
+    let inputs = route_of(round, function).inputs.items();
+    let boards = share(alloc, &mut progress.field.boards, inputs, round.wants)?;
+    Ok(Seq::of(boards))
 }

@@ -9,16 +9,14 @@ ghost use Rattle.flame_events.specs.CoreStates.{opening_core};
 ghost use Rattle.flame_events.specs.LegalEvents.{inputs_of, outputs_of};
 ghost use Rattle.flame_pieces.specs.FreeThings.{Tells};
 ghost use Rattle.flame_core.specs.KeptStarts.{SameStart};
-ghost use Rattle.flame_progress.specs.KeptBoards.{board_bag, is_board_frozen};
 ghost use Rattle.flame_progress.specs.KeptCores.{core_of, HasOutputsAt};
 
-use crate::iterations::pools_begun;
 use flame_depend::edges;
 use flame_pieces::{Status, Waits};
 use flame_program::Program;
-use flame_progress::{Board, Counts, Progress, tell_waiters, wait_for};
+use flame_progress::{Counts, Progress, tell_waiters, wait_for};
+use flame_round::opened;
 use flame_rows::{Bag, NoMemory, Row, Same, Seq};
-use flame_spec::MessageType;
 use flame_world::World;
 use std::alloc::Global;
 
@@ -111,18 +109,6 @@ fn all_waiting(alloc: Global, functions: usize) -> Result<Vec<Status>, NoMemory>
     Ok(statuses)
 }
 
-/// Boards of these messages, which gather.
-fn all_gathering(alloc: Global, messages: &[MessageType]) -> Result<Vec<Board>, NoMemory>
-    ensures bags { IfOk result (λ boards. map board_bag boards.items ≡ map (λ message. []) messages.now) }
-    ensures marks { IfOk result (λ boards. map is_board_frozen boards.items ≡ map (λ message. false) messages.now) }
-{
-    let mut boards = Vec::new(alloc);
-    for _message in messages {
-        boards.push(Board::empty(alloc))?;
-    }
-    Ok(boards)
-}
-
 /// An iteration begins: functions wait, boards gather, and these agents rest in their start states.
 pub(crate) fn begun(
     alloc: Global,
@@ -134,14 +120,8 @@ pub(crate) fn begun(
     ensures outputs { IfOk result (λ progress. (function : ℕ) (outputs : List ℕ) → HasOutputsAt progress function outputs) }
 {
     let statuses = all_waiting(alloc, program.functions())?;
-    let boards = all_gathering(alloc, program.source().model.messages.items())?;
-    let pools = pools_begun(alloc, program, agents)?;
-    Ok(Progress {
-        statuses,
-        pools,
-        born: Vec::new(alloc),
-        boards,
-    })
+    let field = opened(alloc, program, agents)?;
+    Ok(Progress { statuses, field })
 }
 
 /// Functions wait for those that stand before them.

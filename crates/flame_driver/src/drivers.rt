@@ -10,11 +10,11 @@ ghost use Rattle.flame_driver.specs.DriveAnswers.{Drives};
 
 use crate::iterations::iterate_once;
 use crate::plans::Plan;
-use flame_core::Runner;
 use flame_outside::{Depot, Sink};
 use flame_popfile::{Format, Start};
 use flame_program::Program;
 use flame_rows::NoMemory;
+use flame_runner::Runner;
 use flame_world::SimFault;
 use std::alloc::Global;
 use std::sync::Wait;

@@ -65,10 +65,10 @@ pub fn choose<R: Threads + Sync>(
     Ok(Seq::of(choices))
 }
 
-/// The same on one thread.
+/// The same on one thread, of agents in any order.
 pub fn choose_here(
     alloc: Global,
-    pool: &Bag,
+    pool: &[Row],
     conditions: &Seq<Option<Cond>>,
     functions: &[u32],
     iteration: i32,
@@ -79,7 +79,7 @@ pub fn choose_here(
 {
     let conditions = conditions.items();
     let mut choices = Vec::new(alloc);
-    for memory in pool.rows() {
+    for memory in pool {
         choices.push(first_place(memory, conditions, functions, iteration))?;
     }
     Ok(Seq::of(choices))

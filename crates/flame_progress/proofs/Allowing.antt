@@ -73,7 +73,7 @@ module _ (model : Model) (progress : Progress) (counts : Counts) (tallies : Tall
       ap (λ b. ((b && is_waiting (status_of core f)) && are_shut core (predecessors model f)) && list_all (is_frozen core) (inputs_of model f))
       (le-ltb f (function_count model) (omega (arith, over, tallies.functions)))
 
-  pub may_freeze_is : (m : ℕ) → m < length progress.boards.items
+  pub may_freeze_is : (m : ℕ) → m < length progress.field.boards.items
       → may_freeze model (core_of progress) m ≡ (not (is_frozen (core_of progress) m) && is_free counts.outputs m)
   may_freeze_is m less =
       let core = core_of progress in
@@ -81,7 +81,7 @@ module _ (model : Model) (progress : Progress) (counts : Counts) (tallies : Tall
       let shut = sym (writers_free m) in
       λ i. (here i && not (is_frozen core m)) && shut i
 
-  pub may_not_freeze : (m : ℕ) → length progress.boards.items ≤ m → may_freeze model (core_of progress) m ≡ false
+  pub may_not_freeze : (m : ℕ) → length progress.field.boards.items ≤ m → may_freeze model (core_of progress) m ≡ false
   may_not_freeze m over =
       let core = core_of progress in
       ap (λ b. (b && not (is_frozen core m)) && are_shut core (writers model m))

@@ -11,8 +11,8 @@ use Rattle.flame_events.specs.CoreStates.{Status, Waiting}
 use Rattle.flame_pieces.specs.declared.statuses.Status as kept
 use Rattle.flame_pieces.specs.declared.statuses.Status.TheVariants as is
 use Rattle.flame_pieces.specs.KeptStatuses.{status_of as kept_status, HasOutputs}
-use Rattle.flame_progress.specs.declared.gatherings.Gathering.{Gathering}
-use Rattle.flame_progress.specs.KeptPools.{pools_of, bags_of}
+use Rattle.flame_field.specs.declared.gatherings.Gathering.{Gathering}
+use Rattle.flame_field.specs.KeptPools.{pools_of, bags_of}
 use Rattle.flame_progress.proofs.Borne.{joined-later}
 use Rattle.flame_world.proofs.Counting.{length-changed}
 

@@ -1,7 +1,3 @@
-pub mod Changed
-pub mod Gathered
-pub mod Joining
-pub mod Written
 pub mod Borne
 pub mod Known
 pub mod Tallied

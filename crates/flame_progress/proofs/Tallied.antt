@@ -15,7 +15,7 @@ use Rattle.flame_pieces.specs.KeptStatuses.{status_of as kept_status}
 use Rattle.flame_pieces.proofs.Freeing.{what_is_done_is_told}
 use Rattle.flame_progress.specs.declared.counts.Counts.{Counts}
 use Rattle.flame_progress.specs.declared.progress.Progress.{Progress}
-use Rattle.flame_progress.specs.KeptBoards.{is_board_frozen}
+use Rattle.flame_field.specs.KeptBoards.{is_board_frozen}
 use Rattle.flame_progress.specs.KeptCores.{core_of, HasOutputsAt}
 use Rattle.flame_progress.specs.KeptCounts.{Counted}
 use Rattle.flame_progress.specs.Tallying.{Tallies, Came}

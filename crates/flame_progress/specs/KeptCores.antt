@@ -1,25 +1,19 @@
 -- How a core is kept.
-use Rattle.std.specs.Prelude.{ℕ, List, [], map, slice_index_or}
-use Rattle.flame_world.specs.AgentRuns.{births_of}
-use Rattle.flame_world.specs.Fields.{joined}
+use Rattle.std.specs.Prelude.{ℕ, List, map, slice_index_or}
 use Rattle.flame_events.specs.CoreStates.{Core}
 use Rattle.flame_pieces.specs.declared.statuses.Status.{Status}
 use Rattle.flame_pieces.specs.declared.statuses.Status.TheVariants.{Waiting}
 use Rattle.flame_pieces.specs.KeptStatuses.{status_of, HasOutputs}
 use Rattle.flame_progress.specs.declared.progress.Progress as run
-use Rattle.flame_progress.specs.KeptBoards.{board_bag, is_board_frozen}
-use Rattle.flame_progress.specs.KeptPools.{pools_of}
+use Rattle.flame_field.specs.KeptBoards.{is_board_frozen}
+use Rattle.flame_field.specs.KeptFields.{field_of}
 
--- the core that it is: births are kept as they came, and parted by type at the end [own]
+-- the core that it is [own]
 abbrev pub core_of : run.Progress → Core
 core_of progress = record {
   statuses = map status_of progress.statuses.items;
-  field = record {
-    pools = pools_of progress.pools;
-    born = joined (births_of progress.born.items) (map (λ pools. []) progress.pools.items);
-    boards = map board_bag progress.boards.items;
-  };
-  frozen = map is_board_frozen progress.boards.items;
+  field = field_of progress.field;
+  frozen = map is_board_frozen progress.field.boards.items;
 }
 
 -- how far the function of this number is kept to be [own]

@@ -14,7 +14,7 @@ use Rattle.flame_progress.specs.KeptCounts.{Counted}
 -- what waits for what is counted [own]
 pub record Tallies (model : Model) (progress : Progress) (counts : Counts) : Type 0 where
   pub functions : length progress.statuses.items ≡ function_count model
-  pub messages : length progress.boards.items ≡ length model.messages
+  pub messages : length progress.field.boards.items ≡ length model.messages
   pub outputs : (function : ℕ) → HasOutputsAt progress function (outputs_of model function)
   pub once : (function : ℕ) → HasNoTwice (outputs_of model function)
   pub counted : Counted model (core_of progress) counts
@@ -23,7 +23,7 @@ pub record Tallies (model : Model) (progress : Progress) (counts : Counts) : Typ
 pub record Sizes (progress : Progress) (counts : Counts) : Type 0 where
   pub functions : counts.functions.count ≡ length progress.statuses.items
   pub inputs : counts.inputs.count ≡ length progress.statuses.items
-  pub outputs : counts.outputs.count ≡ length progress.boards.items
+  pub outputs : counts.outputs.count ≡ length progress.field.boards.items
 
 -- this core came, and is told of [own]
 pub record Came (model : Model) (next : Core) (progress : Progress) (counts : Counts) : Type 0 where

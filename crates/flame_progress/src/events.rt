@@ -36,7 +36,7 @@ pub fn shut(progress: &mut Progress, counts: &mut Counts, function: u32)
 
 /// The board of this number is complete.
 pub fn freeze(progress: &mut Progress, counts: &mut Counts, message: u32)
-    requires known { message < length progress.old.boards.items }
+    requires known { message < length progress.old.field.boards.items }
     requires inputs { (thing_at counts.old.inputs.things message).done ≡ false }
     ensures { (round : Round) (pieces : ℕ)
         → Tallies round.source.model progress.old counts.old
@@ -59,7 +59,7 @@ pub fn hand_in(
 ) -> Result<(), NoMemory>
     requires known { function < length progress.old.statuses.items }
     requires there { piece < length (works_of (status_of (core_of progress.old) function)) }
-    requires board { message < length progress.old.boards.items }
+    requires board { message < length progress.old.field.boards.items }
     requires gathers { is_frozen (core_of progress.old) message ≡ false }
     requires once { OutputsOnce (kept_at progress.old function) }
     ensures ok { OnOk result ((round : Round) (pieces : ℕ) (counts : Kept)

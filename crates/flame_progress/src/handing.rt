@@ -10,10 +10,10 @@ ghost use Rattle.flame_world.specs.Fields.{changed};
 ghost use Rattle.flame_events.specs.CoreStates.{Work as Meant, Open, part_in, works_of};
 ghost use Rattle.flame_pieces.specs.KeptWorks.{work_of, outputs_in};
 ghost use Rattle.flame_pieces.specs.KeptStatuses.{status_of, HasOutputs};
-ghost use Rattle.flame_progress.specs.KeptBoards.{board_bag, is_board_frozen};
+ghost use Rattle.flame_field.specs.KeptBoards.{board_bag, is_board_frozen};
 ghost use Rattle.flame_progress.specs.KeptWorkEvents.{without, OutputsOnce};
 
-use crate::boards::Board;
+use flame_field::Board;
 use flame_pieces::{Status, Work};
 use flame_rows::NoMemory;
 use std::alloc::Global;

@@ -68,7 +68,7 @@ fn may_freeze(progress: &Progress, counts: &Counts, message: u32) -> bool
     ensures { (model : Kind) → Tallies model progress.now counts.now
         → result ≡ may_freeze model (core_of progress.now) message }
 {
-    if message as usize >= progress.boards.len() {
+    if message as usize >= progress.field.boards.len() {
         return false;
     }
     if progress.is_frozen(message) {

@@ -14,21 +14,18 @@ ghost use Rattle.flame_events.specs.EventSteps.{done_with, with_work};
 ghost use Rattle.flame_events.specs.LegalEvents.{may_run, may_hand_in, may_shut};
 ghost use Rattle.flame_pieces.specs.KeptWorks.{work_of as kept_work, outputs_in};
 ghost use Rattle.flame_pieces.specs.KeptStatuses.{status_of as kept_status, HasOutputs};
-ghost use Rattle.flame_progress.specs.KeptPools.{bag_of};
-ghost use Rattle.flame_progress.specs.KeptBoards.{board_bag, is_board_frozen};
+ghost use Rattle.flame_field.specs.KeptPools.{bag_of};
+ghost use Rattle.flame_field.specs.KeptBoards.{board_bag, is_board_frozen};
 ghost use Rattle.flame_progress.specs.KeptCores.{core_of, kept_at, HasOutputsAt};
 ghost use Rattle.flame_progress.specs.KeptWorkEvents.{added, are_left, without, OutputsOnce};
 
-use crate::boards::Board;
-use crate::gatherings::Gathering;
 use crate::handing::hand_over_at;
-use crate::pools::{pool_of, replace};
 use crate::settling::settle_function;
+use flame_field::{Board, Field, Gathering, exchange, pool_of};
 use flame_index::Frozen;
 use flame_leaving::Leaving;
 use flame_pieces::{Status, Work};
 use flame_rows::{Bag, NoMemory};
-use flame_spec::Born;
 use std::alloc::Global;
 
 /// How far an iteration is: how far each function is, and where agents, births and messages are.
@@ -36,12 +33,8 @@ use std::alloc::Global;
 pub struct Progress {
     /// How far each function is, in document order.
     pub statuses: Vec<Status>,
-    /// For each agent type, for each of its states, the agents that rest there.
-    pub pools: Vec<Vec<Gathering>>,
-    /// All births so far, of whatever type.
-    pub born: Vec<Born>,
-    /// The board of each message.
-    pub boards: Vec<Board>,
+    /// Where agents, births and messages are.
+    pub field: Field,
 }
 
 impl Progress {
@@ -61,7 +54,7 @@ impl Progress {
         ensures frozen { option_map (λ board. is_board_frozen board.now) result
             ≡ slice_get (core_of self.now).frozen message }
     {
-        self.boards.get(message as usize)
+        self.field.boards.get(message as usize)
     }
 
     /// Whether it has not begun.
@@ -142,7 +135,7 @@ impl Progress {
         requires { state < length (slice_index_or (core_of self.now).field.pools agent []) }
         ensures { bag_of result.now ≡ pool_in (core_of self.now).field.pools agent state }
     {
-        pool_of(&self.pools, agent, state)
+        pool_of(&self.field.pools, agent, state)
     }
 
     /// The function of this number is done.
@@ -160,13 +153,13 @@ impl Progress {
 
     /// The board of this number is complete.
     pub(crate) fn freeze(&mut self, message: u32)
-        requires { message < length self.old.boards.items }
+        requires { message < length self.old.field.boards.items }
         ensures core { core_of self.new ≡ record (core_of self.old) {
           frozen = slice_set (core_of self.old).frozen message true;
         } }
         ensures statuses { self.new.statuses.items ≡ self.old.statuses.items }
     {
-        self.boards[message as usize].freeze();
+        self.field.boards[message as usize].freeze();
     }
 
     /// The takers of the function of this number leave their state, in these pieces, and these agents stay.
@@ -181,7 +174,12 @@ impl Progress {
         } }
         ensures statuses { self.new.statuses.items ≡ slice_set self.old.statuses.items function (Status.Open works) }
     {
-        replace(&mut self.pools, agent, state, Gathering::of(staying));
+        exchange(
+            &mut self.field.pools,
+            agent,
+            state,
+            Gathering::of(staying),
+        );
         self.statuses[function as usize] = Status::Open(works);
     }
 
@@ -216,10 +214,10 @@ impl Progress {
         settle_function(
             &mut self.statuses[function as usize],
             piece,
-            &mut self.pools,
+            &mut self.field.pools,
             agent,
             state,
-            &mut self.born,
+            &mut self.field.born,
             leaving,
         )?;
         Ok(())
@@ -237,7 +235,7 @@ impl Progress {
     ) -> Result<(), NoMemory>
         requires known { function < length self.old.statuses.items }
         requires there { piece < length (works_of (status_of (core_of self.old) function)) }
-        requires board { message < length self.old.boards.items }
+        requires board { message < length self.old.field.boards.items }
         requires gathers { is_frozen (core_of self.old) message ≡ false }
         requires once { OutputsOnce (kept_at self.old function) }
         ensures ok { OnOk result ((outputs : List ℕ) (work : Meant) (rows : List (List ℤ))
@@ -259,7 +257,7 @@ impl Progress {
             &mut self.statuses[function as usize],
             piece,
             message,
-            &mut self.boards,
+            &mut self.field.boards,
             is_last,
         )?;
         Ok(())

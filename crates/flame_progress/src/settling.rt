@@ -8,10 +8,11 @@ ghost use Rattle.flame_world.specs.Fields.{changed, changed_pool};
 ghost use Rattle.flame_events.specs.CoreStates.{Work as Meant, Open, works_of};
 ghost use Rattle.flame_pieces.specs.KeptWorks.{work_of, outputs_in};
 ghost use Rattle.flame_pieces.specs.KeptStatuses.{status_of, HasOutputs};
-ghost use Rattle.flame_progress.specs.KeptPools.{bag_of, bags_of, pools_of};
+ghost use Rattle.flame_field.specs.KeptPools.{bag_of, bags_of, pools_of};
 ghost use Rattle.flame_progress.specs.KeptWorkEvents.{added, are_left};
 
-use crate::gatherings::Gathering;
+use flame_leaving::Leaving;
+use flame_field::Gathering;
 use flame_leaving::Leaving;
 use flame_pieces::{Status, Work};
 use flame_rows::NoMemory;

@@ -12,13 +12,13 @@ ghost use Rattle.flame_top.specs.Standing.{Stands, Carries, IsOfInput, Keeps};
 
 use crate::ending::{Carried, Ending};
 use crate::inputs::{program_in, start_in};
-use flame_core::PlainRunner;
 use flame_driver::{DriveEnd, Driven, drive, file_name};
 use flame_outside::{Depot, Sink};
 use flame_popfile::{Format, Start};
 use flame_program::Program;
 use flame_report::sim_text;
 use flame_rows::{NoMemory, Text};
+use flame_runner::PlainRunner;
 use flame_words::RunOrder;
 use std::alloc::Global;
 use std::sync::Wait;

@@ -16,11 +16,11 @@ use crate::cores::Core;
 use crate::faults::StepFault;
 use crate::happening::happen;
 use crate::inputs::input_boards;
-use crate::rounds::Round;
 use crate::starting::{bags_copied, begun, counted};
 use flame_events::Event;
 use flame_index::Frozen;
 use flame_program::Program;
+use flame_round::{Round, wants_of};
 use flame_rows::{NoMemory, Seq};
 use flame_world::{Share, World};
 use std::alloc::Global;
@@ -57,6 +57,8 @@ impl<'a> Core<'a> {
         let agents = bags_copied(alloc, world.agents.items())?;
         let progress = begun(alloc, program, agents)?;
         let counts = counted(alloc, program)?;
+        // Each agent makes all of its views.
+        let wants = wants_of(alloc, program, world.agents.items(), false);
         Ok(Core {
             program,
             world,
@@ -65,6 +67,7 @@ impl<'a> Core<'a> {
             pieces,
             progress,
             counts,
+            wants,
         })
     }
 
@@ -77,12 +80,13 @@ impl<'a> Core<'a> {
         if !self.allows(event) {
             return Err(StepFault::Illegal);
         }
-        let alloc = *self.progress.born.allocator();
+        let alloc = *self.progress.field.born.allocator();
         let round = Round {
             program: self.program,
             constants: &self.world.constants,
             iteration: self.iteration,
             fuel: self.fuel,
+            wants: self.wants.as_slice(),
         };
         happen(
             alloc,
@@ -107,11 +111,12 @@ impl<'a> Core<'a> {
             constants: &self.world.constants,
             iteration: self.iteration,
             fuel: self.fuel,
+            wants: self.wants.as_slice(),
         };
         if !can_absorb(&round, &self.progress, &share) {
             return Err(StepFault::Illegal);
         }
-        let alloc = *self.progress.born.allocator();
+        let alloc = *self.progress.field.born.allocator();
         absorb(alloc, &round, &mut self.progress, share)?;
         Ok(())
     }
@@ -127,12 +132,13 @@ impl<'a> Core<'a> {
             → AreBoardsFor self.old.source.model place.function.inputs (map shared_messages boards)) }
         ensures kept { self.new ≡ self.old }
     {
-        let alloc = *self.progress.born.allocator();
+        let alloc = *self.progress.field.born.allocator();
         let round = Round {
             program: self.program,
             constants: &self.world.constants,
             iteration: self.iteration,
             fuel: self.fuel,
+            wants: self.wants.as_slice(),
         };
         input_boards(alloc, &round, &mut self.progress, function)
     }

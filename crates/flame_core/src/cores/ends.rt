@@ -26,7 +26,7 @@ impl<'a> Core<'a> {
         } = self;
         let World { constants, .. } = world;
         let _source = program.source();
-        let alloc = *progress.born.allocator();
+        let alloc = *progress.field.born.allocator();
         ended(alloc, program, constants, progress)
     }
 }

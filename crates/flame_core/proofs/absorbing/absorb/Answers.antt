@@ -18,11 +18,11 @@ use Rattle.flame_progress.specs.KeptCores.{core_of, HasOutputsAt}
 use Rattle.flame_progress.specs.KeptWorkEvents.{added}
 use Rattle.flame_progress.specs.Tallying.{Came}
 use Rattle.flame_progress.proofs.Tallied.{came}
-use Rattle.flame_progress.proofs.Written.{on_err}
+use Rattle.flame_field.proofs.Written.{on_err}
 use Rattle.flame_core.specs.KeptReady.{Ready}
 use Rattle.flame_core.specs.KeptShares.{as_sent}
-use Rattle.flame_core.specs.KeptSteps.{GoesBy}
-use Rattle.flame_core.proofs.Stepped.{has-route}
+use Rattle.flame_round.specs.KeptRounds.{GoesBy}
+use Rattle.flame_round.proofs.Stepped.{has-route}
 use Rattle.flame_core.proofs.TakenIn.{piece_below, taken_in}
 use Rattle.flame_core.proofs.absorbing.absorb.Goals as goal
 

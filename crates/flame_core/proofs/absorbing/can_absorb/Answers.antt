@@ -4,8 +4,8 @@ use Rattle.std.specs.List.{All}
 use Rattle.flame_world.specs.declared.pieces.Piece.{Piece}
 use Rattle.flame_events.specs.CoreStates.{work_of}
 use Rattle.flame_pieces.specs.KeptWorks.{work_of as kept_work}
-use Rattle.flame_progress.specs.declared.boards.Board.{Board}
-use Rattle.flame_progress.specs.KeptBoards.{board_bag, is_board_frozen}
+use Rattle.flame_field.specs.declared.boards.Board.{Board}
+use Rattle.flame_field.specs.KeptBoards.{board_bag, is_board_frozen}
 use Rattle.flame_progress.specs.KeptCores.{core_of}
 use Rattle.flame_core.proofs.Running.{fed_frozen, fed_known}
 use Rattle.flame_core.proofs.TakenIn.{began, setting_seen}

@@ -2,8 +2,8 @@ use Rattle.std.proofs.Common.{◌∙◌, [], List, ap, map, refl, rules, sym, to
 use Rattle.std.specs.Prelude.{ℤ, slice_index_or}
 use Rattle.std.proofs.lemmas.Int.{to_z-of_z}
 use Rattle.flame_index.specs.FrozenBoards.{shared_messages}
-use Rattle.flame_progress.specs.KeptBoards.{board_bag}
-use Rattle.flame_core.proofs.Stepped.{frozen-named}
+use Rattle.flame_field.specs.KeptBoards.{board_bag}
+use Rattle.flame_round.proofs.Stepped.{frozen-named}
 use Rattle.flame_core.proofs.absorbing.is_setting.Goals as goal
 
 pub returns : goal.returns

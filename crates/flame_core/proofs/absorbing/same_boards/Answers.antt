@@ -3,7 +3,7 @@ use Rattle.std.specs.Prelude.{ℕ, ℤ, slice_index_or}
 use Rattle.std.proofs.lemmas.Bool.{false≢true}
 use Rattle.flame_rows.proofs.Lists.{slice_index_or-map}
 use Rattle.flame_index.specs.FrozenBoards.{shared_messages}
-use Rattle.flame_progress.specs.KeptBoards.{board_bag}
+use Rattle.flame_field.specs.KeptBoards.{board_bag}
 use Rattle.flame_core.proofs.Openings.{other_default}
 use Rattle.flame_core.proofs.SameSeen.{same_at, same_more}
 use Rattle.flame_core.proofs.absorbing.same_boards.Goals as goal

@@ -9,7 +9,7 @@ use Rattle.flame_pieces.specs.KeptStatuses.{status_of as kept_status}
 use Rattle.flame_progress.specs.declared.progress.Progress.{Progress}
 use Rattle.flame_progress.specs.KeptCores.{core_of}
 use Rattle.flame_progress.proofs.Cores.{status_at}
-use Rattle.flame_core.proofs.Gets.{drop-next}
+use Rattle.flame_round.proofs.Gets.{drop-next}
 use Rattle.flame_core.proofs.Faulting.{faulted_within, or_here, or_later}
 use Rattle.flame_core.proofs.ending.taken_first.Goals as goal
 

@@ -5,7 +5,7 @@ use Rattle.std.proofs.lemmas.List.{drop_all}
 use Rattle.flame_events.specs.CoreEnds.{unfaulted}
 use Rattle.flame_events.specs.LegalEvents.{are_shut}
 use Rattle.flame_progress.specs.KeptCores.{core_of}
-use Rattle.flame_core.proofs.Gets.{drop-next}
+use Rattle.flame_round.proofs.Gets.{drop-next}
 use Rattle.flame_core.proofs.Ranks.{wanted_ends, wanted_next}
 use Rattle.flame_core.proofs.ending.wanted_are_shut.Goals as goal
 

@@ -5,8 +5,8 @@ use Rattle.flame_events.specs.LegalEvents.{is_legal}
 use Rattle.flame_events.specs.EventSteps.{after}
 use Rattle.flame_progress.specs.KeptCores.{core_of}
 use Rattle.flame_progress.specs.Tallying.{Came}
-use Rattle.flame_core.specs.KeptSteps.{round_of}
-use Rattle.flame_progress.proofs.Written.{on_err}
+use Rattle.flame_round.specs.KeptRounds.{round_of}
+use Rattle.flame_field.proofs.Written.{on_err}
 use Rattle.flame_core.proofs.Allowed.{can_freeze, can_hand_in, can_shut}
 use Rattle.flame_core.proofs.happening.happen.Goals as goal
 

@@ -6,7 +6,7 @@ use Rattle.flame_index.specs.FrozenBoards.{shared_messages}
 use Rattle.flame_leaving.specs.Leavings.{AreLeft}
 use Rattle.flame_pieces.specs.KeptWorks.{work_of as kept_work}
 use Rattle.flame_progress.specs.KeptCores.{core_of}
-use Rattle.flame_core.specs.KeptSteps.{FitsRun}
+use Rattle.flame_round.specs.KeptRounds.{FitsRun}
 use Rattle.flame_core.specs.NextAgents.{IsNext}
 use Rattle.flame_core.proofs.Nexts.{one_next}
 use Rattle.flame_core.proofs.happening.next_leaving.Goals as goal

@@ -17,9 +17,9 @@ use Rattle.flame_pieces.specs.KeptWorks.{work_of, outputs_in}
 use Rattle.flame_pieces.specs.KeptStatuses.{status_of as kept_status, HasOutputs}
 use Rattle.flame_progress.specs.KeptCores.{core_of}
 use Rattle.flame_progress.proofs.Tallied.{came_as}
-use Rattle.flame_core.specs.KeptSteps.{round_of}
+use Rattle.flame_round.specs.KeptRounds.{round_of}
 use Rattle.flame_core.proofs.Comings.{open_is, opened_counted, opened_has}
-use Rattle.flame_core.proofs.Stepped.{has-route}
+use Rattle.flame_round.proofs.Stepped.{has-route}
 use Rattle.flame_core.proofs.happening.open_function.Goals as goal
 
 pub route_of-route-requires : goal.route_of-route-requires

@@ -12,16 +12,16 @@ use Rattle.flame_events.proofs.Sound.{opens_with}
 use Rattle.flame_progress.specs.KeptCores.{core_of}
 use Rattle.flame_progress.specs.KeptWorkEvents.{added, are_left}
 use Rattle.flame_progress.specs.Tallying.{Came}
-use Rattle.flame_progress.proofs.Written.{on_err}
+use Rattle.flame_field.proofs.Written.{on_err}
 use Rattle.flame_progress.proofs.Known.{open_within}
 use Rattle.flame_progress.proofs.Tallied.{came, counted_kept, status_kept}
 use Rattle.flame_core.specs.NextAgents.{HasNext, IsNext}
-use Rattle.flame_core.specs.KeptSteps.{round_of}
+use Rattle.flame_round.specs.KeptRounds.{round_of}
 use Rattle.flame_core.proofs.Comings.{agent_is}
 use Rattle.flame_core.proofs.Nexts.{has_next, left_of_it}
 use Rattle.flame_core.proofs.Running.{next_wide, running_below}
 use Rattle.flame_core.proofs.TakenIn.{began, fed_of}
-use Rattle.flame_core.proofs.Stepped.{has-route}
+use Rattle.flame_round.proofs.Stepped.{has-route}
 use Rattle.flame_core.proofs.happening.run_next.Goals as goal
 
 pub route_of-route-requires : goal.route_of-route-requires

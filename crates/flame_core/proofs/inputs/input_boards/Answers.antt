@@ -6,11 +6,11 @@ use Rattle.flame_spec.specs.Functions.{Place}
 use Rattle.flame_index.specs.FrozenBoards.{shared_messages}
 use Rattle.flame_agent.specs.FunctionFits.{AreBoardsFor}
 use Rattle.flame_events.specs.CoreStates.{is_frozen}
-use Rattle.flame_progress.specs.KeptBoards.{board_bag}
+use Rattle.flame_field.specs.KeptBoards.{board_bag}
 use Rattle.flame_progress.specs.KeptCores.{core_of}
 use Rattle.flame_progress.proofs.Tallied.{came}
 use Rattle.flame_core.proofs.Running.{fed_frozen, fed_known, same_core}
-use Rattle.flame_core.proofs.Stepped.{frozen-named, frozen-wide}
+use Rattle.flame_round.proofs.Stepped.{frozen-named, frozen-wide}
 use Rattle.flame_core.proofs.inputs.input_boards.Goals as goal
 
 some_place : (x y : Place) → Some x ≡ Some y → x ≡ y
@@ -21,7 +21,7 @@ route_of-route-requires c = c.requires.fed.there c.requires.began
 
 pub share-requires-clause-known : goal.share-requires-clause-known
 share-requires-clause-known c =
-    subst (All (λ m. m < length c.args.progress.now.boards.items)) (sym c.items-inputs.ensures)
+    subst (All (λ m. m < length c.args.progress.now.field.boards.items)) (sym c.items-inputs.ensures)
     (fed_known c.args.round.now.program.now.model c.args.progress.now c.args.function c.route_of-route.result.now
     c.route_of-route.ensures c.requires.fed c.requires.began)
 
@@ -34,7 +34,7 @@ share-requires-clause-frozen c =
 pub returns-clause-read : goal.returns-clause-read
 returns-clause-read c =
     let source = c.args.round.now.program.now in
-    let boards = map board_bag c.args.progress.now.boards.items in
+    let boards = map board_bag c.args.progress.now.field.boards.items in
     let goes = c.route_of-route.ensures in
     let read = ap (map shared_messages) c.of.ensures ∙ c.in_ok-share.ensures.read
     ∙ ap (map (λ message. slice_index_or boards message [])) c.items-inputs.ensures in
@@ -44,7 +44,7 @@ returns-clause-read c =
 pub returns-clause-wide : goal.returns-clause-wide
 returns-clause-wide c = λ place at fits.
     let model = c.args.round.now.program.now.model in
-    let boards = map board_bag c.args.progress.now.boards.items in
+    let boards = map board_bag c.args.progress.now.field.boards.items in
     let goes = c.route_of-route.ensures in
     let read = ap (map shared_messages) c.of.ensures ∙ c.in_ok-share.ensures.read
     ∙ ap (map (λ message. slice_index_or boards message [])) c.items-inputs.ensures in

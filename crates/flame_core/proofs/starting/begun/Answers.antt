@@ -11,8 +11,8 @@ use Rattle.flame_world.specs.Fields.{begun, joined}
 use Rattle.flame_pieces.specs.declared.statuses.Status.{Status}
 use Rattle.flame_pieces.specs.declared.statuses.Status.TheVariants as is
 use Rattle.flame_pieces.specs.KeptStatuses.{status_of, HasOutputs}
-use Rattle.flame_progress.specs.KeptPools.{bags_of}
-use Rattle.flame_progress.proofs.Joining.{joined-nothing}
+use Rattle.flame_field.specs.KeptPools.{bags_of}
+use Rattle.flame_field.proofs.Joining.{joined-nothing}
 use Rattle.flame_core.proofs.Openings.{all_wait, none_has, zip_long}
 use Rattle.flame_progress.proofs.Cores.{same_for_all}
 use Rattle.flame_core.proofs.starting.begun.Goals as goal

@@ -9,7 +9,7 @@ use Rattle.flame_pieces.specs.declared.statuses.Status.TheVariants.{Waiting}
 use Rattle.flame_pieces.specs.KeptStatuses.{HasOutputs}
 use Rattle.flame_progress.specs.declared.counts.Counts.{Counts}
 use Rattle.flame_progress.specs.declared.progress.Progress.{Progress}
-use Rattle.flame_progress.specs.KeptBoards.{is_board_frozen}
+use Rattle.flame_field.specs.KeptBoards.{is_board_frozen}
 use Rattle.flame_progress.specs.KeptCores.{core_of, HasOutputsAt}
 use Rattle.flame_progress.specs.KeptCounts.{Counted}
 use Rattle.flame_progress.proofs.Tallied.{came, counted_frozen, mark_set}

@@ -15,7 +15,7 @@ use Rattle.flame_progress.specs.KeptWorkEvents.{without}
 use Rattle.flame_progress.proofs.Known.{may_hand_in_is}
 use Rattle.flame_progress.specs.declared.counts.Counts.{Counts}
 use Rattle.flame_progress.specs.Tallying.{Came, Tallies}
-use Rattle.flame_progress.proofs.Written.{on_err}
+use Rattle.flame_field.proofs.Written.{on_err}
 use Rattle.flame_progress.proofs.Tallied.{came, counted_kept, status_kept}
 use Rattle.flame_progress.proofs.events.hand_in.Goals as goal
 

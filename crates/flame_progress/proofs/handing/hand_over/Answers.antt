@@ -1,7 +1,7 @@
 use Rattle.std.proofs.Common.{◌∙◌, ◌++◌, ap, sym}
 use Rattle.flame_rows.specs.Bags.{ascending, merge}
 use Rattle.flame_world.specs.AgentRuns.{messages_of}
-use Rattle.flame_progress.specs.KeptBoards.{board_bag}
+use Rattle.flame_field.specs.KeptBoards.{board_bag}
 use Rattle.flame_rows.proofs.Merging.{ascending-append}
 use Rattle.flame_progress.proofs.handing.hand_over.Goals as goal
 

@@ -1,9 +1,9 @@
 use Rattle.std.proofs.Common.{false, sym, ◌∙◌}
 use Rattle.flame_rows.specs.Bags.{merge}
 use Rattle.flame_rows.proofs.Lists.{slice_index_or-map}
-use Rattle.flame_progress.specs.KeptBoards.{board_bag, is_board_frozen}
-use Rattle.flame_progress.proofs.Changed.{map-written}
-use Rattle.flame_progress.proofs.Written.{map-kept, on_err}
+use Rattle.flame_field.specs.KeptBoards.{board_bag, is_board_frozen}
+use Rattle.flame_field.proofs.Changed.{map-written}
+use Rattle.flame_field.proofs.Written.{map-kept, on_err}
 use Rattle.flame_progress.proofs.handing.hand_over_at.Goals as goal
 
 pub hand_over_function-requires-clause-gathers : goal.hand_over_function-requires-clause-gathers

@@ -6,11 +6,11 @@ use Rattle.flame_spec.specs.Below.{HasNoTwice}
 use Rattle.flame_world.specs.AgentRuns.{messages_of}
 use Rattle.flame_events.specs.CoreStates.{part_in}
 use Rattle.flame_pieces.specs.KeptWorks.{work_of, outputs_in}
-use Rattle.flame_progress.specs.KeptBoards.{board_bag}
+use Rattle.flame_field.specs.KeptBoards.{board_bag}
 use Rattle.flame_progress.specs.KeptWorkEvents.{without}
 use Rattle.flame_rows.proofs.Merging.{merge-ascending}
 use Rattle.flame_progress.proofs.Known.{outputs_kept, part_is}
-use Rattle.flame_progress.proofs.Written.{got_is, map-kept, on_err}
+use Rattle.flame_field.proofs.Written.{got_is, map-kept, on_err}
 use Rattle.flame_progress.proofs.handing.hand_over_piece.Goals as goal
 
 pub hand_over-requires-clause-once : goal.hand_over-requires-clause-once

@@ -1,8 +1,8 @@
 use Rattle.flame_rows.specs.Bags.{ascending, merge}
 use Rattle.flame_world.specs.Fields.{changed}
-use Rattle.flame_progress.specs.KeptPools.{bags_of}
-use Rattle.flame_progress.proofs.Changed.{map-written, within_list}
-use Rattle.flame_progress.proofs.Written.{map-kept, on_err}
+use Rattle.flame_field.specs.KeptPools.{bags_of}
+use Rattle.flame_field.proofs.Changed.{map-written, within_list}
+use Rattle.flame_field.proofs.Written.{map-kept, on_err}
 use Rattle.flame_progress.proofs.settling.settle_at.Goals as goal
 
 pub returns-in_err-settle_in-clause-same_pools : goal.returns-in_err-settle_in-clause-same_pools

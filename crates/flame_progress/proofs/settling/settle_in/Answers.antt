@@ -1,7 +1,7 @@
 use Rattle.flame_rows.specs.Bags.{ascending, merge}
-use Rattle.flame_progress.specs.KeptPools.{bag_of}
-use Rattle.flame_progress.proofs.Changed.{map-written}
-use Rattle.flame_progress.proofs.Written.{map-kept, on_err}
+use Rattle.flame_field.specs.KeptPools.{bag_of}
+use Rattle.flame_field.proofs.Changed.{map-written}
+use Rattle.flame_field.proofs.Written.{map-kept, on_err}
 use Rattle.flame_progress.proofs.settling.settle_in.Goals as goal
 
 pub returns-in_err-settle-clause-same_pools : goal.returns-in_err-settle-clause-same_pools

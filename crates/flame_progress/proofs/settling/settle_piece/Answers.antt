@@ -5,7 +5,7 @@ use Rattle.flame_events.specs.CoreStates.{Work}
 use Rattle.flame_pieces.specs.KeptWorks.{work_of, outputs_in}
 use Rattle.flame_progress.specs.KeptWorkEvents.{added}
 use Rattle.flame_progress.proofs.Known.{are_left_is, outputs_kept}
-use Rattle.flame_progress.proofs.Written.{got_is, got_within, map-kept, on_err}
+use Rattle.flame_field.proofs.Written.{got_is, got_within, map-kept, on_err}
 use Rattle.flame_progress.proofs.settling.settle_piece.Goals as goal
 
 pub index_mut-requires : goal.index_mut-requires

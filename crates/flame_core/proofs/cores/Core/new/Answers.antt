@@ -12,7 +12,7 @@ use Rattle.flame_world.specs.WorldFits.{FitTypes}
 use Rattle.flame_events.specs.CoreStates.{Core, is_shut, is_frozen, status_of, opening_core}
 use Rattle.flame_events.specs.LegalEvents.{inputs_of, outputs_of}
 use Rattle.flame_pieces.specs.KeptStatuses.{status_of as kept_status}
-use Rattle.flame_progress.specs.KeptBoards.{is_board_frozen}
+use Rattle.flame_field.specs.KeptBoards.{is_board_frozen}
 use Rattle.flame_progress.specs.KeptCores.{core_of}
 use Rattle.flame_progress.proofs.Tallied.{tells_same}
 use Rattle.flame_core.proofs.Counting.{functions_numbered}
@@ -56,7 +56,7 @@ invariant_of-result c =
             ∙ ap (λ (k : Core). length k.statuses) is
             ∙ length-map (functions model) _;
         messages =
-            sym (length-map progress.boards.items is_board_frozen)
+            sym (length-map progress.field.boards.items is_board_frozen)
             ∙ ap (λ (k : Core). length k.frozen) is
             ∙ length-map model.messages _;
         outputs = λ f. c.in_ok-progress.ensures.outputs f (outputs_of model f);

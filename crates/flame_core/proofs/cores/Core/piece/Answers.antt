@@ -7,7 +7,7 @@ use Rattle.flame_pieces.specs.KeptWorks.{work_of as kept_work}
 use Rattle.flame_core.specs.SeenCores.{Seen}
 use Rattle.flame_core.proofs.Inside.{seen_of}
 use Rattle.flame_core.proofs.Comings.{reached_fits}
-use Rattle.flame_core.proofs.Gets.{has-at}
+use Rattle.flame_round.proofs.Gets.{has-at}
 use Rattle.flame_core.proofs.cores.Core.piece.Goals as goal
 use Rattle.flame_meaning.proofs.Eachs.{each_at}
 

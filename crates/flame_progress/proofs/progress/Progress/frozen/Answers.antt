@@ -1,8 +1,8 @@
 use Rattle.std.proofs.Common.{Some, None, [], false, sym, ap, ◌∙◌}
 use Rattle.std.specs.Prelude.{slice_index_or, if◌then◌else◌}
-use Rattle.flame_progress.specs.KeptBoards.{board_bag, is_board_frozen}
+use Rattle.flame_field.specs.KeptBoards.{board_bag, is_board_frozen}
 use Rattle.flame_progress.specs.KeptCores.{core_of}
-use Rattle.flame_progress.proofs.Written.{or_else_is}
+use Rattle.flame_field.proofs.Written.{or_else_is}
 use Rattle.flame_progress.proofs.progress.Progress.frozen.Goals as goal
 
 pub returns-in-Some : goal.returns-in-Some

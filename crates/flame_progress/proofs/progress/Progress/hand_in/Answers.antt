@@ -4,11 +4,11 @@ use Rattle.flame_events.specs.CoreStates.{Open, Core, status_of, works_of}
 use Rattle.flame_pieces.specs.declared.statuses.Status as kept
 use Rattle.flame_pieces.specs.declared.statuses.Status.TheVariants as is
 use Rattle.flame_pieces.specs.KeptStatuses.{status_of as kept_status}
-use Rattle.flame_progress.specs.KeptBoards.{board_bag, is_board_frozen}
+use Rattle.flame_field.specs.KeptBoards.{board_bag, is_board_frozen}
 use Rattle.flame_progress.specs.KeptCores.{core_of}
 use Rattle.flame_progress.specs.KeptWorkEvents.{without, OutputsOnce}
 use Rattle.flame_progress.proofs.Cores.{at_default, outputs_at, outputs_put, status_at, statuses_put}
-use Rattle.flame_progress.proofs.Written.{map-kept, on_err}
+use Rattle.flame_field.proofs.Written.{map-kept, on_err}
 use Rattle.flame_progress.proofs.progress.Progress.hand_in.Goals as goal
 
 pub hand_over_at-requires-clause-there : goal.hand_over_at-requires-clause-there

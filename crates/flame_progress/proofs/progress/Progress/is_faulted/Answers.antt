@@ -3,7 +3,7 @@ use Rattle.std.specs.Prelude.{is_some}
 use Rattle.flame_events.specs.CoreStates.{Status, Waiting, fault_of}
 use Rattle.flame_pieces.specs.KeptStatuses.{status_of as kept_status}
 use Rattle.flame_progress.specs.KeptCores.{core_of}
-use Rattle.flame_progress.proofs.Written.{or_else_is}
+use Rattle.flame_field.proofs.Written.{or_else_is}
 use Rattle.flame_progress.proofs.progress.Progress.is_faulted.Goals as goal
 
 pub returns-in-Some : goal.returns-in-Some

@@ -1,7 +1,7 @@
 use Rattle.std.proofs.Common.{Some, None, false, sym, ◌∙◌}
-use Rattle.flame_progress.specs.KeptBoards.{is_board_frozen}
+use Rattle.flame_field.specs.KeptBoards.{is_board_frozen}
 use Rattle.flame_progress.specs.KeptCores.{core_of}
-use Rattle.flame_progress.proofs.Written.{or_else_is}
+use Rattle.flame_field.proofs.Written.{or_else_is}
 use Rattle.flame_progress.proofs.progress.Progress.is_frozen.Goals as goal
 
 pub returns-in-Some : goal.returns-in-Some

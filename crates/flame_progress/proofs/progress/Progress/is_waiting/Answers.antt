@@ -2,7 +2,7 @@ use Rattle.std.proofs.Common.{Some, None, sym, ap, ◌∙◌}
 use Rattle.flame_events.specs.CoreStates.{Waiting, is_waiting}
 use Rattle.flame_pieces.specs.KeptStatuses.{status_of as kept_status}
 use Rattle.flame_progress.specs.KeptCores.{core_of}
-use Rattle.flame_progress.proofs.Written.{or_else_is}
+use Rattle.flame_field.proofs.Written.{or_else_is}
 use Rattle.flame_progress.proofs.progress.Progress.is_waiting.Goals as goal
 
 pub returns-in-Some : goal.returns-in-Some

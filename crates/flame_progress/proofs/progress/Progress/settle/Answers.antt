@@ -5,11 +5,11 @@ use Rattle.flame_world.specs.AgentRuns.{births_of}
 use Rattle.flame_world.specs.Fields.{joined}
 use Rattle.flame_events.specs.CoreStates.{Open, Core, status_of, works_of}
 use Rattle.flame_pieces.specs.KeptStatuses.{status_of as kept_status}
-use Rattle.flame_progress.specs.KeptPools.{pools_of}
+use Rattle.flame_field.specs.KeptPools.{pools_of}
 use Rattle.flame_progress.specs.KeptCores.{core_of}
 use Rattle.flame_progress.specs.KeptWorkEvents.{added, are_left}
 use Rattle.flame_progress.proofs.Cores.{born_more, none_same, outputs_at, outputs_put, pools_long, status_at, statuses_put}
-use Rattle.flame_progress.proofs.Written.{map-kept, on_err}
+use Rattle.flame_field.proofs.Written.{map-kept, on_err}
 use Rattle.flame_progress.proofs.progress.Progress.settle.Goals as goal
 
 pub settle_function-requires-clause-left : goal.settle_function-requires-clause-left
@@ -30,7 +30,7 @@ returns-in_err-settle_function-clause-err c =
     let put = map-kept kept_status self.statuses.items c.args.function c.index_mut.result.now c.settle_function.new.status
     c.requires.known c.index_mut.ensures.value c.in_err-settle_function.ensures.same_status in
     let pools = c.in_err-settle_function.ensures.same_pools in
-    let none = none_same self.pools c.settle_function.new.pools (ap (λ l. length l) pools) in
+    let none = none_same self.field.pools c.settle_function.new.pools (ap (λ l. length l) pools) in
     let born = c.in_err-settle_function.ensures.same_born in
     let same : (let next : Core = record {
       statuses = map kept_status (slice_set self.statuses.items c.args.function c.settle_function.new.status);
@@ -66,9 +66,9 @@ returns-clause-ok c = λ outputs work has there.
     c.in_ok-settle_function.ensures.status outputs work has_here there_here ∙ ap (λ s. Open (slice_set (works_of s) k more)) at in
     let put = statuses_put items f c.settle_function.new.status (Open (slice_set (works_of (status_of core f)) k more)) is in
     let pools = c.in_ok-settle_function.ensures.pools in
-    let none = pools_long self.pools c.settle_function.new.pools c.args.agent c.args.state
+    let none = pools_long self.field.pools c.settle_function.new.pools c.args.agent c.args.state
     (λ pool. merge pool (ascending leaving.survivors.items)) pools in
-    let born = born_more self.pools c.settle_function.new.pools self.born.items leaving.born.items c.settle_function.new.born.items none
+    let born = born_more self.field.pools c.settle_function.new.pools self.field.born.items leaving.born.items c.settle_function.new.born.items none
     c.in_ok-settle_function.ensures.born in
     λ i. record {
       statuses = put i;

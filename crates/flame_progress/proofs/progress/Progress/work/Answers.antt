@@ -5,7 +5,7 @@ use Rattle.flame_pieces.specs.declared.statuses.Status as kept
 use Rattle.flame_pieces.specs.declared.statuses.Status.TheVariants as is
 use Rattle.flame_pieces.specs.KeptStatuses.{status_of as kept_status, HasOutputs}
 use Rattle.flame_progress.specs.KeptCores.{core_of}
-use Rattle.flame_progress.proofs.Written.{or_else_is}
+use Rattle.flame_field.proofs.Written.{or_else_is}
 use Rattle.flame_progress.proofs.progress.Progress.work.Goals as goal
 
 pub returns-in-Some-clause-work : goal.returns-in-Some-clause-work

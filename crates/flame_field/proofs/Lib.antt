@@ -1,0 +1,4 @@
+pub mod Changed
+pub mod Gathered
+pub mod Joining
+pub mod Written

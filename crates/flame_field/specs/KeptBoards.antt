@@ -1,0 +1,24 @@
+-- How boards are kept.
+use Rattle.std.specs.Prelude.{ℤ, List, Bool, true, false}
+use Rattle.flame_rows.specs.Bags.{ascending}
+use Rattle.flame_index.specs.FrozenBoards.{messages_on, shared_messages}
+use Rattle.flame_field.specs.declared.boards.Board.{Board}
+use Rattle.flame_field.specs.declared.boards.Board.TheVariants as board
+
+-- the bag of its messages [libmboard]
+abbrev pub board_bag : Board → List (List ℤ)
+board_bag (board.Gathering rows) = ascending rows.items
+board_bag (board.Frozen frozen) = messages_on frozen
+board_bag (board.Shared frozen) = shared_messages frozen
+
+-- no message comes any more [libmboard]
+abbrev pub is_board_frozen : Board → Bool
+is_board_frozen (board.Gathering rows) = false
+is_board_frozen (board.Frozen frozen) = true
+is_board_frozen (board.Shared frozen) = true
+
+-- those who read it may share it [own]
+abbrev pub is_board_shared : Board → Bool
+is_board_shared (board.Gathering rows) = false
+is_board_shared (board.Frozen frozen) = false
+is_board_shared (board.Shared frozen) = true

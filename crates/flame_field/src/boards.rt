@@ -1,0 +1,183 @@
+//! Boards on the way from a gathering of messages to a list that is read.
+
+ghost use Rattle.std.specs.Prelude.{◌≡◌, [], ◌∷◌, true, false, Some, None, IfOk, OnOk, OnErr, option_map, if◌then◌else◌};
+ghost use Rattle.std.specs.Arc.{arc_value};
+ghost use Rattle.flame_rows.specs.Bags.{ascending, merge};
+ghost use Rattle.flame_index.specs.FrozenBoards.{messages_on, shared_messages};
+ghost use Rattle.flame_field.specs.KeptBoards.{board_bag, is_board_frozen, is_board_shared};
+
+use crate::keeping::{Want, keep};
+use flame_index::Frozen;
+use flame_rows::{Bag, NoMemory, Row};
+use std::alloc::Global;
+use std::mem;
+use std::sync::Arc;
+
+/// The board of a message (libmboard).
+#[derive(Debug, Drop)]
+pub enum Board {
+    /// Messages still come, in any order.
+    Gathering(Vec<Row>),
+    /// No message comes any more.
+    Frozen(Frozen),
+    /// The same, where those who read it may share it.
+    Shared(Arc<Frozen>),
+}
+
+/// Puts rows in order, where memory is found. std's sort keeps the runs that ascend already, and merges them.
+fn put_in_order(rows: &mut Vec<Row>)
+    ensures { ascending rows.new.items ≡ ascending rows.old.items }
+{
+    let _sorted = rows.sort();
+}
+
+/// The board, moved to where it may be shared.
+fn moved(alloc: Global, board: &mut Frozen) -> Result<Arc<Frozen>, NoMemory>
+    ensures ok { IfOk result (λ shared. arc_value shared ≡ board.old) }
+    ensures err { OnErr result (board.new ≡ board.old) }
+{
+    let mut shared = Arc::new(alloc, Frozen::of(Bag::empty(alloc)))?;
+    match Arc::get_mut(&mut shared) {
+        Some(place) => mem::swap(place, board),
+        // Nobody else has it yet.
+        None => return Err(NoMemory),
+    }
+    Ok(shared)
+}
+
+/// The messages of a board that may be shared, given back. They are copied only where somebody still reads them.
+fn unshared(board: Arc<Frozen>) -> Result<Bag, NoMemory>
+    ensures { IfOk result (λ bag. bag ≡ shared_messages board) }
+{
+    match Arc::try_unwrap(board) {
+        Ok(frozen) => Ok(frozen.into_bag()),
+        Err(board) => board.bag().copy(),
+    }
+}
+
+impl Board {
+    /// A board that gathers, without messages.
+    pub fn empty(alloc: Global) -> Board
+        ensures bag { board_bag result ≡ [] }
+        ensures gathers { is_board_frozen result ≡ false }
+    {
+        Board::Gathering(Vec::new(alloc))
+    }
+
+    /// Whether no message comes any more.
+    pub fn is_frozen(&self) -> bool
+        ensures { result ≡ is_board_frozen self.now }
+    {
+        !matches!(self, Board::Gathering(_))
+    }
+
+    /// The messages, where no more come.
+    pub fn frozen(&self) -> Option<&Frozen>
+        ensures { option_map (λ board. messages_on board.now) result
+            ≡ (if is_board_frozen self.now then Some (board_bag self.now) else None) }
+    {
+        match self {
+            Board::Gathering(_) => None,
+            Board::Frozen(board) => Some(board),
+            Board::Shared(board) => Some(board),
+        }
+    }
+
+    /// Puts the messages that gathered so far in order, where memory is found.
+    pub fn put_in_order(&mut self)
+        ensures bag { board_bag self.new ≡ board_bag self.old }
+        ensures frozen { is_board_frozen self.new ≡ is_board_frozen self.old }
+    {
+        match self {
+            Board::Gathering(rows) => put_in_order(rows),
+            Board::Frozen(_) => {}
+            Board::Shared(_) => {}
+        }
+    }
+
+    /// No message comes any more: the board is put in order, which takes no memory. Where it is in order already, as
+    /// the last piece to hand in mostly leaves it, this goes over it once.
+    pub fn freeze(&mut self)
+        ensures bag { board_bag self.new ≡ board_bag self.old }
+        ensures frozen { is_board_frozen self.new ≡ true }
+    {
+        if let Board::Gathering(rows) = self {
+            let empty = Vec::new(*rows.allocator());
+            let gathered = mem::replace(rows, empty);
+            *self = Board::Frozen(Frozen::of(Bag::gathered(gathered)));
+        }
+    }
+
+    /// Moves a board that is frozen to where it may be shared, with what is wanted kept beside it.
+    fn make_shared(&mut self, alloc: Global, wants: &[Want]) -> Result<(), NoMemory>
+        requires { is_board_frozen self.old ≡ true }
+        ensures bag { board_bag self.new ≡ board_bag self.old }
+        ensures frozen { is_board_frozen self.new ≡ true }
+        ensures shared { OnOk result (is_board_shared self.new ≡ true) }
+    {
+        if let Board::Frozen(board) = self {
+            // Without what is wanted the messages are found too.
+            let _kept = keep(alloc, board, wants);
+            let shared = moved(alloc, board)?;
+            *self = Board::Shared(shared);
+        }
+        Ok(())
+    }
+
+    /// One who reads the board more.
+    fn reader(&self) -> Result<Arc<Frozen>, NoMemory>
+        requires { is_board_shared self.now ≡ true }
+        ensures { IfOk result (λ board. shared_messages board ≡ board_bag self.now) }
+    {
+        match self {
+            Board::Gathering(_) => unreachable!(),
+            Board::Frozen(_) => unreachable!(),
+            Board::Shared(board) => Ok(Arc::try_clone(board)?),
+        }
+    }
+
+    /// The board, which is frozen, to be read. Where nobody read it before, what all its readers want is kept beside it, as far
+    /// as it pays and memory is found.
+    pub fn share(&mut self, alloc: Global, wants: &[Want]) -> Result<Arc<Frozen>, NoMemory>
+        requires { is_board_frozen self.old ≡ true }
+        ensures read { IfOk result (λ board. shared_messages board ≡ board_bag self.old) }
+        ensures bag { board_bag self.new ≡ board_bag self.old }
+        ensures frozen { is_board_frozen self.new ≡ true }
+    {
+        self.make_shared(alloc, wants)?;
+        self.reader()
+    }
+
+    /// The board as it gathers, whether it was frozen or not.
+    fn into_rows(self) -> Result<Vec<Row>, NoMemory>
+        ensures { IfOk result (λ rows. ascending rows.items ≡ board_bag self) }
+    {
+        match self {
+            Board::Gathering(rows) => Ok(rows),
+            Board::Frozen(board) => Ok(board.into_bag().into_rows()),
+            Board::Shared(board) => Ok(unshared(board)?.into_rows()),
+        }
+    }
+
+    /// Adds a message. A board that was frozen gathers again; after `NoMemory` it may have lost its messages, and is of no
+    /// further use.
+    pub fn add(&mut self, alloc: Global, row: Row) -> Result<(), NoMemory>
+        ensures { OnOk result (board_bag self.new ≡ merge (board_bag self.old) (row ∷ [])) }
+    {
+        let mut rows = mem::replace(self, Board::empty(alloc)).into_rows()?;
+        rows.push(row)?;
+        *self = Board::Gathering(rows);
+        Ok(())
+    }
+
+    /// The messages.
+    pub fn into_bag(self) -> Result<Bag, NoMemory>
+        ensures { IfOk result (λ bag. bag ≡ board_bag self) }
+    {
+        match self {
+            Board::Gathering(rows) => Bag::of_rows(rows),
+            Board::Frozen(board) => Ok(board.into_bag()),
+            Board::Shared(board) => unshared(board),
+        }
+    }
+}

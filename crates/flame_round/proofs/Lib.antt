@@ -1,0 +1,7 @@
+pub mod Gets
+pub mod StatePlaces
+pub mod NamedNumbers
+pub mod LeftRows
+pub mod Stepped
+pub mod Beginnings
+pub mod Past

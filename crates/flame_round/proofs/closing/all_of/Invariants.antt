@@ -1,0 +1,10 @@
+use Rattle.std.proofs.Common.{◌≡◌, ◌++◌, length, map}
+use Rattle.std.specs.Vec.Iter.{into_iter_items, into_iter_len}
+use Rattle.flame_field.specs.KeptPools.{bag_of}
+use Rattle.flame_round.proofs.closing.all_of.Given as goal
+
+abbrev pub invariant-loop-pool : goal.invariant-loop-pool
+invariant-loop-pool l = record {
+  counted : into_iter_len l.pool-iterator ≡ length (into_iter_items l.pool-iterator);
+  all : map bag_of l.fn.pools.items ≡ l.bags.items ++ map bag_of (into_iter_items l.pool-iterator);
+}

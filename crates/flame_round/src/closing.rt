@@ -1,0 +1,116 @@
+//! How an iteration ends that no agent faulted in.
+
+ghost use Rattle.std.specs.Prelude.{◌≡◌, [], ◌∷◌, IfOk, OnOk, length, map};
+ghost use Rattle.std.specs.List.{flat_map, zip};
+ghost use Rattle.flame_rows.specs.Bags.{merge};
+ghost use Rattle.flame_world.specs.AgentRuns.{births_of};
+ghost use Rattle.flame_world.specs.Fields.{changed, gathered, joined};
+ghost use Rattle.flame_field.specs.KeptBoards.{board_bag};
+ghost use Rattle.flame_field.specs.KeptFields.{field_of};
+ghost use Rattle.flame_field.specs.KeptPools.{bag_of, bags_of, pools_of};
+
+use flame_field::{Board, Field, Gathering};
+use flame_rows::{Bag, NoMemory, Row, Seq};
+use flame_spec::{AgentType, Born};
+use flame_world::{Boards, World};
+use std::alloc::Global;
+
+/// No births of these types.
+fn no_births(alloc: Global, agents: &[AgentType]) -> Result<Vec<Gathering>, NoMemory>
+    ensures { IfOk result (λ born. bags_of born ≡ map (λ agent. []) agents.now) }
+{
+    let mut born = Vec::new(alloc);
+    for _agent in agents {
+        born.push(Gathering::empty(alloc))?;
+    }
+    Ok(born)
+}
+
+/// Sets a birth aside; one of no type is none.
+fn bear_one(born: &mut Vec<Gathering>, birth: Born) -> Result<(), NoMemory>
+    ensures { OnOk result (bags_of born.new
+        ≡ changed birth.agent (λ bag. merge bag (birth.row ∷ [])) (bags_of born.old)) }
+{
+    if birth.agent as usize >= born.len() {
+        return Ok(());
+    }
+    born[birth.agent as usize].add(birth.row)?;
+    Ok(())
+}
+
+/// The births of each of these types.
+fn borne(alloc: Global, agents: &[AgentType], births: Vec<Born>) -> Result<Vec<Gathering>, NoMemory>
+    ensures { IfOk result (λ born. bags_of born ≡ joined (births_of births.items) (map (λ agent. []) agents.now)) }
+{
+    let mut born = no_births(alloc, agents)?;
+    for birth in births {
+        bear_one(&mut born, birth)?;
+    }
+    Ok(born)
+}
+
+/// The agents of a type: those in all its states, and its births. They are put in order once.
+fn all_of(pools: Vec<Gathering>, born: Gathering) -> Result<Bag, NoMemory>
+    ensures { IfOk result (λ bag. bag ≡ merge (flat_map (λ pool. pool) (bags_of pools)) (bag_of born)) }
+{
+    let mut all = born;
+    for pool in pools {
+        all.add_all(pool.rows)?;
+    }
+    all.into_bag()
+}
+
+/// The agents of each type.
+fn agents_of(
+    alloc: Global,
+    pools: Vec<Vec<Gathering>>,
+    born: Vec<Gathering>,
+) -> Result<Vec<Bag>, NoMemory>
+    ensures { IfOk result (λ bags. bags.items
+        ≡ map (λ (pools, born). merge (flat_map (λ pool. pool) pools) born) (zip (pools_of pools) (bags_of born))) }
+{
+    let mut bags = Vec::new(alloc);
+    for (pools, born) in pools.into_iter().zip(born) {
+        bags.push(all_of(pools, born)?)?;
+    }
+    Ok(bags)
+}
+
+/// The messages of each board.
+fn bags_of_boards(alloc: Global, boards: Vec<Board>) -> Result<Vec<Bag>, NoMemory>
+    ensures { IfOk result (λ bags. bags.items ≡ map board_bag boards.items) }
+{
+    let mut bags = Vec::new(alloc);
+    for board in boards {
+        bags.push(board.into_bag()?)?;
+    }
+    Ok(bags)
+}
+
+/// An iteration ends without a fault: survivors and births are the agents of the world. These are the agent types.
+pub fn closed(
+    alloc: Global,
+    agents: &[AgentType],
+    constants: Row,
+    field: Field,
+) -> Result<(World, Boards), NoMemory>
+    requires { length agents.now ≡ length field.pools.items }
+    ensures world { IfOk result (λ end. end.0.agents ≡ gathered (field_of field)) }
+    ensures constants { IfOk result (λ end. end.0.constants ≡ constants) }
+    ensures boards { IfOk result (λ end. end.1.boards ≡ (field_of field).boards) }
+{
+    let Field {
+        pools,
+        born,
+        boards,
+    } = field;
+    let born = borne(alloc, agents, born)?;
+    let world = World {
+        constants,
+        agents: Seq::of(agents_of(alloc, pools, born)?),
+    };
+    let boards = Boards {
+        boards: Seq::of(bags_of_boards(alloc, boards)?),
+    };
+    Ok((world, boards))
+}

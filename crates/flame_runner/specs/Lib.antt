@@ -1,0 +1,4 @@
+-- Each definition's comment ends with its source in brackets:
+-- own: a choice of this project, or a word that a definition is made of
+-- ---- the words that only bodies and proofs use; what runners promise is said in flame_world's words
+pub mod KeptSteps

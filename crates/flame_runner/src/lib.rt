@@ -1,0 +1,11 @@
+//! What every runner promises, and the runner of iterations on one thread.
+#![tactic(auto)]
+
+mod iterations;
+mod plain;
+mod runners;
+mod steps;
+
+pub use iterations::iterate;
+pub use plain::PlainRunner;
+pub use runners::Runner;

@@ -1,0 +1,117 @@
+//! One function of an iteration.
+
+ghost use Rattle.std.specs.Prelude.{◌≡◌, ◌<◌, ℤ, List, [], Some, IfOk, OnOk, length, map, slice_get, slice_index_or};
+ghost use Rattle.std.specs.List.{All};
+ghost use Rattle.flame_rows.specs.Bags.{ascending, merge};
+ghost use Rattle.flame_spec.specs.Before.{function_count};
+ghost use Rattle.flame_spec.specs.Choice.{functions_out};
+ghost use Rattle.flame_spec.specs.Functions.{Place, functions};
+ghost use Rattle.flame_meaning.specs.Outcomes.{outcome, place_of};
+ghost use Rattle.flame_spec.specs.States.{state_place};
+ghost use Rattle.flame_index.specs.FrozenBoards.{shared_messages};
+ghost use Rattle.flame_world.specs.Fields.{Field as Standing, changed_pool, joined};
+ghost use Rattle.flame_world.specs.AgentRuns.{births_of, messages_of};
+ghost use Rattle.flame_world.specs.InputBoards.{boards_named};
+ghost use Rattle.flame_world.specs.Iterations.{step as meant, taking, staying};
+ghost use Rattle.flame_world.specs.WorldFits.{FitsField};
+ghost use Rattle.flame_leaving.specs.Leavings.{AreLeft};
+ghost use Rattle.flame_field.specs.KeptPools.{pools_of};
+ghost use Rattle.flame_field.specs.KeptFields.{field_of};
+ghost use Rattle.flame_round.specs.KeptRounds.{GoesBy, HasRoute, FitsRun, round_of};
+ghost use Rattle.flame_runner.specs.KeptSteps.{result_of};
+
+use flame_field::{Field, Gathering, exchange, read};
+use flame_index::Frozen;
+use flame_leaving::Leaving;
+use flame_round::{Round, part_rows, route_of, run_over};
+use flame_route::Route;
+use flame_rows::{NoMemory, Row, Seq};
+use flame_world::SimFault;
+use std::alloc::Global;
+use std::sync::Arc;
+
+/// What a function comes to.
+#[derive(Debug, Drop)]
+pub(crate) enum Stepped {
+    /// It ran, and agents, births and messages are here.
+    On(Field),
+    /// An agent faulted.
+    Faulted(SimFault),
+}
+
+/// The takers of a function leave the state where they rest. They stand in any order.
+fn leave(
+    alloc: Global,
+    round: &Round<'_>,
+    function: u32,
+    route: &Route,
+    pools: &mut Vec<Vec<Gathering>>,
+) -> Result<Vec<Row>, NoMemory>
+    requires route { GoesBy round.now.program.now.model function route.now }
+    requires pools { HasRoute (pools_of pools.old) route.now }
+    ensures takers { IfOk result (λ takers. (place : Place) (field : Standing)
+        → slice_get (functions round.now.program.now.model) function ≡ Some place
+        → field.pools ≡ pools_of pools.old
+        → ascending takers.items ≡ taking (round_of round.now) function place field) }
+    ensures others { OnOk result ((place : Place)
+        → slice_get (functions round.now.program.now.model) function ≡ Some place
+        → pools_of pools.new ≡ changed_pool place.agent (state_place place.type place.function.current)
+        (staying (round_of round.now) function place) (pools_of pools.old)) }
+{
+    let pool = exchange(pools, route.agent, route.from, Gathering::empty(alloc));
+    let (takers, others) = part_rows(alloc, round, function, route, pool.rows)?;
+    exchange(pools, route.agent, route.from, Gathering { rows: others });
+    Ok(takers)
+}
+
+/// What these agents leave that run the function, with these boards of its inputs.
+fn run(
+    alloc: Global,
+    round: &Round<'_>,
+    function: u32,
+    takers: &[Row],
+    boards: Vec<Arc<Frozen>>,
+) -> Result<Leaving, NoMemory>
+    requires fits { FitsRun round.now.program.now.model function round.now.constants.now
+        (map shared_messages boards.items) takers.now }
+    ensures { IfOk result (λ leaving. (all : List (List (List ℤ)))
+        → map shared_messages boards.items
+        ≡ boards_named (place_of round.now.program.now function) round.now.program.now.model all
+        → AreLeft round.now.iteration function (λ memory. outcome round.now.program.now function memory all
+        round.now.constants.now round.now.iteration round.now.fuel) takers.now leaving) }
+{
+    let boards = Seq::of(boards);
+    run_over(alloc, round, function, takers, &boards)
+}
+
+/// The function runs for all that take it (FLAME User Manual).
+pub(crate) fn step(
+    alloc: Global,
+    round: &Round<'_>,
+    function: u32,
+    field: Field,
+) -> Result<Stepped, NoMemory>
+    requires there { function < function_count round.now.program.now.model }
+    requires known { length round.now.constants.now ≡ length round.now.program.now.model.constants }
+    requires fits { FitsField round.now.program.now.model (field_of field) }
+    ensures { IfOk result (λ stepped. result_of stepped ≡ meant (round_of round.now) function (field_of field)) }
+{
+    let mut field = field;
+    let route = route_of(round, function);
+    let takers = leave(alloc, round, function, route, &mut field.pools)?;
+    let boards = read(alloc, &mut field.boards, route.inputs.items(), round.wants)?;
+    let Leaving {
+        survivors,
+        sent,
+        born,
+        fault,
+        ..
+    } = run(alloc, round, function, &takers, boards)?;
+    match fault {
+        Some(fault) => Ok(Stepped::Faulted(fault)),
+        None => {
+            field.settle(alloc, route.agent, route.to, survivors, sent, born)?;
+            Ok(Stepped::On(field))
+        }
+    }
+}
