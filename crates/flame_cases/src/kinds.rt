@@ -42,11 +42,11 @@ pub(crate) enum Kind {
     Code,
     /// `flame_report::graph_text`
     Graph,
-    /// `flame_core::PlainRunner`
+    /// `flame_runner::PlainRunner`
     Iteration,
     /// The calls of `flame_core::Core`
     Core,
-    /// The same, in many orders, beside `flame_core::iterate`
+    /// The same, in many orders, beside `flame_runner::iterate`
     Orders,
     /// `flame_popfile::population`, and `flame_popfile::text` and `flame_popfile::line` of what it gives
     Population,

@@ -1,6 +1,5 @@
 mod InOrders
 mod Openings
-mod OutputsOnce
 mod Comings
 mod Ranks
 mod Finished

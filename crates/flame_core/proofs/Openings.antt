@@ -1,7 +1,7 @@
 -- How a core begins.
 use Rattle.std.proofs.Common.{◌≡◌, ℕ, zero, suc, ◌+◌, ◌<◌, ◌≤◌, Bool, true, false, List, [], ◌∷◌, ◌++◌, length, map, take, get_or, replicate, Option, Some, None, refl, sym, ap, ◌∙◌, subst, arith, ⊎_elim}
 use Rattle.std.specs.Prelude.{◌==◌, ◌&&◌, ◌||◌, nat_lt, slice_get, slice_index_or}
-use Rattle.std.specs.List.{All, AllZip, cons_option, filter_map, list_any, zip}
+use Rattle.std.specs.List.{All, cons_option, filter_map, list_any}
 use Rattle.std.proofs.lemmas.Bool.{cases_eq, cases_lt, eq-eqb, ne_eqb, lt-ltb, le-ltb, ltb-true, and_parts}
 use Rattle.std.proofs.lemmas.List.{take_more}
 use Rattle.std.proofs.lemmas.List.Folds.{list_any-append}
@@ -27,7 +27,7 @@ use Rattle.flame_progress.specs.ManyWait.{waited_for_by, waiting_for}
 use Rattle.flame_progress.proofs.Allowing.{all_in, inputs_below}
 use Rattle.flame_progress.proofs.Waiters.{waiters_told, waiting_is_told}
 
--- ---- statuses, pools and births
+-- ---- statuses
 
 pub all_wait : {X : Type 0} (n : ℕ) (xs : List X) → n ≡ length xs → map status_of (replicate n is.Waiting) ≡ map (λ x. Waiting) xs
 all_wait zero [] long = refl
@@ -39,12 +39,6 @@ pub none_has : (n f : ℕ) (outputs : List ℕ) → HasOutputs outputs (slice_in
 none_has zero f outputs = tt
 none_has (suc n) zero outputs = tt
 none_has (suc n) (suc f) outputs = none_has n f outputs
-
-pub zip_long : {X Y Z : Type 0} (R : X → Y → Type 0) (f : X × Y → Z) (xs : List X) (ys : List Y) → AllZip R xs ys → length (map f (zip xs ys)) ≡ length xs
-zip_long R f [] [] all = refl
-zip_long R f [] (y ∷ ys) all = refl
-zip_long R f (x ∷ xs) [] all = absurd all
-zip_long R f (x ∷ xs) (y ∷ ys) all = ap suc (zip_long R f xs ys all.1)
 
 -- ---- who waits for whom
 

@@ -33,7 +33,7 @@ use Rattle.flame_meaning.proofs.Eachs.{each_at}
 pub same_core : (progress : Progress) (boards : Vec Board Global)
     → map board_bag boards.items ≡ map board_bag progress.field.boards.items
     → map is_board_frozen boards.items ≡ map is_board_frozen progress.field.boards.items
-    → core_of (record progress { boards = boards }) ≡ core_of progress
+    → core_of (record progress { field = record progress.field { boards = boards } }) ≡ core_of progress
 same_core progress boards bags marks =
     let core = core_of progress in
     λ i. record {

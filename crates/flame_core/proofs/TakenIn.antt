@@ -126,6 +126,24 @@ can_here seen round share can source constants iteration fuel = record {
   };
 }
 
+pub can_there : (seen : Seen) (round : run.Round) (share : Share) → CanAbsorb seen share
+    → round.program.now ≡ seen.source → round.constants.now ≡ seen.world.constants → round.iteration ≡ seen.iteration → round.fuel ≡ seen.fuel
+    → CanTakeIn round seen.core share
+can_there seen round share can source constants iteration fuel = record {
+  work = can.work;
+  there = can.there;
+  agents = can.agents;
+  new = can.new;
+  setting = record {
+    source = can.setting.source ∙ sym source;
+    constants = can.setting.constants ∙ sym constants;
+    boards_are = can.setting.boards
+        ∙ ap (λ (s : Source). boards_named (place_of s (piece_of share).function) s.model seen.core.field.boards) (sym source);
+    iteration = can.setting.iteration ∙ sym iteration;
+    fuel = can.setting.fuel ∙ sym fuel;
+  };
+}
+
 -- the events of the share's piece lead on
 pub leads_on : (seen : Seen) (share : Share) → FitsCore seen.source.model seen.core → (can : CanAbsorb seen share)
     → Leads (round_in seen) seen.pieces seen.core (agent_events (piece_of share).function (piece_of share).number can.work)

@@ -1,11 +1,10 @@
 //! Shares: a piece's work that was done elsewhere.
 
-ghost use Rattle.std.specs.Prelude.{◌≡◌, ◌↔◌, ◌<◌, ◌++◌, [], ℕ, ℤ, List, true, false, IfOk, OnOk, OnErr, IsTrue};
-ghost use Rattle.std.specs.Prelude.{length, map};
-ghost use Rattle.std.specs.Prelude.{slice_index_or};
+ghost use Rattle.std.specs.Prelude.{◌≡◌, ◌↔◌, ◌<◌, ◌++◌, [], ℕ, true, false, IfOk, OnOk, OnErr, IsTrue};
+ghost use Rattle.std.specs.Prelude.{length, map, slice_index_or};
 ghost use Rattle.std.specs.List.{All, flat_map};
 ghost use Rattle.flame_index.specs.FrozenBoards.{shared_messages};
-ghost use Rattle.flame_world.specs.Shares.{piece_of, setting_of};
+ghost use Rattle.flame_world.specs.Shares.{piece_of};
 ghost use Rattle.flame_events.specs.CoreFits.{FitsCore};
 ghost use Rattle.flame_events.specs.CoreStates.{Work as Meant, work_of};
 ghost use Rattle.flame_events.specs.AbsorbedPieces.{agent_events};

@@ -42,7 +42,7 @@ pub(crate) fn input_boards(
     ensures kept { (counts : Kept) → Tallies round.now.program.now.model progress.old counts
         → Came round.now.program.now.model (core_of progress.old) progress.new counts }
 {
-    let inputs = route_of(round, function).inputs.items();
-    let boards = share(alloc, &mut progress.field.boards, inputs, round.wants)?;
-    Ok(Seq::of(boards))
+    let route = route_of(round, function);
+    let inputs = route.inputs.items();
+    Ok(Seq::of(share(alloc, &mut progress.field.boards, inputs, round.wants)?))
 }

@@ -1,6 +1,6 @@
 //! How a core begins.
 
-ghost use Rattle.std.specs.Prelude.{◌≡◌, ◌↔◌, [], ℕ, List, false, IfOk, IsTrue, length, map, replicate};
+ghost use Rattle.std.specs.Prelude.{◌≡◌, ◌↔◌, ℕ, List, false, IfOk, IsTrue, length, replicate};
 ghost use Rattle.flame_spec.specs.Before.{before, function_count};
 ghost use Rattle.flame_spec.specs.Below.{is_in};
 ghost use Rattle.flame_spec.specs.Counted.{is_counted};

@@ -1,6 +1,6 @@
 //! How a core begins, and how it goes on.
 
-ghost use Rattle.std.specs.Prelude.{◌≡◌, ◌≤◌, Some, IfOk, IfErr, OnOk, length, map, slice_get};
+ghost use Rattle.std.specs.Prelude.{◌≡◌, ◌≤◌, Some, IfOk, IfErr, OnOk, OnErr, length, map, slice_get};
 ghost use Rattle.flame_spec.specs.Functions.{Place, functions};
 ghost use Rattle.flame_meaning.specs.Outcomes.{place_of};
 ghost use Rattle.flame_index.specs.FrozenBoards.{shared_messages};
@@ -8,10 +8,10 @@ ghost use Rattle.flame_agent.specs.FunctionFits.{AreBoardsFor};
 ghost use Rattle.flame_world.specs.InputBoards.{boards_named};
 ghost use Rattle.flame_world.specs.WorldFits.{FitsModel};
 ghost use Rattle.flame_events.specs.CoreStates.{opening_core, status_of, works_of};
-ghost use Rattle.flame_core.specs.CoreCalls.{Absorbed, Happened, NotAbsorbed, Refused};
+ghost use Rattle.flame_core.specs.CoreCalls.{Absorbed, CanAbsorb, Happened, NotAbsorbed, Refused};
 ghost use Rattle.flame_core.specs.SeenCores.{IsNew};
 
-use crate::absorbing::{absorb, can_absorb};
+use crate::absorbing::absorb;
 use crate::cores::Core;
 use crate::faults::StepFault;
 use crate::happening::happen;
@@ -106,6 +106,21 @@ impl<'a> Core<'a> {
         ensures ok { OnOk result (Absorbed share.entry self.old self.new) }
         ensures err { IfErr result (NotAbsorbed share.entry self.old self.new) }
     {
+        if !self.can_absorb(&share) {
+            return Err(StepFault::Illegal);
+        }
+        self.take_in(share)?;
+        Ok(())
+    }
+
+    /// The same of a share of which it is known that it can be absorbed: nothing is compared. Nothing changes where no
+    /// memory was found.
+    pub fn take_in(&mut self, share: Share<'_>) -> Result<(), NoMemory>
+        requires { CanAbsorb self.old share }
+        ensures ok { OnOk result (Absorbed share.entry self.old self.new) }
+        ensures err { OnErr result (self.new ≡ self.old) }
+    {
+        let alloc = *self.progress.field.born.allocator();
         let round = Round {
             program: self.program,
             constants: &self.world.constants,
@@ -113,10 +128,6 @@ impl<'a> Core<'a> {
             fuel: self.fuel,
             wants: self.wants.as_slice(),
         };
-        if !can_absorb(&round, &self.progress, &share) {
-            return Err(StepFault::Illegal);
-        }
-        let alloc = *self.progress.field.born.allocator();
         absorb(alloc, &round, &mut self.progress, share)?;
         Ok(())
     }

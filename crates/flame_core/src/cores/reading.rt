@@ -9,9 +9,10 @@ ghost use Rattle.flame_world.specs.WorldFits.{AreWide};
 ghost use Rattle.flame_events.specs.CoreEnds.{is_complete, least_fault_rank};
 ghost use Rattle.flame_events.specs.CoreStates.{is_frozen, status_of, works_of};
 ghost use Rattle.flame_events.specs.EveryOrder.{CanGoOn};
-ghost use Rattle.flame_core.specs.CoreCalls.{allows, BeganWith, IsPieceOf};
+ghost use Rattle.flame_core.specs.CoreCalls.{allows, BeganWith, CanAbsorb, IsPieceOf};
 ghost use Rattle.flame_core.specs.SeenCores.{IsReached};
 
+use crate::absorbing::can_absorb;
 use crate::cores::Core;
 use crate::ending::{first_faulted, wanted_are_shut};
 use crate::starting::Start;
@@ -19,8 +20,9 @@ use flame_events::Event;
 use flame_events::laws::every_order;
 use flame_index::Frozen;
 use flame_program::Program;
+use flame_round::Round;
 use flame_rows::NoMemory;
-use flame_world::{Piece, World};
+use flame_world::{Piece, Share, World};
 
 impl<'a> Core<'a> {
     /// Whether the event is legal. One that names no function, piece or message of this core is not.
@@ -106,6 +108,21 @@ impl<'a> Core<'a> {
             pieces,
         };
         own.same(&other)
+    }
+
+    /// Whether the share can be absorbed: its piece is a piece of an open function, with the same agents, of which none
+    /// ran, and its setting is that of the core and the function.
+    pub fn can_absorb(&self, share: &Share<'_>) -> bool
+        ensures { IsTrue result ↔ CanAbsorb self.now share.now }
+    {
+        let round = Round {
+            program: self.program,
+            constants: &self.world.constants,
+            iteration: self.iteration,
+            fuel: self.fuel,
+            wants: self.wants.as_slice(),
+        };
+        can_absorb(&round, &self.progress, share)
     }
 
     /// Whether all functions are shut that are wanted: those of a rank below the least of a function that is faulted,

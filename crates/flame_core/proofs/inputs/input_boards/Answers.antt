@@ -57,6 +57,6 @@ returns-clause-kept c = λ counts tallies.
     let model = c.args.round.now.program.now.model in
     let progress = c.args.progress.now in
     let same = same_core progress c.share.new.boards c.in_ok-share.ensures.bags c.in_ok-share.ensures.frozen in
-    came model progress (record progress { boards = c.share.new.boards }) counts counts (core_of progress)
-    same refl refl
+    came model progress (record progress { field = record progress.field { boards = c.share.new.boards } }) counts counts
+    (core_of progress) same refl refl
     (λ g has. has) tallies tallies.counted

@@ -17,7 +17,7 @@ use Rattle.flame_progress.specs.KeptCores.{core_of}
 use Rattle.flame_progress.proofs.Tallied.{tells_same}
 use Rattle.flame_core.proofs.Counting.{functions_numbered}
 use Rattle.flame_core.proofs.InOrders.{nothing_frozen, nothing_shut}
-use Rattle.flame_core.proofs.OutputsOnce.{outputs_once}
+use Rattle.flame_orders.proofs.OnceOutputs.{outputs_once}
 use Rattle.flame_core.proofs.cores.Core.new.Goals as goal
 
 pub counted-requires : goal.counted-requires
