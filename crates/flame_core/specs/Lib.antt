@@ -1,5 +1,4 @@
 -- Each definition's comment ends with its source in brackets:
--- libmboard: boards
 -- own: a choice of this project, or a word that a definition is made of
 -- ---- how a core is seen, and what its calls answer
 pub mod CoreCalls
