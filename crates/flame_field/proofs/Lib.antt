@@ -1,4 +1,6 @@
 pub mod Changed
 pub mod Gathered
+pub mod Borne
+mod Halving
 pub mod Joining
 pub mod Written

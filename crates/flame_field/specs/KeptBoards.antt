@@ -5,11 +5,11 @@ use Rattle.flame_index.specs.FrozenBoards.{messages_on, shared_messages}
 use Rattle.flame_field.specs.declared.boards.Board.{Board}
 use Rattle.flame_field.specs.declared.boards.Board.TheVariants as board
 
--- the bag of its messages [libmboard]
+-- the bag of its messages; those of a board that is frozen stand in order already [libmboard]
 abbrev pub board_bag : Board → List (List ℤ)
 board_bag (board.Gathering rows) = ascending rows.items
-board_bag (board.Frozen frozen) = messages_on frozen
-board_bag (board.Shared frozen) = shared_messages frozen
+board_bag (board.Frozen frozen) = ascending (messages_on frozen)
+board_bag (board.Shared frozen) = ascending (shared_messages frozen)
 
 -- no message comes any more [libmboard]
 abbrev pub is_board_frozen : Board → Bool

@@ -10,11 +10,14 @@ use Rattle.flame_field.specs.declared.keeping.Want.{Want}
 abbrev pub pays : (views rows : ℕ) → Bool
 pays views rows = nat_lt rows (2 ^ views)
 
+-- what is kept with this order too, where it pays [own]
+abbrev pub with_want : ℕ → Want → Kept → Kept
+with_want rows want kept = if pays want.views rows then with_key (key_by want.by) kept else kept
+
 -- what is kept with the orders too that are wanted and pay, in their order [own]
 abbrev pub with_wants : ℕ → List Want → Kept → Kept
 with_wants rows [] kept = kept
-with_wants rows (want ∷ wants) kept =
-    with_wants rows wants (if pays want.views rows then with_key (key_by want.by) kept else kept)
+with_wants rows (want ∷ wants) kept = with_wants rows wants (with_want rows want kept)
 
 -- what is wanted of the board of this message, where that is told for each [own]
 abbrev pub wants_at : List (Vec Want Global) → ℕ → List Want

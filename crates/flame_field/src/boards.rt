@@ -31,6 +31,15 @@ fn put_in_order(rows: &mut Vec<Row>)
     let _sorted = rows.sort();
 }
 
+/// The board, whose messages stand in order.
+fn in_order(board: &Frozen) -> &Frozen
+    ensures board { result.now ≡ board.now }
+    ensures order { messages_on board.now ≡ ascending (messages_on board.now) }
+{
+    let _rows = board.bag().rows();
+    board
+}
+
 /// The board, moved to where it may be shared.
 fn moved(alloc: Global, board: &mut Frozen) -> Result<Arc<Frozen>, NoMemory>
     ensures ok { IfOk result (λ shared. arc_value shared ≡ board.old) }
@@ -78,8 +87,8 @@ impl Board {
     {
         match self {
             Board::Gathering(_) => None,
-            Board::Frozen(board) => Some(board),
-            Board::Shared(board) => Some(board),
+            Board::Frozen(board) => Some(in_order(board)),
+            Board::Shared(board) => Some(in_order(board)),
         }
     }
 
@@ -132,7 +141,10 @@ impl Board {
         match self {
             Board::Gathering(_) => unreachable!(),
             Board::Frozen(_) => unreachable!(),
-            Board::Shared(board) => Ok(Arc::try_clone(board)?),
+            Board::Shared(board) => {
+                let _in_order = in_order(board);
+                Ok(Arc::try_clone(board)?)
+            }
         }
     }
 
@@ -159,15 +171,38 @@ impl Board {
         }
     }
 
+    /// A board that was frozen gathers again. After `NoMemory` it may have lost its messages.
+    fn thaw(&mut self, alloc: Global) -> Result<(), NoMemory>
+        ensures bag { OnOk result (board_bag self.new ≡ board_bag self.old) }
+        ensures gathers { OnOk result (is_board_frozen self.new ≡ false) }
+    {
+        if self.is_frozen() {
+            let rows = mem::replace(self, Board::empty(alloc)).into_rows()?;
+            *self = Board::Gathering(rows);
+        }
+        Ok(())
+    }
+
+    /// Adds a message to a board that gathers.
+    fn push(&mut self, row: Row) -> Result<(), NoMemory>
+        requires { is_board_frozen self.old ≡ false }
+        ensures { OnOk result (board_bag self.new ≡ merge (board_bag self.old) (row ∷ [])) }
+    {
+        match self {
+            Board::Gathering(rows) => rows.push(row)?,
+            Board::Frozen(_) => unreachable!(),
+            Board::Shared(_) => unreachable!(),
+        }
+        Ok(())
+    }
+
     /// Adds a message. A board that was frozen gathers again; after `NoMemory` it may have lost its messages, and is of no
     /// further use.
     pub fn add(&mut self, alloc: Global, row: Row) -> Result<(), NoMemory>
         ensures { OnOk result (board_bag self.new ≡ merge (board_bag self.old) (row ∷ [])) }
     {
-        let mut rows = mem::replace(self, Board::empty(alloc)).into_rows()?;
-        rows.push(row)?;
-        *self = Board::Gathering(rows);
-        Ok(())
+        self.thaw(alloc)?;
+        self.push(row)
     }
 
     /// The messages.
@@ -176,8 +211,14 @@ impl Board {
     {
         match self {
             Board::Gathering(rows) => Bag::of_rows(rows),
-            Board::Frozen(board) => Ok(board.into_bag()),
-            Board::Shared(board) => unshared(board),
+            Board::Frozen(board) => {
+                let _in_order = in_order(&board);
+                Ok(board.into_bag())
+            }
+            Board::Shared(board) => {
+                let _in_order = in_order(&board);
+                unshared(board)
+            }
         }
     }
 }
