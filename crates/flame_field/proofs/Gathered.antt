@@ -3,7 +3,7 @@ use Rattle.std.proofs.Common.{◌≡◌, ◌+◌, List, [], ◌++◌, sym, ap, �
 use Rattle.std.specs.Prelude.{ℤ}
 use Rattle.std.proofs.lemmas.List.Sorted.{sum_by-IsPermutation}
 use Rattle.flame_rows.specs.Order.{row_order}
-use Rattle.flame_rows.specs.Bags.{ascending, merge, weigh}
+use Rattle.flame_rows.specs.Bags.{ascending, merge}
 use Rattle.flame_index.specs.FrozenBoards.{messages_on, shared_messages}
 use Rattle.flame_field.specs.declared.boards.Board.{Board}
 use Rattle.flame_field.specs.declared.boards.Board.TheVariants as board

@@ -1,5 +1,5 @@
 -- Numbers that are halved down to none.
-use Rattle.std.proofs.Common.{◌≡◌, ◌∙◌, ℕ, ◌<◌, ◌≤◌, ◌^◌, ◌/◌, ◌+◌, ◌*◌, true, nat_eq, nat_lt, sym, arith}
+use Rattle.std.proofs.Common.{◌≡◌, ℕ, ◌<◌, ◌≤◌, ◌^◌, ◌/◌, true, nat_eq, arith}
 use Rattle.std.proofs.lemmas.Bool.{lt-ltb, ltb_from_iff, eqb-true, eq-eqb}
 use Rattle.std.proofs.lemmas.Nat.{pow_pos}
 use Rattle.std.proofs.Math.Nat.{div-lt_iff_lt-mul}

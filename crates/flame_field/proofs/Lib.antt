@@ -3,4 +3,5 @@ pub mod Gathered
 pub mod Borne
 mod Halving
 pub mod Joining
+mod Wanted
 pub mod Written

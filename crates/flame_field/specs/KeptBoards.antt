@@ -1,7 +1,8 @@
 -- How boards are kept.
 use Rattle.std.specs.Prelude.{ℤ, List, Bool, true, false}
+use Rattle.std.specs.Arc.{arc_value}
 use Rattle.flame_rows.specs.Bags.{ascending}
-use Rattle.flame_index.specs.FrozenBoards.{messages_on, shared_messages}
+use Rattle.flame_index.specs.FrozenBoards.{Kept, messages_on, nothing_kept, shared_messages}
 use Rattle.flame_field.specs.declared.boards.Board.{Board}
 use Rattle.flame_field.specs.declared.boards.Board.TheVariants as board
 
@@ -22,3 +23,9 @@ abbrev pub is_board_shared : Board → Bool
 is_board_shared (board.Gathering rows) = false
 is_board_shared (board.Frozen frozen) = false
 is_board_shared (board.Shared frozen) = true
+
+-- what is kept beside its messages; while they come, nothing [own]
+abbrev pub board_keeps : Board → Kept
+board_keeps (board.Gathering rows) = nothing_kept
+board_keeps (board.Frozen frozen) = frozen.kept
+board_keeps (board.Shared frozen) = (arc_value frozen).kept

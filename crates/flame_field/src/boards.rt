@@ -1,10 +1,11 @@
 //! Boards on the way from a gathering of messages to a list that is read.
 
-ghost use Rattle.std.specs.Prelude.{◌≡◌, [], ◌∷◌, true, false, Some, None, IfOk, OnOk, OnErr, option_map, if◌then◌else◌};
+ghost use Rattle.std.specs.Prelude.{◌≡◌, IsTrue, length, [], ◌∷◌, true, false, Some, None, IfOk, OnOk, OnErr, option_map, if◌then◌else◌};
 ghost use Rattle.std.specs.Arc.{arc_value};
 ghost use Rattle.flame_rows.specs.Bags.{ascending, merge};
 ghost use Rattle.flame_index.specs.FrozenBoards.{messages_on, shared_messages};
-ghost use Rattle.flame_field.specs.KeptBoards.{board_bag, is_board_frozen, is_board_shared};
+ghost use Rattle.flame_field.specs.KeptBoards.{board_bag, board_keeps, is_board_frozen, is_board_shared};
+ghost use Rattle.flame_field.specs.KeptOrders.{KeepsWanted};
 
 use crate::keeping::{Want, keep};
 use flame_index::Frozen;
@@ -123,6 +124,8 @@ impl Board {
         ensures bag { board_bag self.new ≡ board_bag self.old }
         ensures frozen { is_board_frozen self.new ≡ true }
         ensures shared { OnOk result (is_board_shared self.new ≡ true) }
+        ensures keeps { KeepsWanted (length (board_bag self.old)) wants.now (board_keeps self.old) (board_keeps self.new) }
+        ensures left { IsTrue (is_board_shared self.old) → self.new ≡ self.old }
     {
         if let Board::Frozen(board) = self {
             // Without what is wanted the messages are found too.
@@ -155,6 +158,8 @@ impl Board {
         ensures read { IfOk result (λ board. shared_messages board ≡ board_bag self.old) }
         ensures bag { board_bag self.new ≡ board_bag self.old }
         ensures frozen { is_board_frozen self.new ≡ true }
+        ensures keeps { KeepsWanted (length (board_bag self.old)) wants.now (board_keeps self.old) (board_keeps self.new) }
+        ensures left { IsTrue (is_board_shared self.old) → self.new ≡ self.old }
     {
         self.make_shared(alloc, wants)?;
         self.reader()

@@ -2,7 +2,7 @@
 
 ghost use Rattle.std.specs.Prelude.{◌≡◌, length, OnOk, OnErr};
 ghost use Rattle.flame_index.specs.FrozenBoards.{messages_on};
-ghost use Rattle.flame_field.specs.KeptOrders.{pays, with_want, with_wants};
+ghost use Rattle.flame_field.specs.KeptOrders.{pays, with_want, with_wants, KeepsWanted};
 
 use flame_cond::SortBy;
 use flame_index::Frozen;
@@ -43,6 +43,7 @@ fn keep_one(alloc: Global, board: &mut Frozen, want: Want) -> Result<(), NoMemor
 pub(crate) fn keep(alloc: Global, board: &mut Frozen, wants: &[Want]) -> Result<(), NoMemory>
     ensures messages { messages_on board.new ≡ messages_on board.old }
     ensures kept { OnOk result (board.new.kept ≡ with_wants (length (messages_on board.old)) wants.now board.old.kept) }
+    ensures keeps { KeepsWanted (length (messages_on board.old)) wants.now board.old.kept board.new.kept }
 {
     for want in wants {
         keep_one(alloc, board, *want)?;

@@ -1,6 +1,5 @@
-use Rattle.std.proofs.Common.{◌∙◌, List, ap, sym, subst}
+use Rattle.std.proofs.Common.{List, sym, subst}
 use Rattle.std.specs.Prelude.{ℤ}
-use Rattle.flame_rows.specs.Bags.{ascending}
 use Rattle.flame_rows.specs.Order.{row_order}
 use Rattle.flame_rows.specs.Sorted.{IsAscending}
 use Rattle.flame_rows.proofs.BagLaws.{ascending-IsAscending}
