@@ -174,7 +174,7 @@ impl Progress {
         } }
         ensures statuses { self.new.statuses.items ≡ slice_set self.old.statuses.items function (Status.Open works) }
     {
-        exchange(
+        let _gone = exchange(
             &mut self.field.pools,
             agent,
             state,
