@@ -78,8 +78,3 @@ pub changed-same_change : {X : Type 0} (place : ℕ) (f g : X → X) → ((x : X
 changed-same_change place f g same [] = refl
 changed-same_change zero f g same (x ∷ xs) = λ i. same x i ∷ xs
 changed-same_change (suc place) f g same (x ∷ xs) = λ i. x ∷ changed-same_change place f g same xs i
-
-pub changed-not : {X : Type 0} (place : ℕ) (xs : List X) → changed place (λ x. x) xs ≡ xs
-changed-not place [] = refl
-changed-not zero (x ∷ xs) = refl
-changed-not (suc place) (x ∷ xs) = λ i. x ∷ changed-not place xs i

@@ -3,7 +3,11 @@ use Rattle.std.proofs.Common.{◌≡◌, ◌+◌, List, [], ◌++◌, sym, ap, �
 use Rattle.std.specs.Prelude.{ℤ}
 use Rattle.std.proofs.lemmas.List.Sorted.{sum_by-IsPermutation}
 use Rattle.flame_rows.specs.Order.{row_order}
-use Rattle.flame_rows.specs.Bags.{ascending, merge, weigh}
+use Rattle.flame_rows.specs.Bags.{ascending, merge}
+use Rattle.flame_index.specs.FrozenBoards.{messages_on, shared_messages}
+use Rattle.flame_field.specs.declared.boards.Board.{Board}
+use Rattle.flame_field.specs.declared.boards.Board.TheVariants as board
+use Rattle.flame_field.specs.KeptBoards.{board_bag}
 use Rattle.flame_field.specs.declared.gatherings.Gathering.{Gathering}
 use Rattle.flame_field.specs.KeptPools.{bag_of}
 use Rattle.flame_rows.proofs.Sorting.{ascending_once, sum_by-sorted_by}
@@ -17,6 +21,11 @@ merge-none rows =
 
 pub bag-in_order : (gathering : Gathering) → ascending (bag_of gathering) ≡ bag_of gathering
 bag-in_order gathering = ascending-ascending gathering.rows.items
+
+pub board-in_order : (b : Board) → ascending (board_bag b) ≡ board_bag b
+board-in_order (board.Gathering rows) = ascending-ascending rows.items
+board-in_order (board.Frozen frozen) = ascending-ascending (messages_on frozen)
+board-in_order (board.Shared frozen) = ascending-ascending (shared_messages frozen)
 
 -- rows in another order have the same bag
 pub ascending-permuted : (rows more : List (List ℤ)) → IsPermutation rows more → ascending more ≡ ascending rows

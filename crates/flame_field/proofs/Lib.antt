@@ -1,4 +1,7 @@
 pub mod Changed
 pub mod Gathered
+pub mod Borne
+mod Halving
 pub mod Joining
+mod Wanted
 pub mod Written

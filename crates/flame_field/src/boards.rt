@@ -1,10 +1,11 @@
 //! Boards on the way from a gathering of messages to a list that is read.
 
-ghost use Rattle.std.specs.Prelude.{◌≡◌, [], ◌∷◌, true, false, Some, None, IfOk, OnOk, OnErr, option_map, if◌then◌else◌};
+ghost use Rattle.std.specs.Prelude.{◌≡◌, IsTrue, length, [], ◌∷◌, true, false, Some, None, IfOk, OnOk, OnErr, option_map, if◌then◌else◌};
 ghost use Rattle.std.specs.Arc.{arc_value};
 ghost use Rattle.flame_rows.specs.Bags.{ascending, merge};
 ghost use Rattle.flame_index.specs.FrozenBoards.{messages_on, shared_messages};
-ghost use Rattle.flame_field.specs.KeptBoards.{board_bag, is_board_frozen, is_board_shared};
+ghost use Rattle.flame_field.specs.KeptBoards.{board_bag, board_keeps, is_board_frozen, is_board_shared};
+ghost use Rattle.flame_field.specs.KeptOrders.{KeepsWanted};
 
 use crate::keeping::{Want, keep};
 use flame_index::Frozen;
@@ -29,6 +30,15 @@ fn put_in_order(rows: &mut Vec<Row>)
     ensures { ascending rows.new.items ≡ ascending rows.old.items }
 {
     let _sorted = rows.sort();
+}
+
+/// The board, whose messages stand in order.
+fn in_order(board: &Frozen) -> &Frozen
+    ensures board { result.now ≡ board.now }
+    ensures order { messages_on board.now ≡ ascending (messages_on board.now) }
+{
+    let _rows = board.bag().rows();
+    board
 }
 
 /// The board, moved to where it may be shared.
@@ -78,8 +88,8 @@ impl Board {
     {
         match self {
             Board::Gathering(_) => None,
-            Board::Frozen(board) => Some(board),
-            Board::Shared(board) => Some(board),
+            Board::Frozen(board) => Some(in_order(board)),
+            Board::Shared(board) => Some(in_order(board)),
         }
     }
 
@@ -114,6 +124,8 @@ impl Board {
         ensures bag { board_bag self.new ≡ board_bag self.old }
         ensures frozen { is_board_frozen self.new ≡ true }
         ensures shared { OnOk result (is_board_shared self.new ≡ true) }
+        ensures keeps { KeepsWanted (length (board_bag self.old)) wants.now (board_keeps self.old) (board_keeps self.new) }
+        ensures left { IsTrue (is_board_shared self.old) → self.new ≡ self.old }
     {
         if let Board::Frozen(board) = self {
             // Without what is wanted the messages are found too.
@@ -132,7 +144,10 @@ impl Board {
         match self {
             Board::Gathering(_) => unreachable!(),
             Board::Frozen(_) => unreachable!(),
-            Board::Shared(board) => Ok(Arc::try_clone(board)?),
+            Board::Shared(board) => {
+                let _in_order = in_order(board);
+                Ok(Arc::try_clone(board)?)
+            }
         }
     }
 
@@ -143,6 +158,8 @@ impl Board {
         ensures read { IfOk result (λ board. shared_messages board ≡ board_bag self.old) }
         ensures bag { board_bag self.new ≡ board_bag self.old }
         ensures frozen { is_board_frozen self.new ≡ true }
+        ensures keeps { KeepsWanted (length (board_bag self.old)) wants.now (board_keeps self.old) (board_keeps self.new) }
+        ensures left { IsTrue (is_board_shared self.old) → self.new ≡ self.old }
     {
         self.make_shared(alloc, wants)?;
         self.reader()
@@ -159,15 +176,38 @@ impl Board {
         }
     }
 
+    /// A board that was frozen gathers again. After `NoMemory` it may have lost its messages.
+    fn thaw(&mut self, alloc: Global) -> Result<(), NoMemory>
+        ensures bag { OnOk result (board_bag self.new ≡ board_bag self.old) }
+        ensures gathers { OnOk result (is_board_frozen self.new ≡ false) }
+    {
+        if self.is_frozen() {
+            let rows = mem::replace(self, Board::empty(alloc)).into_rows()?;
+            *self = Board::Gathering(rows);
+        }
+        Ok(())
+    }
+
+    /// Adds a message to a board that gathers.
+    fn push(&mut self, row: Row) -> Result<(), NoMemory>
+        requires { is_board_frozen self.old ≡ false }
+        ensures { OnOk result (board_bag self.new ≡ merge (board_bag self.old) (row ∷ [])) }
+    {
+        match self {
+            Board::Gathering(rows) => rows.push(row)?,
+            Board::Frozen(_) => unreachable!(),
+            Board::Shared(_) => unreachable!(),
+        }
+        Ok(())
+    }
+
     /// Adds a message. A board that was frozen gathers again; after `NoMemory` it may have lost its messages, and is of no
     /// further use.
     pub fn add(&mut self, alloc: Global, row: Row) -> Result<(), NoMemory>
         ensures { OnOk result (board_bag self.new ≡ merge (board_bag self.old) (row ∷ [])) }
     {
-        let mut rows = mem::replace(self, Board::empty(alloc)).into_rows()?;
-        rows.push(row)?;
-        *self = Board::Gathering(rows);
-        Ok(())
+        self.thaw(alloc)?;
+        self.push(row)
     }
 
     /// The messages.
@@ -176,8 +216,14 @@ impl Board {
     {
         match self {
             Board::Gathering(rows) => Bag::of_rows(rows),
-            Board::Frozen(board) => Ok(board.into_bag()),
-            Board::Shared(board) => unshared(board),
+            Board::Frozen(board) => {
+                let _in_order = in_order(&board);
+                Ok(board.into_bag())
+            }
+            Board::Shared(board) => {
+                let _in_order = in_order(&board);
+                unshared(board)
+            }
         }
     }
 }

@@ -1,8 +1,8 @@
 //! What is kept beside a board for those who read it.
 
-ghost use Rattle.std.specs.Prelude.{◌≡◌, ◌≤◌, ◌^◌, ◌↔◌, ◌<◌, length, IsTrue, OnOk};
+ghost use Rattle.std.specs.Prelude.{◌≡◌, length, OnOk, OnErr};
 ghost use Rattle.flame_index.specs.FrozenBoards.{messages_on};
-ghost use Rattle.flame_field.specs.KeptOrders.{pays, with_wants};
+ghost use Rattle.flame_field.specs.KeptOrders.{pays, with_want, with_wants, KeepsWanted};
 
 use flame_cond::SortBy;
 use flame_index::Frozen;
@@ -26,16 +26,27 @@ fn pays(views: usize, rows: usize) -> bool
     views >= 64 || rows >> views == 0
 }
 
+/// Keeps beside the board an order that is wanted, if it pays.
+fn keep_one(alloc: Global, board: &mut Frozen, want: Want) -> Result<(), NoMemory>
+    ensures messages { messages_on board.new ≡ messages_on board.old }
+    ensures ok { OnOk result (board.new.kept ≡ with_want (length (messages_on board.old)) want board.old.kept) }
+    ensures err { OnErr result (board.new ≡ board.old) }
+{
+    if pays(want.views, board.bag().rows().len()) {
+        board.keep(alloc, want.by)?;
+    }
+    Ok(())
+}
+
 /// Keeps beside the board the orders that are wanted, as far as they pay. Where memory is not found for one, those before it
 /// are kept. The messages stay in every case.
 pub(crate) fn keep(alloc: Global, board: &mut Frozen, wants: &[Want]) -> Result<(), NoMemory>
     ensures messages { messages_on board.new ≡ messages_on board.old }
     ensures kept { OnOk result (board.new.kept ≡ with_wants (length (messages_on board.old)) wants.now board.old.kept) }
+    ensures keeps { KeepsWanted (length (messages_on board.old)) wants.now board.old.kept board.new.kept }
 {
     for want in wants {
-        if pays(want.views, board.bag().rows().len()) {
-            board.keep(alloc, want.by)?;
-        }
+        keep_one(alloc, board, *want)?;
     }
     Ok(())
 }

@@ -1,4 +1,3 @@
-pub mod Borne
 pub mod Known
 pub mod Tallied
 pub mod Cores

@@ -11,7 +11,6 @@ ghost use Rattle.flame_pieces.specs.KeptStatuses.{status_of, HasOutputs};
 ghost use Rattle.flame_field.specs.KeptPools.{bag_of, bags_of, pools_of};
 ghost use Rattle.flame_progress.specs.KeptWorkEvents.{added, are_left};
 
-use flame_leaving::Leaving;
 use flame_field::Gathering;
 use flame_leaving::Leaving;
 use flame_pieces::{Status, Work};

@@ -6,9 +6,9 @@ use Rattle.flame_rows.specs.Bags.{merge}
 use Rattle.flame_spec.specs.declared.outcomes.Sent.{Sent}
 use Rattle.flame_world.specs.AgentRuns.{messages_of}
 use Rattle.flame_world.specs.Fields.{joined}
-use Rattle.flame_field.specs.KeptFields.{board_bag}
+use Rattle.flame_field.specs.KeptBoards.{board_bag}
 use Rattle.flame_field.proofs.Changed.{map-written}
-use Rattle.flame_runner.proofs.BoardBags.{board-in_order}
+use Rattle.flame_field.proofs.Gathered.{board-in_order}
 use Rattle.flame_field.proofs.Joining.{joined-message, joined-nothing}
 use Rattle.flame_field.proofs.fields.send.Goals as goal
 

@@ -8,7 +8,8 @@ use Rattle.flame_pieces.specs.KeptStatuses.{status_of as kept_status}
 use Rattle.flame_field.specs.KeptPools.{pools_of}
 use Rattle.flame_progress.specs.KeptCores.{core_of}
 use Rattle.flame_progress.specs.KeptWorkEvents.{added, are_left}
-use Rattle.flame_progress.proofs.Cores.{born_more, none_same, outputs_at, outputs_put, pools_long, status_at, statuses_put}
+use Rattle.flame_field.proofs.Borne.{born_more, none_same, pools_long}
+use Rattle.flame_progress.proofs.Cores.{outputs_at, outputs_put, status_at, statuses_put}
 use Rattle.flame_field.proofs.Written.{map-kept, on_err}
 use Rattle.flame_progress.proofs.progress.Progress.settle.Goals as goal
 
