@@ -56,10 +56,10 @@ pub fn run_agent(
 }
 
 /// What these agents leave, told by their memories, that run the function of this number one after another, under this
-/// setting of the program: all of them run, also where one faults, and the fault of the first that does is kept. The
-/// views that no memory changes are made once, and there is one room for all. The memories, the constants and the
-/// messages of the boards are as wide as the model declares. `NoMemory` comes where none is found, and where 32 bits
-/// cannot number the function's inputs.
+/// setting of the program: all of them run, also where one faults, and of their faults that of the least in content order
+/// is kept. The agents may stand in any order. The views that no memory changes are made once, and there is one room for
+/// all. The memories, the constants and the messages of the boards are as wide as the model declares. `NoMemory` comes
+/// where none is found, and where 32 bits cannot number the function's inputs.
 pub fn run_agents(
     alloc: Global,
     program: &Program,

@@ -1,27 +1,18 @@
 -- What some agents and one more leave.
-use Rattle.std.proofs.Common.{◌≡◌, ℕ, ◌+◌, List, [], ◌∷◌, ◌++◌, Option, Some, None, refl, sym, ap, ◌∙◌, arith, append-nil, length-append}
+use Rattle.std.proofs.Common.{◌≡◌, ℕ, ◌+◌, List, [], ◌∷◌, ◌++◌, sym, ap, ◌∙◌, arith, append-nil, length-append}
 use Rattle.std.specs.Prelude.{ℤ}
-use Rattle.std.specs.List.{filter_map, flat_map, cons_option}
-use Rattle.std.specs.Option.{option_or}
+use Rattle.std.specs.List.{flat_map, cons_option}
 use Rattle.std.proofs.lemmas.List.Elements.{filter_map-append}
 use Rattle.std.proofs.lemmas.Grind.{flat_map-append}
 use Rattle.flame_spec.specs.declared.outcomes.Outcome.{Outcome}
-use Rattle.flame_spec.specs.Lists.{first}
 use Rattle.flame_world.specs.AgentRuns.{kept, sent_by, born_by, fault_by}
 use Rattle.flame_leaving.specs.declared.leavings.Leaving.{Leaving}
 use Rattle.flame_leaving.specs.Leavings.{AreLeft}
+use Rattle.flame_leaving.specs.WholeLaws.{least_of}
+use Rattle.flame_leaving.proofs.LeastFaults.{least_fault-next}
 
 flat_map-push : {X Y : Type 0} (f : X → List Y) (xs : List X) (x : X) → flat_map f (xs ++ x ∷ []) ≡ flat_map f xs ++ f x
 flat_map-push f xs x = flat_map-append f xs (x ∷ []) ∙ ap (λ l. flat_map f xs ++ l) (append-nil (f x))
-
-first-append : {X : Type 0} (xs : List X) (o : Option X) → first (xs ++ cons_option o []) ≡ option_or (first xs) o
-first-append [] None = refl
-first-append [] (Some x) = refl
-first-append (y ∷ xs) o = refl
-
-pub or-none : {X : Type 0} (o : Option X) → option_or o None ≡ o
-or-none None = refl
-or-none (Some x) = refl
 
 pub left-next : (iteration : ℤ) (function : ℕ) (run : List ℤ → Outcome) (agents : List (List ℤ)) (memory : List ℤ)
     (outcome : Outcome) (old new : Leaving)
@@ -31,7 +22,7 @@ pub left-next : (iteration : ℤ) (function : ℕ) (run : List ℤ → Outcome) 
     → new.survivors.items ≡ old.survivors.items ++ cons_option (kept outcome) []
     → new.sent.items ≡ old.sent.items ++ sent_by outcome
     → new.born.items ≡ old.born.items ++ born_by outcome
-    → new.fault ≡ option_or old.fault (fault_by iteration function memory outcome)
+    → new.fault ≡ least_of old.fault (fault_by iteration function memory outcome)
     → AreLeft iteration function run (agents ++ memory ∷ []) new
 left-next iteration function run agents memory outcome old new is left ran survivors sent born fault = record {
   ran = omega (arith, ran, left.ran, length-append agents (memory ∷ []));
@@ -42,9 +33,7 @@ left-next iteration function run agents memory outcome old new is left ran survi
   sent = sent ∙ (λ i. left.sent i ++ sent_by (sym is i)) ∙ sym (flat_map-push (λ m. sent_by (run m)) agents memory);
   born = born ∙ (λ i. left.born i ++ born_by (sym is i)) ∙ sym (flat_map-push (λ m. born_by (run m)) agents memory);
   fault =
-      let fails = λ (m : List ℤ). fault_by iteration function m (run m) in
       fault
-      ∙ (λ i. option_or (left.fault i) (fault_by iteration function memory (sym is i)))
-      ∙ sym (first-append (filter_map fails agents) (fails memory))
-      ∙ ap first (sym (filter_map-append fails agents (memory ∷ [])));
+      ∙ (λ i. least_of (left.fault i) (fault_by iteration function memory (sym is i)))
+      ∙ sym (least_fault-next iteration function run agents memory);
 }

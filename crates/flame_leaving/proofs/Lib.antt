@@ -1,5 +1,5 @@
--- One agent more.
-mod Additions
 -- What parts leave together.
 mod Totals
 mod LeastFaults
+-- One agent more.
+mod Additions

@@ -1,12 +1,13 @@
 //! What agents leave.
 
-ghost use Rattle.std.specs.Prelude.{◌≡◌, ◌+◌, ◌<◌, ◌^◌, ◌++◌, ◌∷◌, [], ℕ, ℤ, List, Some, IfOk, OnOk};
+ghost use Rattle.std.specs.Prelude.{◌≡◌, ◌+◌, ◌<◌, ◌^◌, ◌++◌, ◌∷◌, [], ℕ, ℤ, List, Some, IfOk, OnOk, if◌then◌else◌};
 ghost use Rattle.std.specs.List.{cons_option};
-ghost use Rattle.std.specs.Option.{option_or};
 ghost use Rattle.flame_spec.specs.declared.outcomes.Outcome.{Outcome as Ends};
 ghost use Rattle.flame_spec.specs.declared.outcomes.Outcome.TheVariants.{Faulted};
+ghost use Rattle.flame_world.specs.declared.faults.SimFault.{SimFault as Told};
 ghost use Rattle.flame_world.specs.AgentRuns.{fault_by};
 ghost use Rattle.flame_leaving.specs.Leavings.{AreLeft};
+ghost use Rattle.flame_leaving.specs.WholeLaws.{least_of};
 
 use flame_rows::{NoMemory, Row};
 use flame_spec::{Born, Effect, Fault, Outcome, Sent};
@@ -24,7 +25,7 @@ pub struct Leaving {
     pub sent: Vec<Sent>,
     /// The agents that they added.
     pub born: Vec<Born>,
-    /// The fault of the first that faulted.
+    /// The fault of the least of them in content order that faulted.
     pub fault: Option<SimFault>,
 }
 
@@ -79,7 +80,19 @@ impl Leaving {
         Ok(())
     }
 
-    /// Keeps the fault of a further agent, where none faulted before it.
+    /// Whether the fault of a further agent with this memory is the one to be kept: there is none yet, or that of an agent
+    /// that goes after it in content order.
+    fn gives_way_to(&self, memory: &Row) -> bool
+        ensures { (other : Told) → other.memory ≡ memory.now
+            → least_of self.now.fault (Some other) ≡ (if result then Some other else self.now.fault) }
+    {
+        match &self.fault {
+            Some(kept) => kept.memory.compare(memory).is_gt(),
+            None => true,
+        }
+    }
+
+    /// Keeps the fault of a further agent where its memory goes before that of the one that is kept, which it replaces.
     fn fail(
         &mut self,
         iteration: i32,
@@ -88,23 +101,23 @@ impl Leaving {
         fault: Fault,
     ) -> Result<(), NoMemory>
         ensures fault { OnOk result (self.new.fault
-            ≡ option_or self.old.fault (fault_by iteration function memory.now (Faulted fault))) }
+            ≡ least_of self.old.fault (fault_by iteration function memory.now (Faulted fault))) }
         ensures survivors { OnOk result (self.new.survivors.items ≡ self.old.survivors.items) }
         ensures sent { OnOk result (self.new.sent.items ≡ self.old.sent.items) }
         ensures born { OnOk result (self.new.born.items ≡ self.old.born.items) }
         ensures ran { OnOk result (self.new.ran ≡ self.old.ran) }
     {
-        if self.fault.is_some() {
-            return Ok(());
+        if self.gives_way_to(memory) {
+            let fault = fault_of(iteration, function, memory, fault)?;
+            self.fault = Some(fault);
         }
-        let fault = fault_of(iteration, function, memory, fault)?;
-        self.fault = Some(fault);
         Ok(())
     }
 
     /// A further agent ran, with this memory, the function of this number in the iteration of this number, and so it
-    /// ended: where this is what some agents leave, it is what these and then that one leave. After `NoMemory` it may
-    /// have a part of what that one left, and is of no further use.
+    /// ended: where this is what some agents leave, it is what these and then that one leave. Agents may come in any order:
+    /// of their faults that of the least in content order is kept. After `NoMemory` it may have a part of what that one
+    /// left, and is of no further use.
     pub fn add(
         &mut self,
         iteration: i32,

@@ -7,3 +7,4 @@ mod Zeros
 mod Fitted
 mod Standing
 mod Going
+mod Outcomes

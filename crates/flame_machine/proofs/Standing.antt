@@ -6,7 +6,7 @@ use Rattle.flame_code.specs.declared.instrs.Instr.{Instr}
 use Rattle.flame_code.specs.declared.instrs.Instr.TheVariants.{Field, FieldAt}
 use Rattle.flame_code.specs.Feeds.{Fed, field}
 use Rattle.flame_code.specs.InputRows.{rows_of}
-use Rattle.flame_code.specs.Routines.{Routine, takes, locals_for, locals_of}
+use Rattle.flame_code.specs.Routines.{Routine, locals_for, locals_of}
 use Rattle.flame_code.specs.Validity.{IsValid}
 use Rattle.flame_code.proofs.InputMoves.{field_there}
 use Rattle.flame_code.proofs.Rooms.{stack_within}

@@ -1,3 +1,5 @@
+-- What a run leaves that adds to lists.
+pub mod RunsInto
 -- What a feed over rows in memory is, and the tests of what a run asks for.
 pub mod ListCursors
 pub mod Fitting

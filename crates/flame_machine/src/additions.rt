@@ -1,10 +1,11 @@
 //! What a run adds.
 
-ghost use Rattle.std.specs.Prelude.{◌≡◌, [], ◌∷◌, ◌++◌, OnOk};
+ghost use Rattle.std.specs.Prelude.{◌≡◌, [], ◌∷◌, ◌++◌, OnOk, OnErr};
+ghost use Rattle.flame_machine.specs.MachineFrames.{nothing_added};
 ghost use Rattle.flame_spec.specs.declared.outcomes.Sent.{Sent as Message};
 ghost use Rattle.flame_spec.specs.declared.outcomes.Born.{Born as Birth};
 
-use flame_rows::{NoMemory, Row, Seq};
+use flame_rows::{NoMemory, Row};
 use flame_spec::{Born, Sent};
 use std::alloc::Global;
 use std::marker::Model;
@@ -37,11 +38,18 @@ impl Added {
         }
     }
 
-    /// A list for a row, with no number yet. It takes no memory.
-    pub fn row(&self) -> Vec<i32>
-        ensures { result.items ≡ [] }
+    /// Where rows take their memory.
+    #[inline(always)]
+    pub fn alloc(&self) -> Global {
+        self.alloc
+    }
+
+    /// Nothing again. The lists keep their memory.
+    pub fn clear(&mut self)
+        ensures { self.new ≡ nothing_added }
     {
-        Vec::new(self.alloc)
+        self.sent.clear();
+        self.born.clear();
     }
 
     /// Adds a message.
@@ -64,16 +72,19 @@ impl Added {
         Ok(())
     }
 
-    /// The messages and the births, in order.
-    pub fn end(self) -> (Seq<Sent>, Seq<Born>)
-        ensures sent { result.0 ≡ self.sent }
-        ensures born { result.1 ≡ self.born }
+    /// Puts the messages and the births behind what these lists have. Where memory is not found the lists are as they were.
+    pub fn give(&mut self, sent: &mut Vec<Sent>, born: &mut Vec<Born>) -> Result<(), NoMemory>
+        ensures sent { OnOk result (sent.new.items ≡ sent.old.items ++ self.old.sent) }
+        ensures born { OnOk result (born.new.items ≡ born.old.items ++ self.old.born) }
+        ensures same_sent { OnErr result (sent.new.items ≡ sent.old.items) }
+        ensures same_born { OnErr result (born.new.items ≡ born.old.items) }
     {
-        let Added {
-            alloc: _,
-            sent,
-            born,
-        } = self;
-        (Seq::of(sent), Seq::of(born))
+        let count = sent.len();
+        sent.append(&mut self.sent)?;
+        if born.append(&mut self.born).is_err() {
+            sent.truncate(count);
+            return Err(NoMemory);
+        }
+        Ok(())
     }
 }

@@ -1,9 +1,10 @@
 //! One run of a code: where it stands, with all that it needs.
 
-ghost use Rattle.std.specs.Prelude.{◌≡◌, ◌+◌, ◌<◌, ◌≤◌, ◌^◌, [], ◌∷◌, ◌++◌, length, reverse, take, drop, slice_set, OnOk};
+ghost use Rattle.std.specs.Prelude.{◌≡◌, ◌+◌, ◌<◌, ◌≤◌, ◌^◌, [], ◌∷◌, ◌++◌, length, reverse, take, drop, slice_set, IfOk, OnOk};
 ghost use Rattle.flame_spec.specs.Conditions.{number_at};
 
-use flame_rows::NoMemory;
+use flame_rows::{NoMemory, Row};
+use std::alloc::Global;
 use std::marker::Model;
 
 /// A run's place, stack, locals, memory and fuel. Its lists are taken once at their greatest size, so that no step
@@ -98,6 +99,20 @@ impl Frame {
         let end = self.height + 1;
         row.extend_from_slice(&self.cells[end - count..end])?;
         Ok(())
+    }
+
+    /// The row of so many values of the stack, the top as the last one. A short row takes no memory.
+    #[inline(always)]
+    #[tactic(auto, using(crate::proofs::Stacks::row_of, crate::proofs::Stacks::kept_tall, crate::proofs::Stacks::kept_below))]
+    pub fn row(&mut self, alloc: Global, count: usize) -> Result<Row, NoMemory>
+        requires count { count ≤ length self.old.stack }
+        requires room { length self.old.stack < self.old.room }
+        ensures row { IfOk result (λ row. row ≡ reverse (take count self.old.stack)) }
+        ensures same { self.new ≡ self.old }
+    {
+        self.cells[self.height] = self.top;
+        let end = self.height + 1;
+        Row::of_slice(alloc, &self.cells[end - count..end])
     }
 
     /// Takes so many values from the stack.

@@ -12,6 +12,7 @@ mod rooms;
 mod running;
 mod steps;
 
+pub use endings::Ending;
 pub use fitting::{fits_entry, helpers_of};
 pub use lists::Lists;
 pub use rooms::{Room, run};

@@ -1,36 +1,40 @@
 //! Runs of codes, and the lists that are kept from one to the next.
 
-ghost use Rattle.std.specs.Prelude.{◌≡◌, length, List, true, IfOk, replicate, pos};
+ghost use Rattle.std.specs.Prelude.{◌≡◌, ◌++◌, length, List, true, IfOk, OnOk, OnErr, replicate, pos};
 ghost use Rattle.flame_code.specs.Feeds.{Fed};
 ghost use Rattle.flame_code.specs.HelperCodes.{fits as fitting};
 ghost use Rattle.flame_code.specs.InputRows.{HaveWidths, rows_of};
-ghost use Rattle.flame_code.specs.Meanings.{FitsEntry, Means, begun, outcome_of};
+ghost use Rattle.flame_code.specs.Meanings.{FitsEntry, Means, begun, memory_after as after, outcome_of};
 ghost use Rattle.flame_code.specs.Routines.{locals_of};
 ghost use Rattle.flame_machine.specs.MachineFrames.{config, nothing_added};
 ghost use Rattle.flame_machine.specs.MachineSteps.{seen};
 ghost use Rattle.flame_machine.specs.Running.{Ready, end_of};
+ghost use Rattle.flame_machine.specs.RunsInto.{RanInto, ending_of, messages_added, births_added};
 
 use crate::additions::Added;
-use crate::endings::{Finish, memory_after};
+use crate::endings::{Ending, Finish, memory_after, whole};
 use crate::frames::Frame;
 use crate::givens::Given;
 use crate::pools::{Pool, filled};
 use crate::running::go;
 use flame_code::{Code, Feed, Helpers};
 use flame_rows::{NoMemory, Row};
-use flame_spec::{Effect, Outcome};
+use flame_spec::{Born, Outcome, Sent};
 use std::alloc::Global;
 use std::marker::Model;
 use std::mem;
 
 /// The lists that runs need, kept from one run to the next: cells for the stack, as many as the code has instructions, its
-/// locals, and the same for each helper that is open. Whoever runs codes one after another keeps one room for all, and
-/// memory for lists is taken only where a run needs longer ones or more. A run that faults drops those that are open.
+/// locals, the agent's memory, the messages and births that it adds, and cells and locals for each helper that is open.
+/// Whoever runs codes one after another keeps one room for all, and memory for lists is taken only where a run needs longer
+/// ones or more. A run that faults drops those that are open.
 #[derive(Drop)]
 pub struct Room {
     alloc: Global,
     cells: Vec<i32>,
     locals: Vec<i32>,
+    numbers: Vec<i32>,
+    added: Added,
     pool: Pool,
 }
 
@@ -50,6 +54,16 @@ fn fresh(list: Vec<i32>, code: &Code) -> Result<Vec<i32>, NoMemory>
     Ok(locals)
 }
 
+/// The list with the numbers of the memory in place of its own.
+fn copied(list: Vec<i32>, memory: &Row) -> Result<Vec<i32>, NoMemory>
+    ensures { IfOk result (λ numbers. numbers.items ≡ memory.now) }
+{
+    let mut numbers = list;
+    numbers.clear();
+    numbers.extend_from_slice(memory.values())?;
+    Ok(numbers)
+}
+
 impl Room {
     /// A room without lists. It takes no memory.
     pub fn new(alloc: Global) -> Room {
@@ -57,6 +71,8 @@ impl Room {
             alloc,
             cells: Vec::new(alloc),
             locals: Vec::new(alloc),
+            numbers: Vec::new(alloc),
+            added: Added::new(alloc),
             pool: Pool::new(alloc),
         }
     }
@@ -73,30 +89,130 @@ impl Room {
         let locals = fresh(kept, code)?;
         let kept = mem::replace(&mut self.cells, Vec::new(self.alloc));
         let cells = filled(kept, code.instrs().len())?;
-        let numbers = Vec::from_slice(self.alloc, memory.values())?;
+        let kept = mem::replace(&mut self.numbers, Vec::new(self.alloc));
+        let numbers = copied(kept, memory)?;
         Ok(Frame::begin(cells, locals, numbers, fuel))
     }
 
-    /// What the run leaves. Its lists are kept for the next one.
-    fn end(&mut self, finish: Finish, added: Added) -> Outcome
-        ensures { (feeds : List Fed) → result ≡ outcome_of (end_of finish added feeds) }
+    /// The lists for what a run adds, in which there is nothing.
+    fn fresh_added(&mut self) -> Added
+        ensures { result ≡ nothing_added }
+    {
+        let mut added = mem::replace(&mut self.added, Added::new(self.alloc));
+        added.clear();
+        added
+    }
+
+    /// The memory that a run leaves which returned this value. The frame's lists are kept for the next one.
+    fn end(&mut self, value: i32, frame: Frame) -> Result<Option<Row>, NoMemory>
+        ensures { IfOk result (λ memory. memory ≡ after value frame.memory) }
+    {
+        let (cells, locals, numbers) = frame.end();
+        let memory = memory_after(self.alloc, value, numbers.as_slice());
+        self.cells = cells;
+        self.locals = locals;
+        self.numbers = numbers;
+        memory
+    }
+
+    /// Puts what a run added behind what these lists have. Its own lists are kept for the next one.
+    fn give(
+        &mut self,
+        added: Added,
+        sent: &mut Vec<Sent>,
+        born: &mut Vec<Born>,
+    ) -> Result<(), NoMemory>
+        ensures sent { OnOk result (sent.new.items ≡ sent.old.items ++ added.sent) }
+        ensures born { OnOk result (born.new.items ≡ born.old.items ++ added.born) }
+        ensures same_sent { OnErr result (sent.new.items ≡ sent.old.items) }
+        ensures same_born { OnErr result (born.new.items ≡ born.old.items) }
+    {
+        let mut added = added;
+        let given = added.give(sent, born);
+        self.added = added;
+        given
+    }
+
+    /// How the run ended that finished so. What it added stands behind what these lists have, where it returned.
+    fn finish(
+        &mut self,
+        finish: Finish,
+        added: Added,
+        sent: &mut Vec<Sent>,
+        born: &mut Vec<Born>,
+    ) -> Result<Ending, NoMemory>
+        ensures ends { IfOk result (λ ending. (feeds : List Fed)
+            → ending ≡ ending_of (outcome_of (end_of finish added feeds))) }
+        ensures sent { OnOk result ((feeds : List Fed) → sent.new.items
+            ≡ sent.old.items ++ messages_added (outcome_of (end_of finish added feeds))) }
+        ensures born { OnOk result ((feeds : List Fed) → born.new.items
+            ≡ born.old.items ++ births_added (outcome_of (end_of finish added feeds))) }
+        ensures same_sent { OnErr result (sent.new.items ≡ sent.old.items) }
+        ensures same_born { OnErr result (born.new.items ≡ born.old.items) }
     {
         match finish {
             Finish::Returned(value, frame) => {
                 let fuel = frame.fuel();
-                let (cells, locals, memory) = frame.end();
-                self.cells = cells;
-                self.locals = locals;
-                let (sent, born) = added.end();
-                Outcome::Ended(Effect {
-                    memory: memory_after(value, memory),
-                    sent,
-                    born,
-                    fuel,
-                })
+                let memory = self.end(value, frame)?;
+                self.give(added, sent, born)?;
+                Ok(Ending::Ended(memory, fuel))
             }
-            Finish::Faulted(fault) => Outcome::Faulted(fault),
+            Finish::Faulted(fault) => {
+                self.added = added;
+                Ok(Ending::Faulted(fault))
+            }
         }
+    }
+
+    /// What the function `run` of this crate gives, by the lists of this room, where the messages and births that the run
+    /// adds go behind those that these lists have: what it gives beside them is the ending. A run that faults adds none, and
+    /// where memory is not found the lists are as they were.
+    pub fn run_into<F: Feed>(
+        &mut self,
+        code: &Code,
+        helpers: &Helpers,
+        memory: &Row,
+        feed: &mut F,
+        constants: &Row,
+        iteration: i32,
+        fuel: u32,
+        sent: &mut Vec<Sent>,
+        born: &mut Vec<Born>,
+    ) -> Result<Ending, NoMemory>
+        requires entry { FitsEntry code.now (record {
+          memory = memory.now;
+          feeds = F.feeds feed.old;
+          constants = constants.now;
+          iteration = iteration;
+          fuel = fuel;
+        }) }
+        requires helping { fitting helpers.now code.now ≡ true }
+        ensures ran { IfOk result (λ ending. RanInto (Means helpers.now.routines code.now (record {
+          memory = memory.now;
+          feeds = F.feeds feed.old;
+          constants = constants.now;
+          iteration = iteration;
+          fuel = fuel;
+        })) ending sent.old.items sent.new.items born.old.items born.new.items) }
+        ensures same_sent { OnErr result (sent.new.items ≡ sent.old.items) }
+        ensures same_born { OnErr result (born.new.items ≡ born.old.items) }
+        ensures rows { rows_of (F.feeds feed.new) ≡ rows_of (F.feeds feed.old) }
+    {
+        let _count = helpers.len();
+        let frame = self.begin(code, memory, fuel)?;
+        let mut added = self.fresh_added();
+        let given = Given::of(constants, iteration);
+        let finish = go(
+            &mut self.pool,
+            code,
+            helpers,
+            &given,
+            &mut added,
+            feed,
+            frame,
+        )?;
+        let ending = self.finish(finish, added, sent, born)?;
+        Ok(ending)
     }
 
     /// What the function `run` of this crate gives, by the lists of this room.
@@ -127,21 +243,12 @@ impl Room {
         }) o) }
         ensures rows { rows_of (F.feeds feed.new) ≡ rows_of (F.feeds feed.old) }
     {
-        let _count = helpers.len();
-        let frame = self.begin(code, memory, fuel)?;
-        let mut added = Added::new(self.alloc);
-        let given = Given::of(constants, iteration);
-        let finish = go(
-            &mut self.pool,
-            code,
-            helpers,
-            &given,
-            &mut added,
-            feed,
-            frame,
+        let mut sent = Vec::new(self.alloc);
+        let mut born = Vec::new(self.alloc);
+        let ending = self.run_into(
+            code, helpers, memory, feed, constants, iteration, fuel, &mut sent, &mut born,
         )?;
-        let outcome = self.end(finish, added);
-        Ok(outcome)
+        Ok(whole(ending, sent, born))
     }
 }
 

@@ -14,7 +14,7 @@ use crate::frames::Frame;
 use crate::givens::Given;
 use flame_code::{Feed, Instr};
 use flame_ops::{Cause, Op, apply as apply_op, negate};
-use flame_rows::{Row, Seq};
+use flame_rows::Seq;
 use flame_spec::{Fault, Widths};
 
 /// What a step came to.
@@ -339,12 +339,11 @@ fn send(frame: &mut Frame, added: &mut Added, widths: &Widths, message: u32) -> 
     ensures room { frame.new.room ≡ frame.old.room }
 {
     let count = widths.messages.items()[message as usize] as usize;
-    let mut row = added.row();
-    if frame.copy_row(count, &mut row).is_err() {
+    let Ok(row) = frame.row(added.alloc(), count) else {
         return MachineStep::Full;
-    }
+    };
     frame.drop_row(count);
-    if added.send(message, Row::of(row)).is_err() {
+    if added.send(message, row).is_err() {
         return MachineStep::Full;
     }
     on(frame)
@@ -364,12 +363,11 @@ fn bear(frame: &mut Frame, added: &mut Added, widths: &Widths, agent: u32) -> Ma
     ensures room { frame.new.room ≡ frame.old.room }
 {
     let count = widths.agents.items()[agent as usize] as usize;
-    let mut row = added.row();
-    if frame.copy_row(count, &mut row).is_err() {
+    let Ok(row) = frame.row(added.alloc(), count) else {
         return MachineStep::Full;
-    }
+    };
     frame.drop_row(count);
-    if added.bear(agent, Row::of(row)).is_err() {
+    if added.bear(agent, row).is_err() {
         return MachineStep::Full;
     }
     on(frame)

@@ -12,7 +12,7 @@ returns-clause-ready c feeds rows =
     let filled = c.in_ok-locals.ensures ∙ sym (none_filled (locals_of code.instrs)) in
     code_ready code c.begin.result c.in_ok-locals.locals.items (length c.in_ok-cells.cells.items) c.args.fuel c.in_ok-numbers.numbers.items feeds rows
     c.begin.ensures filled
-    (ap length (c.in_ok-numbers.ensures.items ∙ c.values.ensures) ∙ c.requires)
+    (ap length c.in_ok-numbers.ensures ∙ c.requires)
     (omega (arith, c.in_ok-cells.ensures.long, ap length c.instrs.ensures.same))
 
 pub returns-clause-begins : goal.returns-clause-begins
@@ -21,4 +21,4 @@ returns-clause-begins c feeds rows =
     let filled = c.in_ok-locals.ensures ∙ sym (none_filled (locals_of code.instrs)) in
     code_begins code c.begin.result c.in_ok-locals.locals.items (length c.in_ok-cells.cells.items) c.args.fuel c.in_ok-numbers.numbers.items feeds rows
     c.begin.ensures filled
-    ∙ ap (λ (m : List ℤ). begun m feeds c.args.fuel) (c.in_ok-numbers.ensures.items ∙ c.values.ensures)
+    ∙ ap (λ (m : List ℤ). begun m feeds c.args.fuel) c.in_ok-numbers.ensures

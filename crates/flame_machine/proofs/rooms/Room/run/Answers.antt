@@ -1,36 +1,27 @@
+-- Lists that were empty hold what the run added alone.
 use mir.Syntax.{w32}
 use mir.Val.{SFits}
-use Rattle.std.proofs.Common.{rules, sym, ap, ◌∙◌, subst}
+use Rattle.std.proofs.Common.{rules, sym, subst}
+use Rattle.std.specs.Prelude.{ℤ}
 use Rattle.std.proofs.lemmas.Int.{to_z-of_z}
-use Rattle.flame_code.specs.Machine.{Given, Config}
-use Rattle.flame_code.specs.Meanings.{Runs, begun}
-use Rattle.flame_machine.specs.MachineFrames.{Additions, config}
-use Rattle.flame_machine.specs.Running.{Ready, end_of}
-use Rattle.flame_machine.specs.MachineSteps.{seen}
+use Rattle.flame_code.specs.Meanings.{Entry, Means}
+use Rattle.flame_machine.proofs.Outcomes.{ran-alone}
 use Rattle.flame_machine.proofs.rooms.Room.run.Goals as goal
-
-pub go-requires-clause-ready : goal.go-requires-clause-ready
-go-requires-clause-ready g c =
-    let feeds = g.F.Feed.feeds c.args.feed.now in
-    subst (λ (x : Additions). Ready c.args.code.now c.in_ok-frame.frame x feeds) (sym c.new-added.ensures)
-    (c.in_ok-frame.ensures.ready feeds c.requires.entry.rows)
 
 pub returns-clause-means : goal.returns-clause-means
 returns-clause-means g c =
-    let feeds = g.F.Feed.feeds c.args.feed.now in
-    let after = seen c.args.code.now.widths (g.F.Feed.feeds c.go.new.feed) in
-    let end = end_of c.in_ok-finish.finish c.go.new.added after in
-    let begins =
-    ap (λ (x : Additions). config c.in_ok-frame.frame x (seen c.args.code.now.widths feeds)) c.new-added.ensures
-    ∙ c.in_ok-frame.ensures.begins feeds c.requires.entry.rows in
     let fits : SFits w32 c.args.iteration = search rules in
-    let given =
-    c.of-given.ensures
-    ∙ ap (λ i. let whole : Given = record { constants = c.args.constants.now; iteration = i } in whole) (to_z-of_z w32 c.args.iteration fits) in
+    let from : ℤ → Entry =
+    λ at.
     record {
-      end = end;
-      runs =
-          subst (λ (x : Given). Runs x c.args.helpers.now.routines c.args.code.now (begun c.args.memory.now feeds c.args.fuel) end) given
-          (subst (λ (x : Config). Runs c.of-given.result c.args.helpers.now.routines c.args.code.now x end) begins c.in_ok-finish.ensures.runs);
-      same = c.end-outcome.ensures after;
-    }
+      memory = c.args.memory.now;
+      feeds = g.F.Feed.feeds c.args.feed.now;
+      constants = c.args.constants.now;
+      iteration = at;
+      fuel = c.args.fuel;
+    } in
+    let alone =
+    ran-alone _ _ _ _ _ _ c.new-sent.ensures.items c.new-born.ensures.items c.in_ok-ending.ensures.ran in
+    subst (λ at. Means c.args.helpers.now.routines c.args.code.now (from at) c.whole.result)
+    (to_z-of_z w32 c.args.iteration fits)
+    (subst (Means c.args.helpers.now.routines c.args.code.now _) (sym c.whole.ensures) alone)
