@@ -34,8 +34,10 @@ pub fn take_rows(
     ensures others { IfOk result (λ parts. parts.1.items
         ≡ whose (λ choice. not (choice == number)) pool.items choices.now) }
 {
-    let (mut takers, mut others) = (Vec::new(alloc), Vec::new(alloc));
-    for (row, choice) in pool.into_iter().zip(choices.items()) {
+    let choices = choices.items();
+    let mut takers = Vec::new(alloc);
+    let mut others = Vec::new(alloc);
+    for (row, choice) in pool.into_iter().zip(choices) {
         if *choice == number {
             takers.push(row)?;
         } else {

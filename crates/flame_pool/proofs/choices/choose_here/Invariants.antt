@@ -4,4 +4,4 @@ use Rattle.flame_pool.proofs.choices.choose_here.Given as goal
 
 abbrev pub invariant-loop-memory : goal.invariant-loop-memory
 invariant-loop-memory l =
-    l.choices.items ≡ choices_of l.conditions l.functions l.iteration (take l.memory-index l.memory-items)
+    l.choices.items ≡ choices_of l.conditions l.functions l.iteration (take l.memory-index l.pool)
