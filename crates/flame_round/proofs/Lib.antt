@@ -5,3 +5,5 @@ pub mod LeftRows
 pub mod Stepped
 pub mod Beginnings
 pub mod Past
+mod Lengths
+mod Collected

@@ -1,7 +1,8 @@
 //! Agents that take a function, and those that stay.
 
-ghost use Rattle.std.specs.Prelude.{◌≡◌, Some, IfOk, slice_get};
-ghost use Rattle.flame_spec.specs.Choice.{functions_out, takers};
+ghost use Rattle.std.specs.Prelude.{◌≡◌, ◌==◌, not, Some, IfOk, length, slice_get};
+ghost use Rattle.flame_rows.specs.Parted.{whose};
+ghost use Rattle.flame_spec.specs.Choice.{takers};
 ghost use Rattle.flame_spec.specs.Functions.{Place, functions};
 ghost use Rattle.flame_world.specs.Iterations.{staying};
 ghost use Rattle.flame_round.specs.KeptRounds.{GoesBy, round_of};
@@ -14,8 +15,8 @@ use flame_rows::{Bag, NoMemory, Row, Seq, number};
 use std::alloc::Global;
 
 /// What each of these agents takes, which rest in the state that the function leaves by this route: places among the functions
-/// out of it.
-fn choices(
+/// out of it. By them agents are parted into those that take the function, and those that stay.
+fn choose(
     alloc: Global,
     round: &Round<'_>,
     function: u32,
@@ -23,10 +24,15 @@ fn choices(
     agents: &[Row],
 ) -> Result<Seq<u32>, NoMemory>
     requires { GoesBy round.now.program.now.model function route.now }
-    ensures { IfOk result (λ choices. (place : Place)
+    ensures count { IfOk result (λ choices. length choices ≡ length agents.now) }
+    ensures takers { IfOk result (λ choices. (place : Place)
         → slice_get (functions round.now.program.now.model) function ≡ Some place
-        → choices ≡ choices_of (conditions round.now.program.now)
-        (functions_out round.now.program.now.model place.agent place.function.current) round.now.iteration agents.now) }
+        → whose (λ choice. choice == route.now.choice) agents.now choices
+        ≡ takers round.now.program.now.model place.agent place.function.current function round.now.iteration agents.now) }
+    ensures others { IfOk result (λ choices. (place : Place)
+        → slice_get (functions round.now.program.now.model) function ≡ Some place
+        → whose (λ choice. not (choice == route.now.choice)) agents.now choices
+        ≡ staying (round_of round.now) function place agents.now) }
 {
     let functions = out_of(round, function, route);
     // Agents choose by numbers of 32 bits.
@@ -51,7 +57,7 @@ pub fn part(
         → slice_get (functions round.now.program.now.model) function ≡ Some place
         → parts.1 ≡ staying (round_of round.now) function place pool) }
 {
-    let choices = choices(alloc, round, function, route, pool.rows())?;
+    let choices = choose(alloc, round, function, route, pool.rows())?;
     take(pool, &choices, route.choice)
 }
 
@@ -72,6 +78,6 @@ pub fn part_rows(
         → slice_get (functions round.now.program.now.model) function ≡ Some place
         → parts.1.items ≡ staying (round_of round.now) function place pool.items) }
 {
-    let choices = choices(alloc, round, function, route, pool.as_slice())?;
+    let choices = choose(alloc, round, function, route, pool.as_slice())?;
     take_rows(alloc, pool, &choices, route.choice)
 }

@@ -1,0 +1,2 @@
+mod Settlings
+mod Takings

@@ -2,17 +2,17 @@
 
 ghost use Rattle.std.specs.Prelude.{◌≡◌, IfOk, length};
 ghost use Rattle.flame_spec.specs.ModelOrder.{model_order};
-ghost use Rattle.flame_world.specs.Iterations.{iteration as meant, steps};
+ghost use Rattle.flame_world.specs.Iterations.{iteration as meant, steps, turn_of};
 ghost use Rattle.flame_world.specs.WorldFits.{FitsField, FitsModel};
 ghost use Rattle.flame_field.specs.KeptFields.{field_of};
 ghost use Rattle.flame_round.specs.KeptRounds.{round_of};
-ghost use Rattle.flame_runner.specs.KeptSteps.{result_of};
+ghost use Rattle.flame_runner.specs.KeptSteps.{result_of, StillFits};
 
 use crate::steps::{Stepped, step};
 use flame_field::Field;
 use flame_program::Program;
 use flame_round::{Round, closed, opened, wants_of};
-use flame_rows::NoMemory;
+use flame_rows::{NoMemory, Row};
 use flame_spec_laws::orders;
 use flame_world::{Turn, World};
 use std::alloc::Global;
@@ -21,8 +21,9 @@ use std::alloc::Global;
 fn run_all(alloc: Global, round: &Round<'_>, field: Field) -> Result<Stepped, NoMemory>
     requires known { length round.now.constants.now ≡ length round.now.program.now.model.constants }
     requires fits { FitsField round.now.program.now.model (field_of field) }
-    ensures { IfOk result (λ stepped. result_of stepped
+    ensures came { IfOk result (λ stepped. result_of stepped
         ≡ steps (round_of round.now) (model_order round.now.program.now.model) (field_of field)) }
+    ensures fits { IfOk result (λ stepped. StillFits round.now.program.now.model stepped) }
 {
     orders();
     let mut field = field;
@@ -33,6 +34,26 @@ fn run_all(alloc: Global, round: &Round<'_>, field: Field) -> Result<Stepped, No
         }
     }
     Ok(Stepped::On(field))
+}
+
+/// What an iteration comes to whose functions came to this.
+fn ended(
+    alloc: Global,
+    program: &Program,
+    constants: Row,
+    stepped: Stepped,
+) -> Result<Turn, NoMemory>
+    requires { StillFits program.now.model stepped }
+    ensures { IfOk result (λ turn. turn ≡ turn_of constants (result_of stepped)) }
+{
+    match stepped {
+        Stepped::Faulted(fault) => Ok(Turn::Faulted(fault)),
+        Stepped::On(field) => {
+            let types = program.source().model.agents.items();
+            let (world, boards) = closed(alloc, types, constants, field)?;
+            Ok(Turn::Done(world, boards))
+        }
+    }
 }
 
 /// The iteration of this number of a world, on the caller's thread: what `PlainRunner` gives, for callers that have no
@@ -58,12 +79,6 @@ pub fn iterate(
         fuel,
         wants: wants.as_slice(),
     };
-    match run_all(alloc, &round, field)? {
-        Stepped::Faulted(fault) => Ok(Turn::Faulted(fault)),
-        Stepped::On(field) => {
-            let types = program.source().model.agents.items();
-            let (world, boards) = closed(alloc, types, constants, field)?;
-            Ok(Turn::Done(world, boards))
-        }
-    }
+    let stepped = run_all(alloc, &round, field)?;
+    ended(alloc, program, constants, stepped)
 }

@@ -12,7 +12,7 @@ ghost use Rattle.flame_index.specs.FrozenBoards.{shared_messages};
 ghost use Rattle.flame_world.specs.Fields.{Field as Standing, changed_pool, joined};
 ghost use Rattle.flame_world.specs.AgentRuns.{births_of, messages_of};
 ghost use Rattle.flame_world.specs.InputBoards.{boards_named};
-ghost use Rattle.flame_world.specs.Iterations.{step as meant, taking, staying};
+ghost use Rattle.flame_world.specs.Iterations.{step as meant, taking, staying, unless_faulted};
 ghost use Rattle.flame_world.specs.WorldFits.{FitsField};
 ghost use Rattle.flame_leaving.specs.Leavings.{AreLeft};
 ghost use Rattle.flame_field.specs.KeptPools.{pools_of};
@@ -23,6 +23,7 @@ ghost use Rattle.flame_runner.specs.KeptSteps.{result_of};
 use flame_field::{Field, Gathering, exchange, read};
 use flame_index::Frozen;
 use flame_leaving::Leaving;
+use flame_leaving::laws::parts_make_the_whole;
 use flame_round::{Round, part_rows, route_of, run_over};
 use flame_route::Route;
 use flame_rows::{NoMemory, Row, Seq};
@@ -84,7 +85,37 @@ fn run(
     run_over(alloc, round, function, takers, &boards)
 }
 
-/// The function runs for all that take it (FLAME User Manual).
+/// What the takers left goes where it belongs, where the function goes by this route: survivors arrive, births are set aside,
+/// messages join their boards. Where one of them faulted, their fault is kept.
+fn settle(alloc: Global, route: &Route, field: Field, leaving: Leaving) -> Result<Stepped, NoMemory>
+    requires to { route.now.to < length (slice_index_or (pools_of field.pools) route.now.agent []) }
+    requires messages { All (λ message. message.message < length field.boards.items) leaving.sent.items }
+    ensures { IfOk result (λ stepped. result_of stepped ≡ unless_faulted leaving.fault (record {
+      pools = changed_pool route.now.agent route.now.to (λ pool. merge pool (ascending leaving.survivors.items))
+          (field_of field).pools;
+      born = joined (births_of leaving.born.items) (field_of field).born;
+      boards = joined (messages_of leaving.sent.items) (field_of field).boards;
+    })) }
+{
+    let mut field = field;
+    let Leaving {
+        survivors,
+        sent,
+        born,
+        fault,
+        ..
+    } = leaving;
+    match fault {
+        Some(fault) => Ok(Stepped::Faulted(fault)),
+        None => {
+            field.settle(alloc, route.agent, route.to, survivors, sent, born)?;
+            Ok(Stepped::On(field))
+        }
+    }
+}
+
+/// The function runs for all that take it (FLAME User Manual). They run in the order in which they stand, which does not
+/// matter.
 pub(crate) fn step(
     alloc: Global,
     round: &Round<'_>,
@@ -96,22 +127,11 @@ pub(crate) fn step(
     requires fits { FitsField round.now.program.now.model (field_of field) }
     ensures { IfOk result (λ stepped. result_of stepped ≡ meant (round_of round.now) function (field_of field)) }
 {
+    parts_make_the_whole();
     let mut field = field;
     let route = route_of(round, function);
     let takers = leave(alloc, round, function, route, &mut field.pools)?;
     let boards = read(alloc, &mut field.boards, route.inputs.items(), round.wants)?;
-    let Leaving {
-        survivors,
-        sent,
-        born,
-        fault,
-        ..
-    } = run(alloc, round, function, &takers, boards)?;
-    match fault {
-        Some(fault) => Ok(Stepped::Faulted(fault)),
-        None => {
-            field.settle(alloc, route.agent, route.to, survivors, sent, born)?;
-            Ok(Stepped::On(field))
-        }
-    }
+    let leaving = run(alloc, round, function, takers.as_slice(), boards)?;
+    settle(alloc, route, field, leaving)
 }

@@ -5,16 +5,17 @@ use Rattle.flame_rows.specs.Bags.{merge}
 use Rattle.flame_world.specs.AgentRuns.{births_of}
 use Rattle.flame_world.specs.Fields.{joined}
 use Rattle.flame_field.specs.KeptPools.{pools_of}
-use Rattle.flame_progress.proofs.Cores.{same_for_all}
+use Rattle.flame_field.proofs.Borne.{same_for_all}
 use Rattle.flame_round.proofs.closing.closed.Goals as goal
 
 pub returns-clause-world : goal.returns-clause-world
 returns-clause-world c =
-    let progress = c.args.progress in
+    let field = c.args.field in
+    let none : List (List ℤ) = [] in
     let born = c.in_ok-born.ensures
-    ∙ ap (joined (births_of progress.born.items)) (same_for_all [] c.args.agents.now progress.pools.items c.requires) in
+    ∙ ap (joined (births_of field.born.items)) (same_for_all none c.args.agents.now field.pools.items c.requires) in
     c.of.ensures ∙ c.in_ok-agents_of.ensures
-    ∙ ap (λ b. map (λ ((ps, more) : List (List (List ℤ)) × List (List ℤ)). merge (flat_map (λ pool. pool) ps) more) (zip (pools_of progress.pools) b)) born
+    ∙ ap (λ b. map (λ ((ps, more) : List (List (List ℤ)) × List (List ℤ)). merge (flat_map (λ pool. pool) ps) more) (zip (pools_of field.pools) b)) born
 
 pub returns-clause-boards : goal.returns-clause-boards
 returns-clause-boards c = c.of-2.ensures ∙ c.in_ok-bags_of_boards.ensures
