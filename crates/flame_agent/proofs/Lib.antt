@@ -5,3 +5,5 @@ pub mod ReadingWidths
 pub mod ForAll
 -- The code of a function, and what it means.
 pub mod AgentOutcomes
+-- What one agent more leaves.
+mod Nexts

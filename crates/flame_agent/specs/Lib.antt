@@ -4,8 +4,8 @@
 -- own: a choice of this project, or a word that a definition is made of
 -- ---- what a run of a function for an agent asks for
 pub mod FunctionFits
-pub mod ViewsForAll
 -- ---- what helps the views of agents
 pub mod WantedKeys
+pub mod ViewsForAll
 -- ---- the words that only bodies and proofs use
 pub mod InputViews

@@ -7,7 +7,6 @@ mod shared;
 mod views;
 mod wants;
 
-pub use agents::{run_agent, run_agents};
-pub use flame_machine::Room;
-pub use shared::{SharedViews, reads_memory};
+pub use agents::run_agents;
+pub use shared::reads_memory;
 pub use wants::wanted_key;

@@ -1,9 +1,8 @@
 //! Views that all agents of a function share.
 
-ghost use Rattle.std.specs.Prelude.{◌≡◌, ℤ, List, Some, IfOk, option_map, option_and_then, slice_get};
+ghost use Rattle.std.specs.Prelude.{◌≡◌, ℤ, List, Some, IfOk, map, option_map, option_and_then, slice_get};
 ghost use Rattle.std.specs.Option.{option_copied};
-ghost use Rattle.flame_index.specs.FrozenBoards.{messages_on};
-ghost use Rattle.flame_world.specs.Settings.{boards_of};
+ghost use Rattle.flame_index.specs.FrozenBoards.{messages_on, shared_messages};
 ghost use Rattle.flame_agent.specs.ViewsForAll.{reads_memory, AreForAll, IsForAll};
 
 use flame_cond::Filter;
@@ -11,12 +10,12 @@ use flame_cond::laws::unread_memory_tells_nothing;
 use flame_index::Frozen;
 use flame_program::Program;
 use flame_program::laws::accepted_are_runnable;
-use flame_rows::{NoMemory, Row, number};
+use flame_rows::{NoMemory, Row, Seq, number};
 use flame_view::View;
 use flame_view::laws::views_are_as_written;
-use flame_world::Setting;
 use std::alloc::Global;
 use std::marker::Model;
+use std::sync::Arc;
 
 /// The views of a function's inputs that no agent's memory changes, each made once for many agents. It is seen as what they
 /// show, in the order of the inputs: nothing where each agent makes its own.
@@ -68,22 +67,22 @@ fn view_for_all<'a>(
 }
 
 impl<'a> SharedViews<'a> {
-    /// The views of the setting's boards that so many agents of the function share. One agent alone makes all of its own.
+    /// The views of these boards, one for each input of the function, that so many agents share. One agent alone makes all of its own.
     /// `NoMemory` comes where none is found, and where 32 bits cannot number the function's inputs.
     pub fn of(
         alloc: Global,
         program: &Program,
-        setting: &Setting<'a>,
+        boards: &'a Seq<Arc<Frozen>>,
         function: u32,
         agents: usize,
     ) -> Result<SharedViews<'a>, NoMemory>
-        ensures { IfOk result (AreForAll program.now function (boards_of setting.now)) }
+        ensures { IfOk result (AreForAll program.now function (map shared_messages boards.entry.now)) }
     {
         let mut views = Vec::new(alloc);
         if agents < 2 {
             return Ok(SharedViews { views });
         }
-        let boards = setting.boards.items();
+        let boards = boards.items();
         for i in 0..boards.len() {
             let view = view_for_all(alloc, program, function, number(i)?, &boards[i])?;
             views.push(view)?;

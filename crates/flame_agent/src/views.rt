@@ -1,6 +1,6 @@
 //! What an agent reads: the views of the boards of a function's inputs.
 
-ghost use Rattle.std.specs.Prelude.{◌≡◌, ℤ, List, Some, IfOk, map, option_map};
+ghost use Rattle.std.specs.Prelude.{◌≡◌, ℤ, List, Some, IfOk, OnOk, map, option_map};
 ghost use Rattle.flame_code.specs.Feeds.{not_begun};
 ghost use Rattle.flame_meaning.specs.Outcomes.{place_of};
 ghost use Rattle.flame_index.specs.FrozenBoards.{messages_on};
@@ -60,22 +60,24 @@ fn shared_or_own<'a>(
     }
 }
 
-/// The views of the setting's boards, of which no row has come. Those that all agents share are not made anew.
-pub(crate) fn views_of<'a>(
+/// Puts the views of the setting's boards, of which no row has come, in place of those that the list has. Those that all
+/// agents share are not made anew. After `NoMemory` the list is of no further use.
+pub(crate) fn put_views<'a>(
     alloc: Global,
     program: &Program,
     setting: &Setting<'a>,
     function: u32,
     shared: &'a SharedViews<'a>,
     memory: &Row,
-) -> Result<Views<'a>, NoMemory>
+    views: &mut Views<'a>,
+) -> Result<(), NoMemory>
     requires fits { FitsFunction program.now.model function setting.now memory.now }
     requires shared { AreForAll program.now function (boards_of setting.now) shared.now }
-    ensures { IfOk result (λ views. views ≡ map not_begun
+    ensures { OnOk result (views.new ≡ map not_begun
         (readings_from (place_of program.now function) program.now.model memory.now (boards_of setting.now))) }
 {
     let boards = setting.boards.items();
-    let mut views = Views::new(alloc);
+    views.clear();
     for i in 0..boards.len() {
         let view = shared_or_own(
             alloc,
@@ -88,5 +90,5 @@ pub(crate) fn views_of<'a>(
         )?;
         views.push(view)?;
     }
-    Ok(views)
+    Ok(())
 }

@@ -7,7 +7,7 @@ use Rattle.std.proofs.lemmas.Grind.{flat_map-append}
 use Rattle.flame_spec.specs.declared.outcomes.Outcome.{Outcome}
 use Rattle.flame_world.specs.AgentRuns.{kept, sent_by, born_by, fault_by}
 use Rattle.flame_leaving.specs.declared.leavings.Leaving.{Leaving}
-use Rattle.flame_leaving.specs.Leavings.{AreLeft}
+use Rattle.flame_leaving.specs.Leavings.{AreLeft, AreLeftBut}
 use Rattle.flame_leaving.specs.WholeLaws.{least_of}
 use Rattle.flame_leaving.proofs.LeastFaults.{least_fault-next}
 
@@ -17,11 +17,11 @@ flat_map-push f xs x = flat_map-append f xs (x ∷ []) ∙ ap (λ l. flat_map f 
 pub left-next : (iteration : ℤ) (function : ℕ) (run : List ℤ → Outcome) (agents : List (List ℤ)) (memory : List ℤ)
     (outcome : Outcome) (old new : Leaving)
     → run memory ≡ outcome
-    → AreLeft iteration function run agents old
+    → AreLeftBut iteration function run agents memory old
     → new.ran ≡ old.ran + 1
     → new.survivors.items ≡ old.survivors.items ++ cons_option (kept outcome) []
-    → new.sent.items ≡ old.sent.items ++ sent_by outcome
-    → new.born.items ≡ old.born.items ++ born_by outcome
+    → new.sent.items ≡ old.sent.items
+    → new.born.items ≡ old.born.items
     → new.fault ≡ least_of old.fault (fault_by iteration function memory outcome)
     → AreLeft iteration function run (agents ++ memory ∷ []) new
 left-next iteration function run agents memory outcome old new is left ran survivors sent born fault = record {
@@ -30,8 +30,8 @@ left-next iteration function run agents memory outcome old new is left ran survi
       survivors
       ∙ (λ i. left.survivors i ++ cons_option (kept (sym is i)) [])
       ∙ sym (filter_map-append (λ m. kept (run m)) agents (memory ∷ []));
-  sent = sent ∙ (λ i. left.sent i ++ sent_by (sym is i)) ∙ sym (flat_map-push (λ m. sent_by (run m)) agents memory);
-  born = born ∙ (λ i. left.born i ++ born_by (sym is i)) ∙ sym (flat_map-push (λ m. born_by (run m)) agents memory);
+  sent = sent ∙ left.sent ∙ sym (flat_map-push (λ m. sent_by (run m)) agents memory);
+  born = born ∙ left.born ∙ sym (flat_map-push (λ m. born_by (run m)) agents memory);
   fault =
       fault
       ∙ (λ i. least_of (left.fault i) (fault_by iteration function memory (sym is i)))

@@ -1,16 +1,16 @@
 //! What agents leave.
 
 ghost use Rattle.std.specs.Prelude.{◌≡◌, ◌+◌, ◌<◌, ◌^◌, ◌++◌, ◌∷◌, [], ℕ, ℤ, List, Some, IfOk, OnOk, if◌then◌else◌};
-ghost use Rattle.std.specs.List.{cons_option};
 ghost use Rattle.flame_spec.specs.declared.outcomes.Outcome.{Outcome as Ends};
-ghost use Rattle.flame_spec.specs.declared.outcomes.Outcome.TheVariants.{Faulted};
+ghost use Rattle.flame_spec.specs.declared.outcomes.Outcome.TheVariants.{Ended, Faulted};
+ghost use Rattle.flame_spec.specs.declared.outcomes.Effect.{Effect as Left};
 ghost use Rattle.flame_world.specs.declared.faults.SimFault.{SimFault as Told};
 ghost use Rattle.flame_world.specs.AgentRuns.{fault_by};
-ghost use Rattle.flame_leaving.specs.Leavings.{AreLeft};
+ghost use Rattle.flame_leaving.specs.Leavings.{AreLeft, AreLeftBut};
 ghost use Rattle.flame_leaving.specs.WholeLaws.{least_of};
 
 use flame_rows::{NoMemory, Row};
-use flame_spec::{Born, Effect, Fault, Outcome, Sent};
+use flame_spec::{Born, Fault, Sent};
 use flame_world::SimFault;
 use std::alloc::Global;
 
@@ -56,28 +56,43 @@ impl Leaving {
         }
     }
 
-    /// Adds what a further agent left that ended.
-    fn end(&mut self, effect: Effect) -> Result<(), NoMemory>
-        ensures survivors { OnOk result (self.new.survivors.items
-            ≡ self.old.survivors.items ++ cons_option effect.memory []) }
-        ensures sent { OnOk result (self.new.sent.items ≡ self.old.sent.items ++ effect.sent) }
-        ensures born { OnOk result (self.new.born.items ≡ self.old.born.items ++ effect.born) }
-        ensures ran { OnOk result (self.new.ran ≡ self.old.ran) }
-        ensures fault { OnOk result (self.new.fault ≡ self.old.fault) }
+    /// The same, with room for the memories of so many agents, where memory for it is found.
+    pub fn expecting(alloc: Global, agents: usize) -> Leaving
+        ensures { (iteration : ℤ) (function : ℕ) (run : List ℤ → Ends) → AreLeft iteration function run [] result }
     {
-        let Effect {
-            memory,
-            sent,
-            born,
-            ..
-        } = effect;
-        if let Some(memory) = memory {
-            self.survivors.push(memory)?;
+        let mut leaving = Leaving::nothing(alloc);
+        let _found = leaving.survivors.reserve(agents).is_ok();
+        leaving
+    }
+
+    /// Counts a further agent.
+    fn count(&mut self)
+        requires { self.old.ran + 1 < 2 ^ 64 }
+        ensures { self.new ≡ record self.old { ran = self.old.ran + 1 } }
+    {
+        self.ran += 1;
+    }
+
+    /// A further agent ran and ended, and its messages and births stand here already: now it is counted, and the memory
+    /// that it keeps, if it lives on, is among the survivors. Where this is what some agents leave and what that one added,
+    /// it is what these and then that one leave. After `NoMemory` it is of no further use.
+    pub fn add_ended(&mut self, memory: Option<Row>) -> Result<(), NoMemory>
+        requires { self.old.ran + 1 < 2 ^ 64 }
+        ensures { OnOk result ((iteration : ℤ) (function : ℕ) (run : List ℤ → Ends) (agents : List (List ℤ))
+            (own : List ℤ) (effect : Left)
+            → run own ≡ Ended effect
+            → effect.memory ≡ memory
+            → AreLeftBut iteration function run agents own self.old
+            → AreLeft iteration function run (agents ++ own ∷ []) self.new) }
+    {
+        self.count();
+        match memory {
+            Some(memory) => {
+                self.survivors.push(memory)?;
+                Ok(())
+            }
+            None => Ok(()),
         }
-        let (mut sent, mut born) = (sent.into_items(), born.into_items());
-        self.sent.append(&mut sent)?;
-        self.born.append(&mut born)?;
-        Ok(())
     }
 
     /// Whether the fault of a further agent with this memory is the one to be kept: there is none yet, or that of an agent
@@ -114,33 +129,24 @@ impl Leaving {
         Ok(())
     }
 
-    /// A further agent ran, with this memory, the function of this number in the iteration of this number, and so it
-    /// ended: where this is what some agents leave, it is what these and then that one leave. Agents may come in any order:
-    /// of their faults that of the least in content order is kept. After `NoMemory` it may have a part of what that one
-    /// left, and is of no further use.
-    pub fn add(
+    /// A further agent ran, with this memory, the function of this number in the iteration of this number, and faulted so:
+    /// where this is what some agents leave, it is what these and then that one leave. Of the faults that of the least agent
+    /// in content order is kept, so agents may come in any order. After `NoMemory` it is of no further use.
+    pub fn add_faulted(
         &mut self,
         iteration: i32,
         function: u32,
         memory: &Row,
-        outcome: Outcome,
+        fault: Fault,
     ) -> Result<(), NoMemory>
         requires { self.old.ran + 1 < 2 ^ 64 }
         ensures { OnOk result ((run : List ℤ → Ends) (agents : List (List ℤ))
-            → run memory.now ≡ outcome
-            → AreLeft iteration function run agents self.old
+            → run memory.now ≡ Faulted fault
+            → AreLeftBut iteration function run agents memory.now self.old
             → AreLeft iteration function run (agents ++ memory.now ∷ []) self.new) }
     {
-        self.ran += 1;
-        match outcome {
-            Outcome::Ended(effect) => {
-                self.end(effect)?;
-                Ok(())
-            }
-            Outcome::Faulted(fault) => {
-                self.fail(iteration, function, memory, fault)?;
-                Ok(())
-            }
-        }
+        self.count();
+        self.fail(iteration, function, memory, fault)?;
+        Ok(())
     }
 }

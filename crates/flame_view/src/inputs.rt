@@ -42,6 +42,13 @@ impl<'a> Views<'a> {
         }
     }
 
+    /// No view again, so that those of another run may come. The list keeps its memory.
+    pub fn clear(&mut self)
+        ensures { self.new ≡ [] }
+    {
+        self.cursors.clear();
+    }
+
     /// Adds the view of the next input, before its first row.
     pub fn push(&mut self, view: View<'a>) -> Result<(), NoMemory>
         ensures ok { OnOk result (self.new ≡ self.old ++ not_begun view.entry ∷ []) }

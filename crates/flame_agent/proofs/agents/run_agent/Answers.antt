@@ -9,11 +9,11 @@ use Rattle.flame_code.specs.Meanings.{Entry, FitsEntry, Means}
 use Rattle.flame_agent.proofs.AgentOutcomes.{entry-fits, outcome-is}
 use Rattle.flame_agent.proofs.agents.run_agent.Goals as goal
 
-pub run-requires-clause-entry : goal.run-requires-clause-entry
-run-requires-clause-entry c =
+pub run_into-requires-clause-entry : goal.run_into-requires-clause-entry
+run_into-requires-clause-entry c =
     let setting = c.args.setting.now in
     let code = c.code_of-code.result.now in
-    let feeds = c.in_ok-views.views in
+    let feeds = c.put_views.new.views in
     let iteration : SFits w32 setting.iteration = search rules in
     let from : ℤ → Entry =
     λ at.
@@ -26,15 +26,15 @@ run-requires-clause-entry c =
     } in
     subst (λ at. FitsEntry code (from at)) (sym (to_z-of_z w32 setting.iteration iteration))
     (entry-fits c.args.program.now c.args.function setting c.args.memory.now c.requires.fits code feeds setting.iteration
-    setting.fuel c.code_of-code.ensures.widths c.in_ok-views.ensures)
+    setting.fuel c.code_of-code.ensures.widths c.in_ok-put_views.ensures)
 
 pub returns : goal.returns
 returns c =
     let source = c.args.program.now in
     let setting = c.args.setting.now in
     let code = c.code_of-code.result.now in
-    let feeds = c.in_ok-views.views in
-    let outcome = c.in_ok-outcome.outcome in
+    let feeds = c.put_views.new.views in
+    let ran = c.in_ok-ending.ensures.ran in
     let iteration : SFits w32 setting.iteration = search rules in
     let from : ℤ → Entry =
     λ at.
@@ -47,12 +47,19 @@ returns c =
     } in
     let fits =
     entry-fits source c.args.function setting c.args.memory.now c.requires.fits code feeds setting.iteration setting.fuel
-    c.code_of-code.ensures.widths c.in_ok-views.ensures in
+    c.code_of-code.ensures.widths c.in_ok-put_views.ensures in
     let means =
-    subst (λ (h : HelperCodes). Means h.routines code (from setting.iteration) outcome) c.helpers.ensures
-    (subst (λ at. Means c.helpers.result.now.routines code (from at) outcome)
-    (to_z-of_z w32 setting.iteration iteration) c.in_ok-outcome.ensures.means) in
-    (c.programs_mean.ensures source c.args.function code (from setting.iteration) outcome
-    c.source-source.ensures.accepted c.code_of-code.ensures.code fits).0 means
-    ∙ outcome-is source c.args.function setting c.args.memory.now c.requires.fits feeds c.requires.source
-    c.in_ok-views.ensures
+    subst (λ (h : HelperCodes). Means h.routines code (from setting.iteration) ran.outcome) c.helpers.ensures
+    (subst (λ at. Means c.helpers.result.now.routines code (from at) ran.outcome)
+    (to_z-of_z w32 setting.iteration iteration) ran.holds) in
+    record {
+      outcome = ran.outcome;
+      holds =
+          (c.programs_mean.ensures source c.args.function code (from setting.iteration) ran.outcome
+          c.source-source.ensures.accepted c.code_of-code.ensures.code fits).0 means
+          ∙ outcome-is source c.args.function setting c.args.memory.now c.requires.fits feeds c.requires.source
+          c.in_ok-put_views.ensures;
+      ends = ran.ends;
+      messages = ran.messages;
+      births = ran.births;
+    }

@@ -1,6 +1,5 @@
 -- The view is what every agent reads by the input.
-use Rattle.std.proofs.Common.{◌∙◌, sym, subst, [], List}
-use Rattle.std.specs.Prelude.{ℤ}
+use Rattle.std.proofs.Common.{◌∙◌, sym, subst}
 use Rattle.std.specs.Option.{option_copied}
 use Rattle.std.proofs.lemmas.Option.{same_Some}
 use Rattle.flame_index.specs.FrozenBoards.{messages_on}

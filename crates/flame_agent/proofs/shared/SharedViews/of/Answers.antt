@@ -1,10 +1,9 @@
 -- One view more that all agents share, or none.
-use Rattle.std.proofs.Common.{◌≡◌, ◌<◌, map, length, List, Some, sym, ap, ◌∙◌, subst, arith}
-use Rattle.std.specs.Prelude.{ℤ, slice_get}
+use Rattle.std.proofs.Common.{◌≡◌, ◌<◌, map, length, Some, sym, ap, ◌∙◌, subst, arith}
+use Rattle.std.specs.Prelude.{slice_get}
 use Rattle.std.proofs.lemmas.List.{length_push}
 use Rattle.flame_index.specs.FrozenBoards.{messages_on, shared_messages}
 use Rattle.flame_program.proofs.Zips.{mapped-there}
-use Rattle.flame_world.specs.Settings.{boards_of}
 use Rattle.flame_agent.specs.ViewsForAll.{AreForAll, IsForAll}
 use Rattle.flame_agent.proofs.ForAll.{for-all-none, for-all-push}
 use Rattle.flame_agent.proofs.shared.SharedViews.of.Goals as goal
@@ -15,15 +14,15 @@ loop-i-init c =
     record {
       count = ap length none;
       each =
-          subst (AreForAll c.args.program.now c.args.function (boards_of c.args.setting.now)) (sym none)
-          (for-all-none c.args.program.now c.args.function (boards_of c.args.setting.now));
+          subst (AreForAll c.args.program.now c.args.function (map shared_messages c.args.boards.now)) (sym none)
+          (for-all-none c.args.program.now c.args.function (map shared_messages c.args.boards.now));
     }
 
 pub loop-i-preserved : goal.loop-i-preserved
 loop-i-preserved c =
     let source = c.args.program.now in
     let function = c.args.function in
-    let boards = boards_of c.args.setting.now in
+    let boards = map shared_messages c.args.boards.now in
     let items = c.items-boards.result.now in
     let i = c.loop-i.i in
     let views = c.loop-i.views.items in

@@ -1,7 +1,7 @@
 use Rattle.std.proofs.Common.{take}
 use Rattle.flame_world.specs.Meaning.{outcome_under}
 use Rattle.flame_leaving.specs.Leavings.{AreLeft}
-use Rattle.flame_agent.proofs.agents.run_agents.Given as goal
+use Rattle.flame_agent.proofs.agents.run_all.Given as goal
 
 abbrev pub invariant-loop-memory : goal.invariant-loop-memory
 invariant-loop-memory l =

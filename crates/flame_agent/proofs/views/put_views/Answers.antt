@@ -10,7 +10,7 @@ use Rattle.flame_agent.specs.InputViews.{IsViewFor}
 use Rattle.flame_agent.specs.ViewsForAll.{IsForAll}
 use Rattle.flame_agent.proofs.ForAll.{shown-there}
 use Rattle.flame_agent.proofs.InputReadings.{next-view, all-views}
-use Rattle.flame_agent.proofs.views.views_of.Goals as goal
+use Rattle.flame_agent.proofs.views.put_views.Goals as goal
 
 pub shared_or_own-requires : goal.shared_or_own-requires
 shared_or_own-requires c = λ view is.

@@ -1,19 +1,18 @@
 -- One agent after another runs.
-use Rattle.std.proofs.Common.{◌<◌, ◌≤◌, ◌^◌, ◌++◌, ◌∷◌, ◌∙◌, [], List, length, take, take_all, sym, ap, subst, arith, length-take, w32, rules, SFits}
+use Rattle.std.proofs.Common.{◌<◌, ◌≤◌, ◌^◌, ◌++◌, ◌∷◌, ◌∙◌, [], List, length, take, take_all, sym, ap, subst, arith, length-take}
 use Rattle.std.specs.Prelude.{ℤ}
-use Rattle.std.proofs.lemmas.Int.{to_z-of_z}
 use Rattle.std.proofs.lemmas.List.{take_more}
 use Rattle.flame_spec.specs.declared.outcomes.Outcome.{Outcome}
 use Rattle.flame_world.specs.Meaning.{outcome_under}
 use Rattle.flame_leaving.specs.Leavings.{AreLeft}
-use Rattle.flame_agent.proofs.agents.run_agents.Goals as goal
+use Rattle.flame_agent.proofs.agents.run_all.Goals as goal
 
 pub loop-memory-init : goal.loop-memory-init
 loop-memory-init c =
-    c.nothing-leaving.ensures c.args.setting.now.iteration c.args.function (outcome_under c.args.setting.now c.args.function)
+    c.expecting-leaving.ensures c.args.setting.now.iteration c.args.function (outcome_under c.args.setting.now c.args.function)
 
-pub add-requires : goal.add-requires
-add-requires c =
+pub run_next-requires-clause-count : goal.run_next-requires-clause-count
+run_next-requires-clause-count c =
     let agents = c.args.agents.now in
     let place = c.loop-memory.memory-index in
     let within : place < length agents = c.loop-memory-test.true in
@@ -29,15 +28,10 @@ loop-memory-preserved c =
     let agents = c.args.agents.now in
     let place = c.loop-memory.memory-index in
     let memory = c.memory-item.result in
-    let fits : SFits w32 setting.iteration = search rules in
-    let same = to_z-of_z w32 setting.iteration fits in
-    let more =
-    c.in_ok-add.ensures run (take place agents) (sym c.in_ok-outcome.ensures)
-    (subst (λ (at : ℤ). AreLeft at function run (take place agents) c.loop-memory.leaving) (sym same) c.loop-memory.invariant) in
-    subst (λ (done : List (List ℤ)). AreLeft setting.iteration function run done c.add.new.self)
+    subst (λ (done : List (List ℤ)). AreLeft setting.iteration function run done c.run_next.new.leaving)
     (ap (λ (m : List ℤ). take place agents ++ m ∷ []) c.memory-item.is
     ∙ sym (take_more agents place memory c.loop-memory-test.true))
-    (subst (λ (at : ℤ). AreLeft at function run (take place agents ++ memory ∷ []) c.add.new.self) same more)
+    (c.in_ok-run_next.ensures (take place agents) c.loop-memory.invariant)
 
 pub returns : goal.returns
 returns c =

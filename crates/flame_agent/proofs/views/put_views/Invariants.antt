@@ -3,7 +3,7 @@ use Rattle.flame_code.specs.Feeds.{not_begun}
 use Rattle.flame_meaning.specs.Outcomes.{place_of}
 use Rattle.flame_world.specs.Meaning.{readings_from}
 use Rattle.flame_world.specs.Settings.{boards_of}
-use Rattle.flame_agent.proofs.views.views_of.Given as goal
+use Rattle.flame_agent.proofs.views.put_views.Given as goal
 
 abbrev pub invariant-loop-i : goal.invariant-loop-i
 invariant-loop-i l =
