@@ -1,21 +1,28 @@
-use Rattle.std.proofs.Common.{◌≡◌, ◌∙◌, ◌<◌, ◌++◌, [], ◌∷◌, true, false, List, ap, sym, arith, length, map, take, slice_index_or, ℕ}
+use Rattle.std.proofs.Common.{◌≡◌, ◌∙◌, ◌<◌, ◌++◌, [], ◌∷◌, true, false, List, refl, ap, sym, subst, arith, length, map, take, slice_index_or, ℕ}
 use Rattle.std.specs.Prelude.{ℤ}
 use Rattle.std.specs.List.{All}
 use Rattle.std.proofs.lemmas.List.{length-set, map-append, take_more}
 use Rattle.flame_rows.proofs.Lists.{slice_index_or-map}
+use Rattle.flame_field.specs.declared.boards.Board.{Board}
+use Rattle.flame_field.specs.declared.keeping.Want.{Want}
 use Rattle.flame_index.specs.FrozenBoards.{shared_messages}
-use Rattle.flame_field.specs.KeptBoards.{board_bag, is_board_frozen}
+use Rattle.flame_field.specs.KeptBoards.{board_bag, board_keeps, is_board_frozen}
+use Rattle.flame_field.specs.KeptOrders.{KeepsWanted}
 use Rattle.flame_field.proofs.Wanted.{keeps-written, none-lost}
 use Rattle.flame_field.proofs.Written.{map-kept}
 use Rattle.flame_field.proofs.sharing.share.Goals as goal
 
-pub loop-message-holds : goal.loop-message-holds
-loop-message-holds c = record {
-  count = search rules;
-  bags = search rules;
-  marks = λ frozen. search rules;
+-- what is kept beside the one board, for what is wanted of it
+abbrev wanted-of : Board → Board → List Want → Type 0
+wanted-of old new wants = KeepsWanted (length (board_bag old)) wants (board_keeps old) (board_keeps new)
+
+pub loop-message-init : goal.loop-message-init
+loop-message-init c = record {
+  count = refl;
+  bags = refl;
+  marks = λ frozen. refl;
   keeps = none-lost c.args.wants.now c.args.boards.now.items;
-  read = search rules;
+  read = ap (map shared_messages) c.new-shared.ensures.items;
 }
 
 pub returns-in_err-share_one-clause-bags : goal.returns-in_err-share_one-clause-bags
@@ -52,7 +59,7 @@ returns-in_err-share_one-clause-keeps c =
     let here : message < length boards = omega (arith, c.requires place 0 c.loop-message-test.true, old.count) in
     let at = c.index_mut.ensures.value in
     keeps-written c.args.wants.now c.args.boards.now.items boards message c.index_mut.result.now c.share_one.new.board here at
-    old.bags old.keeps c.in_err-share_one.ensures.keeps
+    old.bags old.keeps (subst (wanted-of c.index_mut.result.now c.share_one.new.board) c.wants_at-wanted.ensures c.in_err-share_one.ensures.keeps)
 
 pub returns-in_err-push-clause-bags : goal.returns-in_err-push-clause-bags
 returns-in_err-push-clause-bags c =
@@ -88,7 +95,7 @@ returns-in_err-push-clause-keeps c =
     let here : message < length boards = omega (arith, c.requires place 0 c.loop-message-test.true, old.count) in
     let at = c.index_mut.ensures.value in
     keeps-written c.args.wants.now c.args.boards.now.items boards message c.index_mut.result.now c.share_one.new.board here at
-    old.bags old.keeps c.in_ok-share_one.ensures.keeps
+    old.bags old.keeps (subst (wanted-of c.index_mut.result.now c.share_one.new.board) c.wants_at-wanted.ensures c.in_ok-share_one.ensures.keeps)
 
 pub loop-message-preserved : goal.loop-message-preserved
 loop-message-preserved c =
@@ -116,7 +123,7 @@ loop-message-preserved c =
           ∙ ap (λ l. slice_index_or l message false) (old.marks frozen) ∙ frozen place 0 c.loop-message-test.true))
           ∙ old.marks frozen;
       keeps = keeps-written c.args.wants.now c.args.boards.now.items boards message c.index_mut.result.now c.share_one.new.board here at
-          old.bags old.keeps c.in_ok-share_one.ensures.keeps;
+          old.bags old.keeps (subst (wanted-of c.index_mut.result.now c.share_one.new.board) c.wants_at-wanted.ensures c.in_ok-share_one.ensures.keeps);
       read =
           ap (map shared_messages) c.in_ok-push.ensures.items
           ∙ map-append shared_messages c.loop-message.shared.items (c.in_ok-share_one.field-0 ∷ [])
