@@ -97,6 +97,8 @@ impl Board {
     pub fn put_in_order(&mut self)
         ensures bag { board_bag self.new ≡ board_bag self.old }
         ensures frozen { is_board_frozen self.new ≡ is_board_frozen self.old }
+        ensures left { IsTrue (is_board_frozen self.old) → self.new ≡ self.old }
+        ensures keeps { board_keeps self.new ≡ board_keeps self.old }
     {
         match self {
             Board::Gathering(rows) => put_in_order(rows),
@@ -106,10 +108,12 @@ impl Board {
     }
 
     /// No message comes any more: the board is put in order, which takes no memory. Where it is in order already, as
-    /// the last piece to hand in mostly leaves it, this goes over it once.
+    /// the last piece to hand in mostly leaves it, this goes over it once. A board that is frozen is left as it is.
     pub fn freeze(&mut self)
         ensures bag { board_bag self.new ≡ board_bag self.old }
         ensures frozen { is_board_frozen self.new ≡ true }
+        ensures left { IsTrue (is_board_frozen self.old) → self.new ≡ self.old }
+        ensures keeps { board_keeps self.new ≡ board_keeps self.old }
     {
         if let Board::Gathering(rows) = self {
             let empty = Vec::new(*rows.allocator());
@@ -139,7 +143,8 @@ impl Board {
     /// One who reads the board more.
     fn reader(&self) -> Result<Arc<Frozen>, NoMemory>
         requires { is_board_shared self.now ≡ true }
-        ensures { IfOk result (λ board. shared_messages board ≡ board_bag self.now) }
+        ensures messages { IfOk result (λ board. shared_messages board ≡ board_bag self.now) }
+        ensures kept { IfOk result (λ board. (arc_value board).kept ≡ board_keeps self.now) }
     {
         match self {
             Board::Gathering(_) => unreachable!(),
@@ -156,6 +161,7 @@ impl Board {
     pub fn share(&mut self, alloc: Global, wants: &[Want]) -> Result<Arc<Frozen>, NoMemory>
         requires { is_board_frozen self.old ≡ true }
         ensures read { IfOk result (λ board. shared_messages board ≡ board_bag self.old) }
+        ensures kept { IfOk result (λ board. (arc_value board).kept ≡ board_keeps self.new) }
         ensures bag { board_bag self.new ≡ board_bag self.old }
         ensures frozen { is_board_frozen self.new ≡ true }
         ensures keeps { KeepsWanted (length (board_bag self.old)) wants.now (board_keeps self.old) (board_keeps self.new) }

@@ -2,7 +2,7 @@
 
 ghost use Rattle.std.specs.Prelude.{◌≡◌, length, OnOk, OnErr};
 ghost use Rattle.flame_index.specs.FrozenBoards.{messages_on};
-ghost use Rattle.flame_field.specs.KeptOrders.{pays, with_want, with_wants, KeepsWanted};
+ghost use Rattle.flame_field.specs.KeptOrders.{are_enough, pays, with_want, with_wants, KeepsWanted};
 
 use flame_cond::SortBy;
 use flame_index::Frozen;
@@ -18,12 +18,19 @@ pub struct Want {
     pub views: usize,
 }
 
-/// Whether it pays to put so many rows in order for so many views: each row is compared a few times, as often as the rows
-/// are halved down to one, and without the order once for each view.
+/// Whether so many rows are halved down to none by no more steps than there are views.
+fn are_enough(views: usize, rows: usize) -> bool
+    ensures { result ≡ are_enough views rows }
+{
+    views >= 64 || rows >> views == 0
+}
+
+/// Whether it pays to put so many rows in order for so many views: each row is compared about as often as all are halved down
+/// to none, and without the order once for each view.
 fn pays(views: usize, rows: usize) -> bool
     ensures { result ≡ pays views rows }
 {
-    views >= 64 || rows >> views == 0
+    rows > 1 && are_enough(views, rows)
 }
 
 /// Keeps beside the board an order that is wanted, if it pays.

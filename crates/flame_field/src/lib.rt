@@ -13,4 +13,4 @@ pub use fields::Field;
 pub use gatherings::Gathering;
 pub use keeping::Want;
 pub use pools::{exchange, exchanged, pool_of};
-pub use sharing::{read, share};
+pub use sharing::share;
