@@ -20,7 +20,7 @@ ghost use Rattle.flame_field.specs.KeptFields.{field_of};
 ghost use Rattle.flame_round.specs.KeptRounds.{GoesBy, HasRoute, FitsRun, round_of};
 ghost use Rattle.flame_runner.specs.KeptSteps.{result_of};
 
-use flame_field::{Field, Gathering, exchange, read};
+use flame_field::{Field, Gathering, exchange, share};
 use flame_index::Frozen;
 use flame_leaving::Leaving;
 use flame_leaving::laws::parts_make_the_whole;
@@ -131,7 +131,7 @@ pub(crate) fn step(
     let mut field = field;
     let route = route_of(round, function);
     let takers = leave(alloc, round, function, route, &mut field.pools)?;
-    let boards = read(alloc, &mut field.boards, route.inputs.items(), round.wants)?;
+    let boards = share(alloc, &mut field.boards, route.inputs.items(), round.wants)?;
     let leaving = run(alloc, round, function, takers.as_slice(), boards)?;
     settle(alloc, route, field, leaving)
 }

@@ -19,16 +19,10 @@ some_place x y e = cc
 pub route_of-route-requires : goal.route_of-route-requires
 route_of-route-requires c = c.requires.fed.there c.requires.began
 
-pub share-requires-clause-known : goal.share-requires-clause-known
-share-requires-clause-known c =
+pub share-requires : goal.share-requires
+share-requires c =
     subst (All (λ m. m < length c.args.progress.now.field.boards.items)) (sym c.items-inputs.ensures)
     (fed_known c.args.round.now.program.now.model c.args.progress.now c.args.function c.route_of-route.result.now
-    c.route_of-route.ensures c.requires.fed c.requires.began)
-
-pub share-requires-clause-frozen : goal.share-requires-clause-frozen
-share-requires-clause-frozen c =
-    subst (All (λ m. is_frozen (core_of c.args.progress.now) m ≡ true)) (sym c.items-inputs.ensures)
-    (fed_frozen c.args.round.now.program.now.model c.args.progress.now c.args.function c.route_of-route.result.now
     c.route_of-route.ensures c.requires.fed c.requires.began)
 
 pub returns-clause-read : goal.returns-clause-read
@@ -56,7 +50,9 @@ pub returns-clause-kept : goal.returns-clause-kept
 returns-clause-kept c = λ counts tallies.
     let model = c.args.round.now.program.now.model in
     let progress = c.args.progress.now in
-    let same = same_core progress c.share.new.boards c.in_ok-share.ensures.bags c.in_ok-share.ensures.frozen in
+    let frozen = subst (All (λ m. is_frozen (core_of progress) m ≡ true)) (sym c.items-inputs.ensures)
+    (fed_frozen model progress c.args.function c.route_of-route.result.now c.route_of-route.ensures c.requires.fed c.requires.began) in
+    let same = same_core progress c.share.new.boards c.in_ok-share.ensures.bags (c.in_ok-share.ensures.frozen frozen) in
     came model progress (record progress { field = record progress.field { boards = c.share.new.boards } }) counts counts
     (core_of progress) same refl refl
     (λ g has. has) tallies tallies.counted

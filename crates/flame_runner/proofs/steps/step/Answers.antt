@@ -32,8 +32,8 @@ leave-requires-clause-pools c =
     has-route c.args.round.now.program.now.model c.args.function c.route_of-route.result.now (field_of c.args.field)
     c.route_of-route.ensures c.requires.fits
 
-pub read-requires : goal.read-requires
-read-requires c =
+pub share-requires : goal.share-requires
+share-requires c =
     let model = c.args.round.now.program.now.model in
     let goes = c.route_of-route.ensures in
     let all = numbers-within model goes.place.function.inputs c.route_of-route.result.now.inputs goes.routed.inputs in
@@ -91,11 +91,11 @@ settle-requires-clause-messages c =
     let left : AreLeft round.iteration c.args.function run c.in_ok-takers.takers.items c.in_ok-leaving.leaving =
     subst (λ (agents : List (List ℤ)). AreLeft round.iteration c.args.function run agents c.in_ok-leaving.leaving)
     c.as_slice.ensures.value (c.in_ok-leaving.ensures all named) in
-    let count : length source.model.messages ≡ length c.read.new.boards.items =
+    let count : length source.model.messages ≡ length c.share.new.boards.items =
     zip-length _ source.model.messages all c.requires.fits.boards
     ∙ ap length (sym c.in_ok-boards.ensures.bags)
-    ∙ length-map c.read.new.boards.items board_bag in
-    subst (λ (sent : List Sent). All (λ (s : Sent). s.message < length c.read.new.boards.items) sent) (sym left.sent)
+    ∙ length-map c.share.new.boards.items board_bag in
+    subst (λ (sent : List Sent). All (λ (s : Sent). s.message < length c.share.new.boards.items) sent) (sym left.sent)
     (subst (λ n. All (λ (s : Sent). s.message < n) (sent_from run c.in_ok-takers.takers.items)) count
     (sent-within source c.args.function all round.constants.now round.iteration round.fuel c.in_ok-takers.takers.items))
 
@@ -120,7 +120,7 @@ returns c =
     let after : Standing = record {
       pools = pools_of c.leave.new.pools;
       born = joined (births_of c.args.field.born.items) (map (λ own. []) c.leave.new.pools.items);
-      boards = map board_bag c.read.new.boards.items;
+      boards = map board_bag c.share.new.boards.items;
     } in
     let leaving = c.in_ok-leaving.leaving in
     came c.settle.result (unless_faulted leaving.fault (settled leaving route after)) (step (round_of round) c.args.function field)
