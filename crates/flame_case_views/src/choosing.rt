@@ -155,7 +155,7 @@ fn print_choices(
     requires known { All (λ function. function < length conditions.now) functions.now }
     requires few { length functions.now < 2 ^ 32 }
 {
-    let choices = choose_here(alloc, pool.rows(), conditions, functions, iteration)?;
+    let choices = choose_here(alloc, pool, conditions, functions, iteration)?;
     let others = choose(rt, alloc, pool, conditions, functions, iteration)?;
     print_numbers(out, "choices", choices.items())?;
     if choices != others {

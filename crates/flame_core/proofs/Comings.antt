@@ -227,10 +227,6 @@ finished every seen entry same accepted reached complete r ends =
     ∙ ap (λ (s : Seen). iteration s.source s.world s.iteration s.fuel) same)
     ends
 
-pub as_many : (model : Model) (progress : Progress) → FitsCore model (core_of progress) → length model.agents ≡ length progress.field.pools.items
-as_many model progress fits =
-    zip-length _ model.agents (core_of progress).field.pools fits.field.pools ∙ length-map progress.field.pools.items bags_of
-
 -- ---- what is kept when a function is opened
 
 pub opened_has : (statuses : List kept.Status) (f : ℕ) (works : Vec run.Work Global) (outputs : ℕ → List ℕ) → f < length statuses

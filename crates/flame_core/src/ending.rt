@@ -63,7 +63,6 @@ fn taken_fault(status: &mut Status) -> Option<SimFault>
 fn taken_first(progress: &mut Progress, functions: &[u32]) -> Option<SimFault>
     ensures fault { result ≡ first_fault (core_of progress.old) functions.now }
     ensures field { (core_of progress.new).field ≡ (core_of progress.old).field }
-    ensures pools { length progress.new.field.pools.items ≡ length progress.old.field.pools.items }
 {
     for function in functions {
         if progress.is_faulted(*function) {
@@ -80,7 +79,6 @@ pub(crate) fn ended(
     constants: Row,
     progress: Progress,
 ) -> Result<Turn, NoMemory>
-    requires { length program.now.model.agents ≡ length progress.field.pools.items }
     ensures { IfOk result (λ turn. turn ≡ turn_of constants
         (unless_faulted (first_fault (core_of progress) (model_order program.now.model)) (core_of progress).field)) }
 {
@@ -88,8 +86,7 @@ pub(crate) fn ended(
     match taken_first(&mut progress, program.plan().order.items()) {
         Some(fault) => Ok(Turn::Faulted(fault)),
         None => {
-            let agents = program.source().model.agents.items();
-            let (world, boards) = closed(alloc, agents, constants, progress.field)?;
+            let (world, boards) = closed(alloc, constants, progress.field)?;
             Ok(Turn::Done(world, boards))
         }
     }

@@ -65,8 +65,23 @@ pub fn choose<R: Threads + Sync>(
     Ok(Seq::of(choices))
 }
 
-/// The same on one thread, of agents in any order.
+/// The same on one thread.
 pub fn choose_here(
+    alloc: Global,
+    pool: &Bag,
+    conditions: &Seq<Option<Cond>>,
+    functions: &[u32],
+    iteration: i32,
+) -> Result<Seq<u32>, NoMemory>
+    requires known { All (λ function. function < length conditions.now) functions.now }
+    requires few { length functions.now < 2 ^ 32 }
+    ensures { IfOk result (λ choices. choices ≡ choices_of conditions.now functions.now iteration pool.now) }
+{
+    choose_rows(alloc, pool.rows(), conditions, functions, iteration)
+}
+
+/// The same of agents in any order.
+pub fn choose_rows(
     alloc: Global,
     pool: &[Row],
     conditions: &Seq<Option<Cond>>,

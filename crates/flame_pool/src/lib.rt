@@ -5,5 +5,5 @@ mod choices;
 pub mod laws;
 mod pools;
 
-pub use choices::{choose, choose_here};
+pub use choices::{choose, choose_here, choose_rows};
 pub use pools::{take, take_rows, turn_over};

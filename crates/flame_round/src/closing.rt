@@ -1,6 +1,6 @@
 //! How an iteration ends that no agent faulted in.
 
-ghost use Rattle.std.specs.Prelude.{◌≡◌, [], ◌∷◌, IfOk, OnOk, length, map};
+ghost use Rattle.std.specs.Prelude.{◌≡◌, [], ◌∷◌, IfOk, OnOk, map};
 ghost use Rattle.std.specs.List.{flat_map, zip};
 ghost use Rattle.flame_rows.specs.Bags.{merge};
 ghost use Rattle.flame_world.specs.AgentRuns.{births_of};
@@ -11,16 +11,16 @@ ghost use Rattle.flame_field.specs.KeptPools.{bag_of, bags_of, pools_of};
 
 use flame_field::{Board, Field, Gathering};
 use flame_rows::{Bag, NoMemory, Row, Seq};
-use flame_spec::{AgentType, Born};
+use flame_spec::Born;
 use flame_world::{Boards, World};
 use std::alloc::Global;
 
-/// No births of these types.
-fn no_births(alloc: Global, agents: &[AgentType]) -> Result<Vec<Gathering>, NoMemory>
-    ensures { IfOk result (λ born. bags_of born ≡ map (λ agent. []) agents.now) }
+/// No births of the types that have these pools.
+fn no_births(alloc: Global, types: &[Vec<Gathering>]) -> Result<Vec<Gathering>, NoMemory>
+    ensures { IfOk result (λ born. bags_of born ≡ map (λ pools. []) types.now) }
 {
     let mut born = Vec::new(alloc);
-    for _agent in agents {
+    for _pools in types {
         born.push(Gathering::empty(alloc))?;
     }
     Ok(born)
@@ -38,11 +38,15 @@ fn bear_one(born: &mut Vec<Gathering>, birth: Born) -> Result<(), NoMemory>
     Ok(())
 }
 
-/// The births of each of these types.
-fn borne(alloc: Global, agents: &[AgentType], births: Vec<Born>) -> Result<Vec<Gathering>, NoMemory>
-    ensures { IfOk result (λ born. bags_of born ≡ joined (births_of births.items) (map (λ agent. []) agents.now)) }
+/// The births of each of the types that have these pools.
+fn borne(
+    alloc: Global,
+    types: &[Vec<Gathering>],
+    births: Vec<Born>,
+) -> Result<Vec<Gathering>, NoMemory>
+    ensures { IfOk result (λ born. bags_of born ≡ joined (births_of births.items) (map (λ pools. []) types.now)) }
 {
-    let mut born = no_births(alloc, agents)?;
+    let mut born = no_births(alloc, types)?;
     for birth in births {
         bear_one(&mut born, birth)?;
     }
@@ -87,14 +91,8 @@ fn bags_of_boards(alloc: Global, boards: Vec<Board>) -> Result<Vec<Bag>, NoMemor
     Ok(bags)
 }
 
-/// An iteration ends without a fault: survivors and births are the agents of the world. These are the agent types.
-pub fn closed(
-    alloc: Global,
-    agents: &[AgentType],
-    constants: Row,
-    field: Field,
-) -> Result<(World, Boards), NoMemory>
-    requires { length agents.now ≡ length field.pools.items }
+/// An iteration ends without a fault: survivors and births are the agents of the world.
+pub fn closed(alloc: Global, constants: Row, field: Field) -> Result<(World, Boards), NoMemory>
     ensures world { IfOk result (λ end. end.0.agents ≡ gathered (field_of field)) }
     ensures constants { IfOk result (λ end. end.0.constants ≡ constants) }
     ensures boards { IfOk result (λ end. end.1.boards ≡ (field_of field).boards) }
@@ -104,7 +102,7 @@ pub fn closed(
         born,
         boards,
     } = field;
-    let born = borne(alloc, agents, born)?;
+    let born = borne(alloc, pools.as_slice(), born)?;
     let world = World {
         constants,
         agents: Seq::of(agents_of(alloc, pools, born)?),

@@ -9,7 +9,7 @@ ghost use Rattle.flame_round.specs.KeptRounds.{GoesBy, round_of};
 
 use crate::rounds::Round;
 use crate::routes::out_of;
-use flame_pool::{choose_here, take, take_rows};
+use flame_pool::{choose_rows, take, take_rows};
 use flame_route::Route;
 use flame_rows::{Bag, NoMemory, Row, Seq, number};
 use std::alloc::Global;
@@ -38,7 +38,7 @@ fn choose(
     // Agents choose by numbers of 32 bits.
     let _count = number(functions.len())?;
     let conditions = round.program.conditions();
-    choose_here(alloc, agents, conditions, functions, round.iteration)
+    choose_rows(alloc, agents, conditions, functions, round.iteration)
 }
 
 /// The agents of the pool that take the function which goes by this route, and the others.

@@ -1,6 +1,7 @@
 //! What agents want kept beside the boards that they read.
 
 use flame_agent::{reads_memory, wanted_key};
+use flame_cond::SortBy;
 use flame_field::Want;
 use flame_program::Program;
 use flame_route::Route;
@@ -11,19 +12,36 @@ use std::alloc::Global;
 #[derive(Clone, Copy)]
 struct Readers {
     agents: usize,
-    share: bool,
+    shares_views: bool,
 }
 
 /// What the readers of this function want of the board of this input.
 fn want_of(program: &Program, function: u32, input: u32, readers: Readers) -> Option<Want> {
     let filter = program.filter(function, input);
     let by = wanted_key(filter, program.sort(function, input))?;
-    let views = if readers.share && !reads_memory(filter) {
+    let views = if readers.shares_views && !reads_memory(filter) {
         1
     } else {
         readers.agents
     };
     Some(Want { by, views })
+}
+
+/// Whether two keys are one.
+fn is_same(one: SortBy, other: SortBy) -> bool {
+    one.variable == other.variable && one.descending == other.descending
+}
+
+/// Adds a want to those of a board: where its key is wanted already, its views more.
+fn add_want(own: &mut Vec<Want>, want: Want) -> Result<(), NoMemory> {
+    for other in &mut *own {
+        if is_same(other.by, want.by) {
+            other.views = other.views.saturating_add(want.views);
+            return Ok(());
+        }
+    }
+    own.push(want)?;
+    Ok(())
 }
 
 /// Adds what they want of the boards of these messages, which the function inputs.
@@ -37,7 +55,7 @@ fn add_wants(
     for i in 0..inputs.len() {
         if let Some(want) = want_of(program, function, number(i)?, readers) {
             if let Some(own) = wants.get_mut(inputs[i] as usize) {
-                own.push(want)?;
+                add_want(own, want)?;
             }
         }
     }
@@ -66,14 +84,14 @@ fn all_wants(
     alloc: Global,
     program: &Program,
     agents: &[Bag],
-    share: bool,
+    shares_views: bool,
 ) -> Result<Vec<Vec<Want>>, NoMemory> {
     let mut wants = no_wants(alloc, program.source().model.messages.items().len())?;
     let routes = program.routes().routes.items();
     for i in 0..routes.len() {
         let readers = Readers {
             agents: agents_of(agents, &routes[i]),
-            share,
+            shares_views,
         };
         add_wants(
             &mut wants,
@@ -90,8 +108,13 @@ fn all_wants(
 /// messages, and how many views they make by it at most, where the iteration begins with these agents. The agents of a
 /// function may share the views that no memory changes. Nothing where no memory is found, since what agents read does not
 /// depend on it.
-pub fn wants_of(alloc: Global, program: &Program, agents: &[Bag], share: bool) -> Vec<Vec<Want>> {
-    match all_wants(alloc, program, agents, share) {
+pub fn wants_of(
+    alloc: Global,
+    program: &Program,
+    agents: &[Bag],
+    shares_views: bool,
+) -> Vec<Vec<Want>> {
+    match all_wants(alloc, program, agents, shares_views) {
         Ok(wants) => wants,
         Err(_) => Vec::new(alloc),
     }

@@ -25,7 +25,7 @@ impl<F: Fn(Global, &Program, World, i32, u32) -> Result<Turn, NoMemory>> Runner 
         → FitsModel program.now.model world
         → F.pre runner.call alloc program world iteration fuel
         × ((result : _) → F.post runner.call alloc program world iteration fuel result
-            → IfOk result (λ turn. turn ≡ meant program.now world iteration fuel)) };
+        → IfOk result (λ turn. turn ≡ meant program.now world iteration fuel)) };
 
     fn iterate<R: Threads + Wait + Sync>(
         &mut self,

@@ -49,8 +49,7 @@ fn ended(
     match stepped {
         Stepped::Faulted(fault) => Ok(Turn::Faulted(fault)),
         Stepped::On(field) => {
-            let types = program.source().model.agents.items();
-            let (world, boards) = closed(alloc, types, constants, field)?;
+            let (world, boards) = closed(alloc, constants, field)?;
             Ok(Turn::Done(world, boards))
         }
     }

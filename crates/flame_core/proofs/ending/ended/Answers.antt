@@ -1,14 +1,10 @@
-use Rattle.std.proofs.Common.{◌∙◌, ap, length, sym}
-use Rattle.flame_spec.specs.declared.outcomes.Source.{Source}
+use Rattle.std.proofs.Common.{◌∙◌, ap, sym}
 use Rattle.flame_world.specs.Fields.{Field, gathered}
 use Rattle.flame_world.specs.Iterations.{turn_of, unless_faulted}
 use Rattle.flame_events.specs.CoreEnds.{first_fault}
 use Rattle.flame_progress.specs.KeptCores.{core_of}
 use Rattle.flame_core.proofs.Finished.{done_is}
 use Rattle.flame_core.proofs.ending.ended.Goals as goal
-
-pub closed-requires : goal.closed-requires
-closed-requires c = ap length c.items-agents.ensures ∙ ap (λ (s : Source). length s.model.agents) c.source.ensures.same ∙ c.requires ∙ sym c.taken_first.ensures.pools
 
 pub returns-in-Some : goal.returns-in-Some
 returns-in-Some c =

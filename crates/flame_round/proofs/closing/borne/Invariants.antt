@@ -9,5 +9,5 @@ abbrev pub invariant-loop-birth : goal.invariant-loop-birth
 invariant-loop-birth l = record {
   counted : into_iter_len l.birth-iterator ≡ length (into_iter_items l.birth-iterator);
   joins : joined (births_of (into_iter_items l.birth-iterator)) (bags_of l.born)
-      ≡ joined (births_of l.fn.births.items) (map (λ agent. []) l.agents);
+      ≡ joined (births_of l.fn.births.items) (map (λ pools. []) l.types);
 }

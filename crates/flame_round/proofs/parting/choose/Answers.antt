@@ -15,8 +15,8 @@ use Rattle.flame_route.proofs.Places.{zip-length}
 use Rattle.flame_round.proofs.Stepped.{chosen-takers, one-place}
 use Rattle.flame_round.proofs.parting.choose.Goals as goal
 
-pub choose_here-requires-clause-known : goal.choose_here-requires-clause-known
-choose_here-requires-clause-known c =
+pub choose_rows-requires-clause-known : goal.choose_rows-requires-clause-known
+choose_rows-requires-clause-known c =
     let model = c.args.round.now.program.now.model in
     let place = c.requires.place in
     let out = c.out_of-functions.ensures place c.requires.there in
@@ -29,9 +29,9 @@ choose_here-requires-clause-known c =
 
 pub returns-clause-count : goal.returns-clause-count
 returns-clause-count c =
-    IfOk-weaker c.choose_here.result _ _
+    IfOk-weaker c.choose_rows.result _ _
     (λ choices is. ap length is ∙ length-map c.args.agents.now (first_place c.conditions-conditions.result.now c.out_of-functions.result.now _))
-    c.choose_here.ensures
+    c.choose_rows.ensures
 
 pub returns-clause-takers : goal.returns-clause-takers
 returns-clause-takers c =
@@ -41,8 +41,8 @@ returns-clause-takers c =
     let agents = c.args.agents.now in
     let turn = c.args.route.now.choice in
     let fits : SFits w32 iteration = search rules in
-    let chose = rw (to_z-of_z w32 iteration fits) at c.choose_here.ensures in
-    IfOk-weaker c.choose_here.result _ _
+    let chose = rw (to_z-of_z w32 iteration fits) at c.choose_rows.ensures in
+    IfOk-weaker c.choose_rows.result _ _
     (λ choices is place there.
     subst (λ (p : Place). whose (λ choice. choice == turn) agents choices ≡ takers model p.agent p.function.current c.args.function iteration agents)
     (one-place model c.args.function own place c.requires.there there)
@@ -58,8 +58,8 @@ returns-clause-others c =
     let agents = c.args.agents.now in
     let turn = c.args.route.now.choice in
     let fits : SFits w32 iteration = search rules in
-    let chose = rw (to_z-of_z w32 iteration fits) at c.choose_here.ensures in
-    IfOk-weaker c.choose_here.result _ _
+    let chose = rw (to_z-of_z w32 iteration fits) at c.choose_rows.ensures in
+    IfOk-weaker c.choose_rows.result _ _
     (λ choices is place there.
     subst (λ (p : Place). whose (λ choice. not (choice == turn)) agents choices ≡ staying (round_of c.args.round.now) c.args.function p agents)
     (one-place model c.args.function own place c.requires.there there)

@@ -1,13 +1,7 @@
 -- What a core comes to, whatever the order of its events.
 use Rattle.flame_core.proofs.Inside.{seen_of}
-use Rattle.flame_core.proofs.Comings.{as_many, finished, reached_fits}
+use Rattle.flame_core.proofs.Comings.{finished}
 use Rattle.flame_core.proofs.cores.Core.finish.Goals as goal
-
-pub ended-requires : goal.ended-requires
-ended-requires c =
-    let inside = c.self.inside in
-    let seen = seen_of inside.program.now inside.world inside.iteration inside.fuel inside.pieces inside.progress in
-    as_many inside.program.now.model inside.progress (reached_fits seen c.self.invariant.reached)
 
 pub returns : goal.returns
 returns c =

@@ -1,6 +1,6 @@
 use Rattle.std.proofs.Common.{◌≡◌, take}
 use Rattle.flame_pool.specs.Choosing.{choices_of}
-use Rattle.flame_pool.proofs.choices.choose_here.Given as goal
+use Rattle.flame_pool.proofs.choices.choose_rows.Given as goal
 
 abbrev pub invariant-loop-memory : goal.invariant-loop-memory
 invariant-loop-memory l =
