@@ -125,8 +125,8 @@ came_as model old new earlier counts next is long marks outputs tallies counted 
         sym (length-map new.statuses.items kept_status) ∙ ap (λ (c : Core). length c.statuses) is ∙ long
         ∙ length-map old.statuses.items kept_status ∙ tallies.functions;
     messages =
-        sym (length-map new.boards.items is_board_frozen) ∙ ap (λ (c : Core). length c.frozen) is ∙ marks
-        ∙ length-map old.boards.items is_board_frozen ∙ tallies.messages;
+        sym (length-map new.field.boards.items is_board_frozen) ∙ ap (λ (c : Core). length c.frozen) is ∙ marks
+        ∙ length-map old.field.boards.items is_board_frozen ∙ tallies.messages;
     outputs = outputs;
     once = tallies.once;
     counted = subst (λ (c : Core). Counted model c counts) (sym is) counted;

@@ -174,12 +174,7 @@ impl Progress {
         } }
         ensures statuses { self.new.statuses.items ≡ slice_set self.old.statuses.items function (Status.Open works) }
     {
-        exchange(
-            &mut self.field.pools,
-            agent,
-            state,
-            Gathering::of(staying),
-        );
+        let _gone = exchange(&mut self.field.pools, agent, state, Gathering::of(staying));
         self.statuses[function as usize] = Status::Open(works);
     }
 

@@ -25,7 +25,7 @@ returns c = λ round pieces tallies legal.
     let model = round.source.model in
     let core = core_of c.args.progress.now in
     let m = c.args.message in
-    let less : m < length core.frozen = omega (arith, c.requires.known, length-map c.args.progress.now.boards.items is_board_frozen) in
+    let less : m < length core.frozen = omega (arith, c.requires.known, length-map c.args.progress.now.field.boards.items is_board_frozen) in
     let next : Core = record core { frozen = slice_set core.frozen m true } in
     let P : Counts → Type 0 = λ counts. Counted model next counts in
     came model c.args.progress.now c.freeze.new.self c.args.counts.now c.freeze-2.new.self next c.freeze.ensures.core

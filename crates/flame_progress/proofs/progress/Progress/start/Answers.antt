@@ -15,8 +15,8 @@ returns-clause-core c =
     let self = c.args.self.now in
     let core = core_of self in
     let put = statuses_put self.statuses.items c.args.function (is.Open c.args.works) (Open (map work_of c.args.works.items)) refl in
-    let pools = c.exchange.ensures.put ∙ ap (λ bag. changed_pool c.args.agent c.args.state (λ old. bag) (pools_of self.field.pools)) c.of.ensures.bag in
-    let none = pools_long self.field.pools c.exchange.new.pools c.args.agent c.args.state (λ old. c.args.staying) pools in
+    let pools = c.exchange-gone.ensures.put ∙ ap (λ bag. changed_pool c.args.agent c.args.state (λ old. bag) (pools_of self.field.pools)) c.of.ensures.bag in
+    let none = pools_long self.field.pools c.exchange-gone.new.pools c.args.agent c.args.state (λ old. c.args.staying) pools in
     λ i. record {
       statuses = put i;
       field = record { pools = pools i; born = joined (births_of self.field.born.items) (none i); boards = core.field.boards };
