@@ -1,8 +1,8 @@
 -- Agents of all states of a type that are collected, pool by pool.
-use Rattle.std.proofs.Common.{◌≡◌, ◌+◌, List, [], ◌∷◌, ◌++◌, length, sym, ap, ◌∙◌, arith}
+use Rattle.std.proofs.Common.{◌≡◌, List, [], ◌∷◌, ◌++◌, length, sym, ap, ◌∙◌, arith}
 use Rattle.std.specs.Prelude.{ℕ, ℤ}
 use Rattle.std.specs.List.{flat_map}
-use Rattle.flame_rows.specs.Bags.{ascending, merge, weigh}
+use Rattle.flame_rows.specs.Bags.{ascending, merge}
 use Rattle.flame_rows.proofs.BagLaws.{weigh-append, weigh-ascending}
 use Rattle.flame_rows.proofs.Merging.{ascending-ascending, same_bag}
 

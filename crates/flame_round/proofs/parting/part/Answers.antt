@@ -1,4 +1,4 @@
-use Rattle.std.proofs.Common.{◌∙◌, ap, length, sym, subst, List}
+use Rattle.std.proofs.Common.{◌∙◌, ap, length, subst, List}
 use Rattle.std.specs.Prelude.{◌≡◌, ◌==◌, not, ℤ}
 use Rattle.std.proofs.lemmas.Result.{IfOk-weaker}
 use Rattle.flame_rows.specs.Parted.{whose}
