@@ -2,7 +2,7 @@
 use Rattle.std.proofs.Common.{◌≡◌, ℕ, ◌+◌, List, [], ◌∷◌, Some, refl, sym, ap, ◌∙◌}
 use Rattle.std.specs.Prelude.{ℤ, IfOk, Result, Ok, Err, slice_get}
 use Rattle.flame_rows.specs.Bags.{ascending, merge}
-use Rattle.flame_rows.proofs.Merging.{ascending-ascending, merge-ascending}
+use Rattle.flame_rows.proofs.Merging.{merge-ascending}
 use Rattle.flame_field.proofs.Gathered.{merge-none}
 use Rattle.flame_spec.specs.Functions.{Place, functions}
 use Rattle.flame_spec.specs.States.{state_place}

@@ -1,4 +1,4 @@
-use Rattle.std.proofs.Common.{◌≡◌, ◌∙◌, ap, length, subst}
+use Rattle.std.proofs.Common.{◌∙◌, ap, length, subst}
 use Rattle.std.proofs.lemmas.List.{length-map}
 use Rattle.flame_route.proofs.Places.{zip-length}
 use Rattle.flame_spec.specs.declared.outcomes.Source.{Source}
