@@ -31,6 +31,7 @@ use Rattle.flame_sense.proofs.Levels.{body_below}
 use Rattle.flame_sense.proofs.Locals.{length-visible}
 use Rattle.flame_sense.proofs.Turning.{stands_at}
 use Rattle.flame_meaning.proofs.Turns.{whole, stepped, paid, test_faults, test_ends, test_holds}
+use Rattle.flame_sense.proofs.Forms.{while_comes, do_comes, loop_comes, arm_comes, else_comes, for_comes, for_looped, for_stopped, do_loops, do_ends, turn_means, unit_less, still_less, loop_faults, loop_ends, turn_ends, step_ends, loop_goes_on}
 use Rattle.flame_sense.proofs.Runs.{if_ok_more, if_none_more, scope_end, stopped, block_falls, step_left, nonzero_holds, zero_fails, begun, copied_test, over_row, row_turn, scene_falls}
 use Rattle.flame_sense.proofs.statement.+run.Goals as goal
 
@@ -116,17 +117,16 @@ element_changed-returns-in-Ok-2 t c =
 pub turn-returns-clause-means : goal.turn-returns-clause-means
 turn-returns-clause-means t c =
     λ next.
-    paid c.args.line (c.args.s.now.fuel - 1) (as_scope (meanings (statements c.args.body.now) (scene_seen c.args.scene.now c.args.open_loops.now))) next
-    (progress_seen c.args.s.now) c.if-s-eq0.false refl
-    ∙ ap (λ e. after_turn e next) c.in_ok-ending.ensures
-    ∙ c.turned.ensures.means next (progress_seen c.block.new.s)
+    turn_means c.args.line (c.args.s.now.fuel - 1) (as_scope (meanings (statements c.args.body.now) (scene_seen c.args.scene.now c.args.open_loops.now))) next
+    (progress_seen c.args.s.now) (progress_seen c.block.new.s) c.in_ok-ending.ending c.turned.result
+    c.if-s-eq0.false refl c.in_ok-ending.ensures c.turned.ensures.means
 
 pub turn-returns-clause-pays : goal.turn-returns-clause-pays
 turn-returns-clause-pays t c =
     if_none_more c.turned.result _ _ (λ g.
-    let h = block_falls (statements c.args.body.now) (scene_seen c.args.scene.now c.args.open_loops.now) _ (progress_seen c.block.new.s) c.in_ok-ending.ending
-    (scene_falls c.args.scene.now c.args.open_loops.now) c.in_ok-ending.ensures g in
-    omega (arith, h, c.if-s-eq0.false)) c.turned.ensures.goes_on
+    unit_less c.args.s.now.fuel c.block.new.s.fuel c.if-s-eq0.false
+    (block_falls (statements c.args.body.now) (scene_seen c.args.scene.now c.args.open_loops.now) _ (progress_seen c.block.new.s) c.in_ok-ending.ending
+    (scene_falls c.args.scene.now c.args.open_loops.now) c.in_ok-ending.ensures g)) c.turned.ensures.goes_on
 
 pub turns-turns-smaller : goal.turns-turns-smaller
 turns-turns-smaller t c =
@@ -135,33 +135,29 @@ turns-turns-smaller t c =
     let less = step_left (option_map assigned c.args.after.now) (scene_seen c.args.scene.now c.args.open_loops.now)
     (progress_seen c.turn.new.s) (progress_seen c.step.new.s) _ (scene_falls c.args.scene.now c.args.open_loops.now)
     c.in_ok-ending-2.ensures c.in-WentOn.is in
-    omega (arith, paid_one, less)
+    still_less c.step.new.s.fuel c.turn.new.s.fuel c.turns.s.fuel paid_one less
 
 pub turns-returns-in_default : goal.turns-returns-in_default
 turns-returns-in_default t c =
     let fits : SFits w32 c.in-Ok.value = search rules in
-    let scene : Scene = scene_seen c.args.scene.now c.args.open_loops.now in
-    let next : Progress → End = stepped c.args.line (test_value (option_map (λ e. expression e.now) c.args.test) scene) (statements c.args.body.now) (option_map assigned c.args.after.now) scene in
-    c.turns.invariant
-    ∙ test_holds c.args.line (test_value (option_map (λ e. expression e.now) c.args.test) scene) (statements c.args.body.now) (option_map assigned c.args.after.now) scene
-    (progress_seen c.turns.s) c.in-Ok.value (scene_falls c.args.scene.now c.args.open_loops.now) (sym c.in-Ok.ensures) (nonzero_holds c.in-Ok.value fits c.if-value-eq0.false)
-    ∙ c.in_ok-ending.ensures.means next
-    ∙ ap (λ o. after o next (progress_seen c.turn.new.s)) c.in-None.is
-    ∙ ap (λ e. on_to e (whole c.args.line (test_value (option_map (λ e. expression e.now) c.args.test) scene) (statements c.args.body.now) (option_map assigned c.args.after.now) scene)) c.in_ok-ending-2.ensures
-    ∙ stopped _ (progress_seen c.step.new.s) _ c.in_default.not-WentOn
+    step_ends c.args.line (test_value (option_map (λ e. expression e.now) c.args.test) (scene_seen c.args.scene.now c.args.open_loops.now))
+    (statements c.args.body.now) (option_map assigned c.args.after.now) (scene_seen c.args.scene.now c.args.open_loops.now)
+    (scene_falls c.args.scene.now c.args.open_loops.now) (progress_seen c.args.s.now) (progress_seen c.turns.s) c.turns.invariant
+    c.in-Ok.value (progress_seen c.turn.new.s) (progress_seen c.step.new.s) c.in_ok-ending.field-0 c.in_ok-ending-2.ending
+    fits c.in-Ok.ensures c.if-value-eq0.false c.in_ok-ending.ensures.means c.in-None.is
+    c.in_ok-ending-2.ensures c.in_default.not-WentOn
 
 pub do_loop-returns-in-None : goal.do_loop-returns-in-None
 do_loop-returns-in-None t c =
-    let scene : Scene = scene_seen c.args.scene.now c.args.open_loops.now in
-    let next : Progress → End = whole c.args.line (test_value (Some (expression c.args.test.now)) scene) (statements c.args.body.now) None scene in
-    let first = c.in_ok-turn.ensures.means next ∙ ap (λ o. after o next (progress_seen c.turn.new.s)) c.in-None.is in
-    if_ok_more c.turns.result _ _ (λ ending h. first ∙ h) c.turns.ensures
+    do_loops c.turns.result c.args.line (statements c.args.body.now) (expression c.args.test.now)
+    (scene_seen c.args.scene.now c.args.open_loops.now) (progress_seen c.args.s.now) (progress_seen c.turn.new.s) (progress_seen c.turns.new.s)
+    c.in_ok-turn.field-0 c.in_ok-turn.ensures.means c.in-None.is c.turns.ensures
 
 pub do_loop-returns-in-Some : goal.do_loop-returns-in-Some
 do_loop-returns-in-Some t c =
-    let scene : Scene = scene_seen c.args.scene.now c.args.open_loops.now in
-    let next : Progress → End = whole c.args.line (test_value (Some (expression c.args.test.now)) scene) (statements c.args.body.now) None scene in
-    c.in_ok-turn.ensures.means next ∙ ap (λ o. after o next (progress_seen c.turn.new.s)) c.in-Some.is
+    do_ends c.args.line (statements c.args.body.now) (expression c.args.test.now)
+    (scene_seen c.args.scene.now c.args.open_loops.now) (progress_seen c.args.s.now) (progress_seen c.turn.new.s)
+    c.in_ok-turn.field-0 c.in-Some.ending c.in_ok-turn.ensures.means c.in-Some.is
 
 pub message_loop-loop-row-preserved : goal.message_loop-loop-row-preserved
 message_loop-loop-row-preserved t c =
@@ -185,147 +181,96 @@ message_loop-returns-in-Some-2 t c =
 
 pub statement-returns-in-While : goal.statement-returns-in-While
 statement-returns-in-While t c =
-    let scene : Scene = scene_seen c.args.scene.now c.args.open_loops.now in
-    let s : Progress = progress_seen c.args.s.now in
-    let seen =
-    ap (λ x. meaning (statement x) scene s) c.in-While.is
-    ∙ ap (λ x. meaning x scene s) (statement-While c.in-While.line c.in-While.test c.in-While.body)
-    ∙ ap (λ b. whole c.in-While.line (test_value (Some (expression c.in-While.test)) scene) (statements b) None scene s)
-    (sym c.items-in-While.ensures) in
-    if_ok_more c.turns.result _ _ (λ ending h. seen ∙ h) c.turns.ensures
+    while_comes c.turns.result c.args.statement.now c.in-While.line c.in-While.test c.in-While.body c.items-in-While.result.now
+    (scene_seen c.args.scene.now c.args.open_loops.now) (progress_seen c.args.s.now) (progress_seen c.turns.new.s)
+    c.in-While.is c.items-in-While.ensures c.turns.ensures
 
 pub statement-returns-in-Do : goal.statement-returns-in-Do
 statement-returns-in-Do t c =
-    let scene : Scene = scene_seen c.args.scene.now c.args.open_loops.now in
-    let s : Progress = progress_seen c.args.s.now in
-    let seen =
-    ap (λ x. meaning (statement x) scene s) c.in-Do.is
-    ∙ ap (λ x. meaning x scene s) (statement-Do c.in-Do.line c.in-Do.body c.in-Do.test)
-    ∙ ap (λ b. meaning (T.do_while c.in-Do.line (statements b) (expression c.in-Do.test)) scene s) (sym c.items-in-Do.ensures) in
-    if_ok_more c.do_loop.result _ _ (λ ending h. seen ∙ h) c.do_loop.ensures
+    do_comes c.do_loop.result c.args.statement.now c.in-Do.line c.in-Do.body c.items-in-Do.result.now c.in-Do.test
+    (scene_seen c.args.scene.now c.args.open_loops.now) (progress_seen c.args.s.now) (progress_seen c.do_loop.new.s)
+    c.in-Do.is c.items-in-Do.ensures c.do_loop.ensures
 
 pub statement-returns-in-Loop : goal.statement-returns-in-Loop
 statement-returns-in-Loop t c =
-    let scene : Scene = scene_seen c.args.scene.now c.args.open_loops.now in
-    let s : Progress = progress_seen c.args.s.now in
-    let seen =
-    ap (λ x. meaning (statement x) scene s) c.in-Loop.is
-    ∙ ap (λ x. meaning x scene s) (statement-Loop c.in-Loop.line c.in-Loop.word c.in-Loop.body c.in-Loop.field-3 c.in-Loop.field-4)
-    ∙ ap (λ b. each_row c.in-Loop.line (over_row b scene) (loop_currents c.in-Loop.word scene) s) (sym c.items-in-Loop.ensures)
-    ∙ ap (λ w. each_row c.in-Loop.line (over_row c.items-in-Loop.result.now scene) (loop_currents w scene) s) (sym c.as_str-in-Loop.ensures) in
-    if_ok_more c.message_loop.result _ _ (λ ending h. seen ∙ h) c.message_loop.ensures
+    loop_comes c.message_loop.result c.args.statement.now c.in-Loop.line c.in-Loop.word c.as_str-in-Loop.result.now
+    c.in-Loop.body c.items-in-Loop.result.now c.in-Loop.field-3 c.in-Loop.field-4
+    (scene_seen c.args.scene.now c.args.open_loops.now) (progress_seen c.args.s.now) (progress_seen c.message_loop.new.s)
+    c.in-Loop.is c.items-in-Loop.ensures c.as_str-in-Loop.ensures c.message_loop.ensures
 
 pub statement-returns-in-Some : goal.statement-returns-in-Some
 statement-returns-in-Some t c =
-    let scene : Scene = scene_seen c.args.scene.now c.args.open_loops.now in
-    let s : Progress = progress_seen c.args.s.now in
-    let otherwise : Progress → End = as_scope (meanings (statements c.in-If.otherwise) scene) in
-    let seen =
-    ap (λ x. meaning (statement x) scene s) c.in-If.is
-    ∙ ap (λ x. meaning x scene s) (statement-If c.in-If.arms c.in-If.otherwise)
-    ∙ ap (λ l. first_arm (arms l) otherwise scene s) (sym c.items-in-If.ensures)
-    ∙ c.in_ok-ending-in-If.ensures otherwise in
-    seen ∙ ap (λ o. after o otherwise (progress_seen c.branch-items.new.s)) c.in-Some.is
+    arm_comes c.args.statement.now c.in-If.arms c.items-in-If.result.now c.in-If.otherwise
+    (scene_seen c.args.scene.now c.args.open_loops.now) (progress_seen c.args.s.now) (progress_seen c.branch-items.new.s)
+    c.in_ok-ending-in-If.field-0 c.in-Some.ending
+    c.in-If.is c.items-in-If.ensures c.in_ok-ending-in-If.ensures c.in-Some.is
 
 pub statement-returns-in-None : goal.statement-returns-in-None
 statement-returns-in-None t c =
-    let scene : Scene = scene_seen c.args.scene.now c.args.open_loops.now in
-    let s : Progress = progress_seen c.args.s.now in
-    let otherwise : Progress → End = as_scope (meanings (statements c.in-If.otherwise) scene) in
-    let seen =
-    ap (λ x. meaning (statement x) scene s) c.in-If.is
-    ∙ ap (λ x. meaning x scene s) (statement-If c.in-If.arms c.in-If.otherwise)
-    ∙ ap (λ l. first_arm (arms l) otherwise scene s) (sym c.items-in-If.ensures)
-    ∙ c.in_ok-ending-in-If.ensures otherwise in
-    if_ok_more c.block-in-None.result _ _ (λ ending h.
-    seen ∙ ap (λ o. after o otherwise (progress_seen c.branch-items.new.s)) c.in-None.is
-    ∙ ap (λ b. as_scope (meanings (statements b) scene) (progress_seen c.branch-items.new.s)) (sym c.items-in-None.ensures) ∙ h)
-    c.block-in-None.ensures
+    else_comes c.block-in-None.result c.args.statement.now c.in-If.arms c.items-in-If.result.now
+    c.in-If.otherwise c.items-in-None.result.now
+    (scene_seen c.args.scene.now c.args.open_loops.now) (progress_seen c.args.s.now) (progress_seen c.branch-items.new.s) (progress_seen c.block-in-None.new.s)
+    c.in_ok-ending-in-If.field-0
+    c.in-If.is c.items-in-If.ensures c.in_ok-ending-in-If.ensures c.in-None.is c.items-in-None.ensures c.block-in-None.ensures
 
 pub statement-returns-in-For : goal.statement-returns-in-For
 statement-returns-in-For t c =
-    let scene : Scene = scene_seen c.args.scene.now c.args.open_loops.now in
-    let s : Progress = progress_seen c.args.s.now in
-    let head = c.get.result.now in
-    let seen =
-    ap (λ x. meaning (statement x) scene s) c.in-For.is
-    ∙ ap (λ x. meaning x scene s) (statement-For c.in-For.line c.in-For.head c.in-For.body)
-    ∙ ap (λ h. as_scope (begun c.in-For.line h.first (option_map expression h.test) (option_map assigned h.step) c.in-For.body scene) s)
-    (sym c.get.ensures)
-    ∙ ap (λ b. as_scope (begun c.in-For.line head.first (option_map expression head.test) (option_map assigned head.step) b scene) s)
-    (sym c.items-in-For.ensures) in
-    if_ok_more c.for_loop.result _ _ (λ ending h. seen ∙ h) c.for_loop.ensures
+    for_comes c.for_loop.result c.args.statement.now c.in-For.line c.in-For.head c.get.result.now c.in-For.body c.items-in-For.result.now
+    (scene_seen c.args.scene.now c.args.open_loops.now) (progress_seen c.args.s.now) (progress_seen c.for_loop.new.s)
+    c.in-For.is c.get.ensures c.items-in-For.ensures c.for_loop.ensures
 
 pub for_loop-returns-in_ok-ending-in-WentOn : goal.for_loop-returns-in_ok-ending-in-WentOn
 for_loop-returns-in_ok-ending-in-WentOn t c =
-    let scene : Scene = scene_seen c.args.scene.now c.args.open_loops.now in
-    let s : Progress = progress_seen c.args.s.now in
-    let head = c.args.head.now in
-    let body = c.args.body.now in
-    let test = option_map (λ e. expression e.now) c.as_ref-test.result in
-    let step = option_map assigned head.step in
-    let test_is = copied_test c.as_ref-test.result ∙ ap (option_map expression) c.as_ref-test.ensures.value in
-    ap (λ f. as_scope (begun c.args.line f (option_map expression head.test) step body scene) s) (sym c.items.ensures)
-    ∙ ap (λ e. as_scope (begun c.args.line c.items.result.now e step body scene) s) (sym test_is)
-    ∙ scope_end (begun c.args.line c.items.result.now test step body scene) s _ _ c.in_ok-ending-in-WentOn.ending _
+    for_looped c.args.line c.args.head.now c.items.result.now c.as_ref-test.result c.args.body.now
+    (scene_seen c.args.scene.now c.args.open_loops.now) (progress_seen c.args.s.now)
+    (progress_seen c.statements.new.s) (progress_seen c.turns.new.s) (progress_seen c.leave.new.s)
+    c.in_ok-ending.ending c.in_ok-ending-in-WentOn.ending (length c.as_slice-depth.result.now)
+    c.items.ensures c.as_ref-test.ensures.value
     (ap length c.as_slice-depth.ensures.value ∙ sym (length-visible c.args.s.now.locals.items))
-    (ap (λ e. on_to e (whole c.args.line (test_value test scene) (statements body) step scene))
-    (c.in_ok-ending.ensures ∙ ap (λ e. end_of e (progress_seen c.statements.new.s)) c.in-WentOn.is)
-    ∙ c.in_ok-ending-in-WentOn.ensures)
-    c.leave.ensures
+    c.in_ok-ending.ensures c.in-WentOn.is c.in_ok-ending-in-WentOn.ensures c.leave.ensures
 
 pub for_loop-returns-in_default : goal.for_loop-returns-in_default
 for_loop-returns-in_default t c =
-    let scene : Scene = scene_seen c.args.scene.now c.args.open_loops.now in
-    let s : Progress = progress_seen c.args.s.now in
-    let head = c.args.head.now in
-    let test = option_map expression head.test in
-    let step = option_map assigned head.step in
-    let next : Progress → End = whole c.args.line (test_value test scene) (statements c.args.body.now) step scene in
-    ap (λ f. as_scope (begun c.args.line f test step c.args.body.now scene) s) (sym c.items.ensures)
-    ∙ scope_end (begun c.args.line c.items.result.now test step c.args.body.now scene) s _ _ c.in_ok-ending.ending _
+    for_stopped c.args.line c.args.head.now c.items.result.now c.args.body.now
+    (scene_seen c.args.scene.now c.args.open_loops.now) (progress_seen c.args.s.now)
+    (progress_seen c.statements.new.s) (progress_seen c.leave-in_default.new.s) c.in_ok-ending.ending (length c.as_slice-depth.result.now)
+    c.items.ensures
     (ap length c.as_slice-depth.ensures.value ∙ sym (length-visible c.args.s.now.locals.items))
-    (ap (λ e. on_to e next) c.in_ok-ending.ensures
-    ∙ stopped c.in_ok-ending.ending (progress_seen c.statements.new.s) next c.in_default.not-WentOn)
-    c.leave-in_default.ensures
+    c.in_ok-ending.ensures c.in_default.not-WentOn c.leave-in_default.ensures
 
 pub turns-returns-then-value-eq0 : goal.turns-returns-then-value-eq0
 turns-returns-then-value-eq0 t c =
     let fits : SFits w32 c.in-Ok.value = search rules in
-    let scene : Scene = scene_seen c.args.scene.now c.args.open_loops.now in
-    c.turns.invariant
-    ∙ test_ends c.args.line (test_value (option_map (λ e. expression e.now) c.args.test) scene) (statements c.args.body.now) (option_map assigned c.args.after.now) scene
-    (progress_seen c.turns.s) c.in-Ok.value (scene_falls c.args.scene.now c.args.open_loops.now) (sym c.in-Ok.ensures) (zero_fails c.in-Ok.value fits c.if-value-eq0.true)
+    loop_ends c.args.line (test_value (option_map (λ e. expression e.now) c.args.test) (scene_seen c.args.scene.now c.args.open_loops.now))
+    (statements c.args.body.now) (option_map assigned c.args.after.now) (scene_seen c.args.scene.now c.args.open_loops.now)
+    (scene_falls c.args.scene.now c.args.open_loops.now) (progress_seen c.args.s.now) (progress_seen c.turns.s) c.turns.invariant
+    c.in-Ok.value fits c.in-Ok.ensures c.if-value-eq0.true
 
 pub turns-returns-in-Err : goal.turns-returns-in-Err
 turns-returns-in-Err t c =
-    let scene : Scene = scene_seen c.args.scene.now c.args.open_loops.now in
-    c.turns.invariant
-    ∙ test_faults c.args.line (test_value (option_map (λ e. expression e.now) c.args.test) scene) (statements c.args.body.now) (option_map assigned c.args.after.now) scene
-    (progress_seen c.turns.s) c.in-Err.fault (scene_falls c.args.scene.now c.args.open_loops.now) (sym c.in-Err.ensures)
+    loop_faults c.args.line (test_value (option_map (λ e. expression e.now) c.args.test) (scene_seen c.args.scene.now c.args.open_loops.now))
+    (statements c.args.body.now) (option_map assigned c.args.after.now) (scene_seen c.args.scene.now c.args.open_loops.now)
+    (scene_falls c.args.scene.now c.args.open_loops.now) (progress_seen c.args.s.now) (progress_seen c.turns.s) c.turns.invariant
+    c.in-Err.fault c.in-Err.ensures
 
 pub turns-returns-in-Some : goal.turns-returns-in-Some
 turns-returns-in-Some t c =
     let fits : SFits w32 c.in-Ok.value = search rules in
-    let scene : Scene = scene_seen c.args.scene.now c.args.open_loops.now in
-    let next : Progress → End = stepped c.args.line (test_value (option_map (λ e. expression e.now) c.args.test) scene) (statements c.args.body.now) (option_map assigned c.args.after.now) scene in
-    c.turns.invariant
-    ∙ test_holds c.args.line (test_value (option_map (λ e. expression e.now) c.args.test) scene) (statements c.args.body.now) (option_map assigned c.args.after.now) scene
-    (progress_seen c.turns.s) c.in-Ok.value (scene_falls c.args.scene.now c.args.open_loops.now) (sym c.in-Ok.ensures) (nonzero_holds c.in-Ok.value fits c.if-value-eq0.false)
-    ∙ c.in_ok-ending.ensures.means next
-    ∙ ap (λ o. after o next (progress_seen c.turn.new.s)) c.in-Some.is
+    turn_ends c.args.line (test_value (option_map (λ e. expression e.now) c.args.test) (scene_seen c.args.scene.now c.args.open_loops.now))
+    (statements c.args.body.now) (option_map assigned c.args.after.now) (scene_seen c.args.scene.now c.args.open_loops.now)
+    (scene_falls c.args.scene.now c.args.open_loops.now) (progress_seen c.args.s.now) (progress_seen c.turns.s) c.turns.invariant
+    c.in-Ok.value (progress_seen c.turn.new.s) c.in_ok-ending.field-0 c.in-Some.ending
+    fits c.in-Ok.ensures c.if-value-eq0.false c.in_ok-ending.ensures.means c.in-Some.is
 
 pub turns-turns-preserved : goal.turns-turns-preserved
 turns-turns-preserved t c =
     let fits : SFits w32 c.in-Ok.value = search rules in
-    let scene : Scene = scene_seen c.args.scene.now c.args.open_loops.now in
-    let next : Progress → End = stepped c.args.line (test_value (option_map (λ e. expression e.now) c.args.test) scene) (statements c.args.body.now) (option_map assigned c.args.after.now) scene in
-    c.turns.invariant
-    ∙ test_holds c.args.line (test_value (option_map (λ e. expression e.now) c.args.test) scene) (statements c.args.body.now) (option_map assigned c.args.after.now) scene
-    (progress_seen c.turns.s) c.in-Ok.value (scene_falls c.args.scene.now c.args.open_loops.now) (sym c.in-Ok.ensures) (nonzero_holds c.in-Ok.value fits c.if-value-eq0.false)
-    ∙ c.in_ok-ending.ensures.means next
-    ∙ ap (λ o. after o next (progress_seen c.turn.new.s)) c.in-None.is
-    ∙ ap (λ e. on_to e (whole c.args.line (test_value (option_map (λ e. expression e.now) c.args.test) scene) (statements c.args.body.now) (option_map assigned c.args.after.now) scene)) (c.in_ok-ending-2.ensures ∙ ap (λ e. end_of e (progress_seen c.step.new.s)) c.in-WentOn.is)
+    loop_goes_on c.args.line (test_value (option_map (λ e. expression e.now) c.args.test) (scene_seen c.args.scene.now c.args.open_loops.now))
+    (statements c.args.body.now) (option_map assigned c.args.after.now) (scene_seen c.args.scene.now c.args.open_loops.now)
+    (scene_falls c.args.scene.now c.args.open_loops.now) (progress_seen c.args.s.now) (progress_seen c.turns.s) c.turns.invariant
+    c.in-Ok.value (progress_seen c.turn.new.s) (progress_seen c.step.new.s) c.in_ok-ending.field-0 c.in_ok-ending-2.ending
+    fits c.in-Ok.ensures c.if-value-eq0.false c.in_ok-ending.ensures.means c.in-None.is
+    c.in_ok-ending-2.ensures c.in-WentOn.is
 
 pub assign-name_set-requires : goal.assign-name_set-requires
 assign-name_set-requires t c = search (rules, the_lemmas)
