@@ -1,17 +1,14 @@
-use Rattle.flame_spec.specs.declared.trees.Stmt.{the_lemmas}
 use mir.Syntax.{w32}
 use mir.Val.{SFits, to_z, of_z}
 use Rattle.std.proofs.lemmas.Int.{to_z-of_z}
 use Rattle.std.proofs.lemmas.Grind.{common_steps}
-use Rattle.std.proofs.Common.{rules, ◌∙◌, ap, refl, sym, subst, length, map, Some, None, option_map, arith, ◌+◌, ◌-◌, ◌<◌, ◌≤◌, List, Option, drop}
+use Rattle.std.proofs.Common.{rules, ◌∙◌, ap, refl, sym, subst, length, map, option_map, arith, ◌+◌, ◌-◌, ◌<◌, ◌≤◌, List, Option, drop}
 use Rattle.std.specs.Prelude.{ℤ, IfSome, IfNone}
 use Rattle.flame_ops.specs.Integers.{applied}
-use Rattle.flame_spec.specs.declared.trees.Stmt.{Stmt}
+use Rattle.flame_spec.specs.declared.trees.Stmt.{Stmt, the_lemmas}
 use Rattle.flame_spec.specs.Conditions.{number_at}
-use Rattle.flame_spec.specs.Trees as T
-use Rattle.flame_spec.specs.Seen.{expression, indexed, assigned, statement, statements, arms}
+use Rattle.flame_spec.specs.Seen.{expression, indexed, assigned, statements}
 use Rattle.flame_spec.specs.Definitions.{helpers}
-use Rattle.flame_spec.proofs.SeenForms.{statement-While, statement-Do, statement-Loop, statement-If, statement-For}
 use Rattle.flame_sense.specs.declared.deed.Deed as code
 use Rattle.flame_sense.specs.declared.ending.Ending.{Ending}
 use Rattle.flame_sense.specs.declared.scene.Open.TheVariants.{Nothing}
@@ -19,20 +16,19 @@ use Rattle.flame_sense.specs.Acts.{IsNoDeeper}
 use Rattle.flame_sense.specs.Depths.{depth, deepest}
 use Rattle.flame_meaning.specs.Scenes.{Progress, Scene, named, array_named, element_column}
 use Rattle.flame_meaning.specs.Expressions.{at_line, value_of}
-use Rattle.flame_meaning.specs.Ends.{End, went_on, with_value, on_to, as_scope}
-use Rattle.flame_meaning.specs.Loops.{each_row, after_turn}
-use Rattle.flame_meaning.specs.Statements.{set_column, set_name, test_value, loop_currents, meaning, meanings, first_arm}
+use Rattle.flame_meaning.specs.Ends.{End, went_on, with_value, as_scope}
+use Rattle.flame_meaning.specs.Loops.{each_row}
+use Rattle.flame_meaning.specs.Statements.{set_column, set_name, test_value, meanings}
 use Rattle.flame_meaning.specs.HelperCalls.{gives, entered, helper_scene, calls_within}
-use Rattle.flame_sense.specs.StandsFor.{within_reach, definition_seen, scene_seen, progress_seen, end_of, after}
+use Rattle.flame_sense.specs.StandsFor.{within_reach, definition_seen, scene_seen, progress_seen, after}
 use Rattle.flame_sense.proofs.Assignments.{changing, element_changes}
 use Rattle.flame_sense.proofs.Calls.{opened}
 use Rattle.flame_sense.proofs.Givens.{named_anywhere}
 use Rattle.flame_sense.proofs.Levels.{body_below}
 use Rattle.flame_sense.proofs.Locals.{length-visible}
 use Rattle.flame_sense.proofs.Turning.{stands_at}
-use Rattle.flame_meaning.proofs.Turns.{whole, stepped, paid, test_faults, test_ends, test_holds}
 use Rattle.flame_sense.proofs.Forms.{while_comes, do_comes, loop_comes, arm_comes, else_comes, for_comes, for_looped, for_stopped, do_loops, do_ends, turn_means, unit_less, still_less, loop_faults, loop_ends, turn_ends, step_ends, loop_goes_on}
-use Rattle.flame_sense.proofs.Runs.{if_ok_more, if_none_more, scope_end, stopped, block_falls, step_left, nonzero_holds, zero_fails, begun, copied_test, over_row, row_turn, scene_falls}
+use Rattle.flame_sense.proofs.Runs.{if_none_more, block_falls, step_left, over_row, row_turn, scene_falls}
 use Rattle.flame_sense.proofs.statement.+run.Goals as goal
 
 pub call-statements-requires : goal.call-statements-requires
