@@ -1,7 +1,7 @@
 -- What each form of a statement comes to, once its parts have run as the program runs them.
 use mir.Syntax.{w32}
 use mir.Val.{SFits, of_z}
-use Rattle.std.proofs.Common.{◌≡◌, ◌≢◌, ℕ, ◌-◌, ◌<◌, ◌≤◌, List, length, sym, ap, ◌∙◌, Option, Some, None, option_map, Bor, arith}
+use Rattle.std.proofs.Common.{◌≡◌, ◌≢◌, ℕ, ◌+◌, ◌-◌, ◌<◌, ◌≤◌, List, length, map, drop, get_or, sym, ap, ◌∙◌, Option, Some, None, option_map, Bor, arith}
 use Rattle.std.specs.Prelude.{ℤ, Result, Ok, Err, IfOk}
 use Rattle.std.specs.Option.{option_copied}
 use Rattle.flame_spec.specs.declared.faults.Fault.{Fault}
@@ -14,13 +14,17 @@ use Rattle.flame_spec.specs.Seen.{expression, assigned, statement, statements, a
 use Rattle.flame_spec.proofs.SeenForms.{statement-While, statement-Do, statement-Loop, statement-If, statement-For}
 use Rattle.flame_sense.specs.declared.ending.Ending.{Ending}
 use Rattle.flame_sense.specs.declared.ending.Ending.TheVariants.{WentOn}
-use Rattle.flame_meaning.specs.Scenes.{Scene, Progress}
+use Rattle.flame_meaning.specs.Scenes.{Scene, Progress, Current}
 use Rattle.flame_meaning.specs.Ends.{End, went_on, faulted, on_to, outside, as_scope}
 use Rattle.flame_meaning.specs.Loops.{turn, each_row, after_turn}
 use Rattle.flame_meaning.specs.Statements.{test_value, step_of, loop_currents, meaning, meanings, first_arm}
 use Rattle.flame_meaning.proofs.Turns.{Fall, whole, stepped, paid, test_faults, test_ends, test_holds}
-use Rattle.flame_sense.specs.StandsFor.{end_of, after}
-use Rattle.flame_sense.proofs.Runs.{begun, copied_test, nonzero_holds, over_row, scope_end, stopped, zero_fails}
+use Rattle.flame_sense.specs.declared.scene.Scene as code
+use Rattle.flame_sense.specs.declared.scene.Open.{Open}
+use Rattle.flame_sense.specs.declared.scene.Open.TheVariants.{Over}
+use Rattle.flame_sense.specs.StandsFor.{scene_seen, end_of, after}
+use Rattle.flame_sense.proofs.Turning.{stands_at}
+use Rattle.flame_sense.proofs.Runs.{begun, copied_test, nonzero_holds, over_row, row_turn, scope_end, stopped, zero_fails}
 
 -- an end that another one is
 pub begins :
@@ -307,3 +311,37 @@ module _
   loop_goes_on v u w o e fits is nonzero means none steps goes =
       turn_steps v u w o e fits is nonzero means none steps
       ∙ ap (λ x. on_to (end_of x w) (whole line test body step scene)) goes
+
+-- ---- message loops
+
+module _
+    (line : ℕ) (body : List Stmt) (scene : code.Scene) (message : ℕ) (rows : List (Bor (List ℤ))) (i : ℕ)
+    (row : Bor (List ℤ)) (outer : Bor Open) (all : List Current) (s t u : Progress) (o : Option Ending)
+    (so_far :
+    each_row line (over_row body (scene_seen scene outer.now)) all s
+    ≡ each_row line (over_row body (scene_seen scene outer.now)) (map (stands_at message) (drop i rows)) t)
+    (within : i < length rows) (there : row ≡ get_or rows i row)
+    (means :
+    (next : Progress → End)
+    → turn line (as_scope (meanings (statements body) (scene_seen scene (Over message row outer)))) next t
+    ≡ after o next u) where
+  row_run :
+      each_row line (over_row body (scene_seen scene outer.now)) all s
+      ≡ after o (each_row line (over_row body (scene_seen scene outer.now)) (map (stands_at message) (drop (i + 1) rows))) u
+  row_run = so_far ∙ row_turn line body scene message rows i row outer t o u within there means
+
+  pub rows_go_on :
+      o ≡ None
+      → each_row line (over_row body (scene_seen scene outer.now)) all s
+      ≡ each_row line (over_row body (scene_seen scene outer.now)) (map (stands_at message) (drop (i + 1) rows)) u
+  rows_go_on none =
+      row_run
+      ∙ ap (λ p. after p (each_row line (over_row body (scene_seen scene outer.now)) (map (stands_at message) (drop (i + 1) rows))) u) none
+
+  pub row_ends :
+      (ending : Ending)
+      → o ≡ Some ending
+      → each_row line (over_row body (scene_seen scene outer.now)) all s ≡ end_of ending u
+  row_ends ending some =
+      row_run
+      ∙ ap (λ p. after p (each_row line (over_row body (scene_seen scene outer.now)) (map (stands_at message) (drop (i + 1) rows))) u) some

@@ -2,9 +2,8 @@ use mir.Syntax.{w32}
 use mir.Val.{SFits, to_z, of_z}
 use Rattle.std.proofs.lemmas.Int.{to_z-of_z}
 use Rattle.std.proofs.lemmas.Grind.{common_steps}
-use Rattle.std.proofs.Common.{rules, ◌∙◌, ap, refl, sym, subst, length, map, option_map, arith, ◌+◌, ◌-◌, ◌<◌, ◌≤◌, List, Option, drop}
-use Rattle.std.specs.Prelude.{ℤ, IfSome, IfNone}
-use Rattle.flame_ops.specs.Integers.{applied}
+use Rattle.std.proofs.Common.{rules, ◌∙◌, ap, refl, sym, subst, length, option_map, arith, ◌-◌, ◌<◌, ◌≤◌, List, Option}
+use Rattle.std.specs.Prelude.{IfSome, IfNone}
 use Rattle.flame_spec.specs.declared.trees.Stmt.{Stmt, the_lemmas}
 use Rattle.flame_spec.specs.Conditions.{number_at}
 use Rattle.flame_spec.specs.Seen.{expression, indexed, assigned, statements}
@@ -14,21 +13,18 @@ use Rattle.flame_sense.specs.declared.ending.Ending.{Ending}
 use Rattle.flame_sense.specs.declared.scene.Open.TheVariants.{Nothing}
 use Rattle.flame_sense.specs.Acts.{IsNoDeeper}
 use Rattle.flame_sense.specs.Depths.{depth, deepest}
-use Rattle.flame_meaning.specs.Scenes.{Progress, Scene, named, array_named, element_column}
-use Rattle.flame_meaning.specs.Expressions.{at_line, value_of}
-use Rattle.flame_meaning.specs.Ends.{End, went_on, with_value, as_scope}
-use Rattle.flame_meaning.specs.Loops.{each_row}
-use Rattle.flame_meaning.specs.Statements.{set_column, set_name, test_value, meanings}
-use Rattle.flame_meaning.specs.HelperCalls.{gives, entered, helper_scene, calls_within}
-use Rattle.flame_sense.specs.StandsFor.{within_reach, definition_seen, scene_seen, progress_seen, after}
-use Rattle.flame_sense.proofs.Assignments.{changing, element_changes}
-use Rattle.flame_sense.proofs.Calls.{opened}
-use Rattle.flame_sense.proofs.Givens.{named_anywhere}
+use Rattle.flame_meaning.specs.Scenes.{Progress, Scene, array_named, element_column}
+use Rattle.flame_meaning.specs.Expressions.{value_of}
+use Rattle.flame_meaning.specs.Ends.{as_scope}
+use Rattle.flame_meaning.specs.Statements.{loop_currents, test_value, meanings}
+use Rattle.flame_meaning.specs.HelperCalls.{entered}
+use Rattle.flame_sense.specs.StandsFor.{within_reach, definition_seen, scene_seen, progress_seen, end_of, gave_seen}
+use Rattle.flame_sense.proofs.Assignments.{element_changed_so, name_changed_so}
+use Rattle.flame_sense.proofs.Calls.{answered}
 use Rattle.flame_sense.proofs.Levels.{body_below}
 use Rattle.flame_sense.proofs.Locals.{length-visible}
-use Rattle.flame_sense.proofs.Turning.{stands_at}
-use Rattle.flame_sense.proofs.Forms.{while_comes, do_comes, loop_comes, arm_comes, else_comes, for_comes, for_looped, for_stopped, do_loops, do_ends, turn_means, unit_less, still_less, loop_faults, loop_ends, turn_ends, step_ends, loop_goes_on}
-use Rattle.flame_sense.proofs.Runs.{if_none_more, block_falls, step_left, over_row, row_turn, scene_falls}
+use Rattle.flame_sense.proofs.Forms.{while_comes, do_comes, loop_comes, arm_comes, else_comes, for_comes, for_looped, for_stopped, do_loops, do_ends, turn_means, unit_less, still_less, loop_faults, loop_ends, turn_ends, step_ends, loop_goes_on, rows_go_on, row_ends}
+use Rattle.flame_sense.proofs.Runs.{if_none_more, block_falls, step_left, scene_falls}
 use Rattle.flame_sense.proofs.statement.+run.Goals as goal
 
 pub call-statements-requires : goal.call-statements-requires
@@ -43,22 +39,15 @@ call-statements-requires t c =
 pub call-returns : goal.call-returns
 call-returns t c =
     let model = c.args.scene.now.model.now in
-    let defs = helpers model c.args.scene.now.units.now in
-    let constants = c.args.scene.now.constants.now in
-    let iteration = c.args.scene.now.iteration in
-    let inner : Scene = helper_scene model defs constants iteration
-    (calls_within (c.args.scene.now.left - 1) model defs constants iteration) in
-    let begun = sym (c.in_ok-s.ensures
+    answered c.args.scene.now.left model (helpers model c.args.scene.now.units.now) c.args.scene.now.constants.now c.args.scene.now.iteration
+    c.args.line (definition_seen c.args.helper) c.args.values.now c.args.fuel
+    (statements c.items-2.result.now) (scene_seen c.in_helper-inner.result Nothing) (progress_seen c.in_ok-s.s)
+    (end_of c.in_ok-ending.ending (progress_seen c.statements.new.s)) (gave_seen c.given.result)
+    c.if-scene-eq0.false c.if-fuel-eq0.false (ap statements c.items-2.ensures) c.in_helper-inner.ensures.scene
+    (c.in_ok-s.ensures
     ∙ ap (λ ps. entered ps c.values.result.now (c.args.fuel - 1)) c.items.ensures
-    ∙ ap (λ vs. entered c.args.helper.def.now.parameters vs (c.args.fuel - 1)) c.values.ensures) in
-    opened c.args.scene.now.left model defs constants iteration
-    c.args.line (definition_seen c.args.helper) c.args.values.now c.args.fuel c.if-scene-eq0.false c.if-fuel-eq0.false
-    ∙ ap (λ b. gives (meanings (statements b) inner (entered c.args.helper.def.now.parameters c.args.values.now (c.args.fuel - 1)))) (sym c.items-2.ensures)
-    ∙ ap (λ u. gives (meanings (statements c.items-2.result.now) u (entered c.args.helper.def.now.parameters c.args.values.now (c.args.fuel - 1))))
-    (sym c.in_helper-inner.ensures.scene)
-    ∙ ap (λ u. gives (meanings (statements c.items-2.result.now) (scene_seen c.in_helper-inner.result Nothing) u)) begun
-    ∙ ap gives c.in_ok-ending.ensures
-    ∙ sym (c.given.ensures _ refl)
+    ∙ ap (λ vs. entered c.args.helper.def.now.parameters vs (c.args.fuel - 1)) c.values.ensures)
+    c.in_ok-ending.ensures (c.given.ensures (progress_seen c.statements.new.s) refl)
 
 pub done-call-requires : goal.done-call-requires
 done-call-requires t c =
@@ -70,21 +59,12 @@ pub name_changed-returns-in-Ok : goal.name_changed-returns-in-Ok
 name_changed-returns-in-Ok t c =
     let left : SFits w32 c.named-left.result = search rules in
     let right : SFits w32 c.in-Ok.right = search rules in
-    let scene : Scene = scene_seen c.args.scene.now c.args.open_loops.now in
-    let s : Progress = progress_seen c.args.s.now in
-    let u : Progress = progress_seen c.stored_value.new.s in
-    let a = assigned c.args.a.now in
-    let op = c.args.op in
-    let go : ℤ → Progress → End = λ v t. with_value (at_line a.op_line (applied op (named a.name scene s) v)) (λ w. went_on (set_name a.name w scene t)) in
-    c.in_ok-right.ensures go
-    ∙ ap (λ r. with_value r (λ v. go v u)) c.in-Ok.is
-    ∙ ap (λ n. with_value (at_line a.op_line (applied op (named n scene s) c.in-Ok.right)) (λ w. went_on (set_name n w scene u))) (sym c.as_str-name.ensures)
-    ∙ ap (λ x. with_value (at_line a.op_line (applied op x c.in-Ok.right)) (λ w. went_on (set_name c.as_str-name.result.now w scene u)))
-    (sym (to_z-of_z w32 c.named-left.result left ∙ c.named-left.ensures
-    ∙ named_anywhere c.as_str-name.result.now c.args.scene.now Nothing c.args.open_loops.now s))
-    ∙ ap (λ y. with_value (at_line a.op_line (applied op (to_z w32 (of_z w32 c.named-left.result)) y)) (λ w. went_on (set_name c.as_str-name.result.now w scene u)))
-    (sym (to_z-of_z w32 c.in-Ok.right right))
-    ∙ c.change_name.ensures
+    name_changed_so c.args.op (assigned c.args.a.now) c.args.scene.now c.args.open_loops.now (progress_seen c.args.s.now)
+    (progress_seen c.stored_value.new.s) c.in_ok-right.field-0 c.as_str-name.result.now c.named-left.result c.in-Ok.right
+    (to_z w32 (of_z w32 c.named-left.result)) (to_z w32 (of_z w32 c.in-Ok.right))
+    (end_of c.change_name.result (progress_seen c.change_name.new.s))
+    c.in_ok-right.ensures c.in-Ok.is c.as_str-name.ensures c.named-left.ensures
+    (to_z-of_z w32 c.named-left.result left) (to_z-of_z w32 c.in-Ok.right right) c.change_name.ensures
 
 pub element_changed-returns-in-Ok-2 : goal.element_changed-returns-in-Ok-2
 element_changed-returns-in-Ok-2 t c =
@@ -93,22 +73,18 @@ element_changed-returns-in-Ok-2 t c =
     let right : SFits w32 c.in-Ok-2.right = search rules in
     let scene : Scene = scene_seen c.args.scene.now c.args.open_loops.now in
     let s : Progress = progress_seen c.args.s.now in
-    let u : Progress = progress_seen c.stored_value.new.s in
     let a = assigned c.args.a.now in
-    let op = c.args.op in
     let index = sym c.in-Ok.is ∙ c.value.ensures ∙ ap (λ e. value_of (expression e) scene s) c.get.ensures in
     let there = sym c.in-Some.is ∙ c.element_column.ensures (array_named c.as_str.result.now scene s) c.array_named.ensures
     ∙ ap (λ i. option_map within_reach (element_column (array_named c.as_str.result.now scene s) i)) (to_z-of_z w32 c.in-Ok.index at)
     ∙ ap (λ n. option_map within_reach (element_column (array_named n scene s) c.in-Ok.index)) c.as_str.ensures in
-    element_changes (indexed c.args.place.now) op a scene s c.in-Ok.index c.in-Some.column _ index there
-    (λ column near.
-    c.in_ok-right.ensures (changing op a s column)
-    ∙ ap (λ r. with_value r (λ v. changing op a s column v u)) c.in-Ok-2.is
-    ∙ ap (λ x. with_value (at_line a.op_line (applied op x c.in-Ok-2.right)) (λ w. went_on (set_column column w u)))
-    (sym (to_z-of_z w32 c.number_near-left.result left ∙ c.number_near-left.ensures column near ∙ ap (λ m. number_at m column) c.as_slice.ensures.value))
-    ∙ ap (λ y. with_value (at_line a.op_line (applied op (to_z w32 (of_z w32 c.number_near-left.result)) y)) (λ w. went_on (set_column column w u)))
-    (sym (to_z-of_z w32 c.in-Ok-2.right right))
-    ∙ c.change_column.ensures column near)
+    element_changed_so (indexed c.args.place.now) c.args.op a scene s (progress_seen c.stored_value.new.s)
+    c.in-Ok.index c.in-Some.column c.in_ok-right.field-0 c.number_near-left.result c.in-Ok-2.right
+    (to_z w32 (of_z w32 c.number_near-left.result)) (to_z w32 (of_z w32 c.in-Ok-2.right))
+    (end_of c.change_column.result (progress_seen c.change_column.new.s))
+    index there c.in_ok-right.ensures c.in-Ok-2.is
+    (λ column near. c.number_near-left.ensures column near ∙ ap (λ m. number_at m column) c.as_slice.ensures.value)
+    (to_z-of_z w32 c.number_near-left.result left) (to_z-of_z w32 c.in-Ok-2.right right) c.change_column.ensures
 
 pub turn-returns-clause-means : goal.turn-returns-clause-means
 turn-returns-clause-means t c =
@@ -157,23 +133,17 @@ do_loop-returns-in-Some t c =
 
 pub message_loop-loop-row-preserved : goal.message_loop-loop-row-preserved
 message_loop-loop-row-preserved t c =
-    c.loop-row.invariant
-    ∙ row_turn c.args.line c.args.body.now c.args.scene.now c.in-Some.message c.in-Some.rows.now
-    c.loop-row.row-index c.row-item.result c.args.open_loops (progress_seen c.loop-row.s) _ (progress_seen c.turn.new.s)
-    c.loop-row-test.true c.row-item.is c.in_ok-ending.ensures.means
-    ∙ ap (λ o. after o (each_row c.args.line (over_row c.args.body.now (scene_seen c.args.scene.now c.args.open_loops.now))
-    (map (stands_at c.in-Some.message) (drop (c.loop-row.row-index + 1) c.in-Some.rows.now)))
-    (progress_seen c.turn.new.s)) c.in-None.is
+    rows_go_on c.args.line c.args.body.now c.args.scene.now c.in-Some.message c.in-Some.rows.now c.loop-row.row-index
+    c.row-item.result c.args.open_loops (loop_currents c.args.word.now (scene_seen c.args.scene.now c.args.open_loops.now)) (progress_seen c.args.s.now)
+    (progress_seen c.loop-row.s) (progress_seen c.turn.new.s) c.in_ok-ending.field-0
+    c.loop-row.invariant c.loop-row-test.true c.row-item.is c.in_ok-ending.ensures.means c.in-None.is
 
 pub message_loop-returns-in-Some-2 : goal.message_loop-returns-in-Some-2
 message_loop-returns-in-Some-2 t c =
-    c.loop-row.invariant
-    ∙ row_turn c.args.line c.args.body.now c.args.scene.now c.in-Some.message c.in-Some.rows.now
-    c.loop-row.row-index c.row-item.result c.args.open_loops (progress_seen c.loop-row.s) _ (progress_seen c.turn.new.s)
-    c.loop-row-test.true c.row-item.is c.in_ok-ending.ensures.means
-    ∙ ap (λ o. after o (each_row c.args.line (over_row c.args.body.now (scene_seen c.args.scene.now c.args.open_loops.now))
-    (map (stands_at c.in-Some.message) (drop (c.loop-row.row-index + 1) c.in-Some.rows.now)))
-    (progress_seen c.turn.new.s)) c.in-Some-2.is
+    row_ends c.args.line c.args.body.now c.args.scene.now c.in-Some.message c.in-Some.rows.now c.loop-row.row-index
+    c.row-item.result c.args.open_loops (loop_currents c.args.word.now (scene_seen c.args.scene.now c.args.open_loops.now)) (progress_seen c.args.s.now)
+    (progress_seen c.loop-row.s) (progress_seen c.turn.new.s) c.in_ok-ending.field-0
+    c.loop-row.invariant c.loop-row-test.true c.row-item.is c.in_ok-ending.ensures.means c.in-Some-2.ending c.in-Some-2.is
 
 pub statement-returns-in-While : goal.statement-returns-in-While
 statement-returns-in-While t c =
