@@ -14,3 +14,4 @@ pub mod Rows
 pub mod Searches
 pub mod Signs
 pub mod Entries
+pub mod Forms

@@ -3,7 +3,7 @@ use mir.Syntax.{w32}
 use mir.Val.{SFits, to_z, of_z}
 use Rattle.std.proofs.lemmas.Int.{to_z-of_z}
 use Rattle.std.proofs.Common.{◌≡◌, ◌≢◌, ℕ, ◌+◌, ◌<◌, ◌≤◌, List, ◌∷◌, length, drop, get_or, refl, sym, ap, ◌∙◌, subst, Bool, true, false, Option, Some, None, option_map, rules, Bor, ◌⊎◌, inl, inr}
-use Rattle.std.specs.Prelude.{ℤ, pos, Result, Ok, Err, IfOk, IfNone, map, not}
+use Rattle.std.specs.Prelude.{ℤ, pos, IfNone, map, not}
 use Rattle.std.specs.Ordering.{int_eq}
 use Rattle.std.specs.Option.{option_copied}
 use Rattle.std.proofs.lemmas.Bool.Decides.{Decides-int_eq}
@@ -26,10 +26,6 @@ use Rattle.flame_meaning.specs.Kept.{Leaves}
 use Rattle.flame_sense.specs.StandsFor.{currents, scene_seen, end_of, after}
 use Rattle.flame_meaning.proofs.Turns.{Falls, Fall, body_falls, calls_fall, step_falls, whole}
 use Rattle.flame_sense.proofs.Turning.{stands_at}
-
-pub if_ok_more : {T E : Type 0} (r : Result T E) (P Q : T → Type 0) → ((x : T) → P x → Q x) → IfOk r P → IfOk r Q
-if_ok_more (Ok x) P Q k h = k x h
-if_ok_more (Err e) P Q k h = h
 
 -- ---- scopes
 

@@ -25,7 +25,6 @@ fn number_in(row: &[i32], start: usize, place: usize) -> i32
 }
 
 /// So many numbers of the row, from this column on.
-#[tactic(auto, using(crate::proofs::Rows::numbers_next))]
 fn numbers_from(alloc: Global, start: usize, length: usize, row: &[i32]) -> Result<Row, NoMemory>
     ensures { IfOk result (λ numbers.
         (column : ℕ) → start ≡ within_reach column → numbers ≡ numbers_from length column row.now) }
@@ -113,7 +112,6 @@ fn argument_values(
 }
 
 /// The values of the arguments, from left to right, or the first fault.
-#[tactic(auto, using(crate::proofs::Rows::more_behind, crate::proofs::Rows::none_behind))]
 pub(crate) fn values_of(
     arguments: &[Expr],
     scene: &Scene<'_, '_>,
@@ -145,7 +143,6 @@ fn width(variables: &[Variable]) -> Option<usize>
 }
 
 /// A row of this width: the values in order, made up by 0 or cut off.
-#[tactic(auto, using(crate::proofs::Rows::fitted_next))]
 fn fitted(alloc: Global, wide: usize, values: &[i32]) -> Result<Row, NoMemory>
     ensures { IfOk result (λ row. row ≡ fitted wide values.now) }
 {

@@ -3,7 +3,7 @@
 use flame_spec::Fault;
 
 /// How a statement ended.
-#[derive(Clone, Copy, Debug, PartialEq, Eq)]
+#[derive(Clone, Copy)]
 pub(crate) enum Ending {
     /// It went on behind the statement.
     WentOn,
@@ -18,7 +18,7 @@ pub(crate) enum Ending {
 }
 
 /// How a call of a helper ended.
-#[derive(Clone, Copy, Debug, PartialEq, Eq)]
+#[derive(Clone, Copy)]
 pub(crate) enum Gave {
     /// It gave this value, and left this fuel.
     Value(i32, u32),

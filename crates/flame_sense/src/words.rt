@@ -9,7 +9,7 @@ ghost use Rattle.std.specs.Str.{bytes_eq};
 use flame_spec::Variable;
 
 /// A way in which a word of a function file names something of the model.
-#[derive(Clone, Copy, Debug, PartialEq, Eq)]
+#[derive(Clone, Copy)]
 pub(crate) enum Form {
     /// The name as it is.
     Same,
@@ -28,7 +28,7 @@ pub(crate) enum Form {
 }
 
 /// Where a variable's numbers stand in a row.
-#[derive(Clone, Copy, Debug, PartialEq, Eq)]
+#[derive(Clone, Copy)]
 pub(crate) struct Span {
     /// The column of the first.
     pub(crate) column: usize,

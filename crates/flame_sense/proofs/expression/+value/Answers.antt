@@ -1,5 +1,7 @@
 -- Each call and most ways out, by the laws of the trees where they are needed.
-use Rattle.std.proofs.Common.{rules}
+use Rattle.std.proofs.lemmas.Grind.{common_steps}
+use Rattle.std.proofs.lemmas.Int.{to_z-of_z}
+use Rattle.std.proofs.Common.{rules, arith}
 use Rattle.flame_spec.specs.declared.trees.Expr.{the_lemmas}
 use Rattle.flame_sense.proofs.expression.+value.Goals as goal
 
@@ -266,3 +268,39 @@ value-returns-in-All t c = search (rules, the_lemmas)
 
 pub value-returns-in-Any : goal.value-returns-in-Any
 value-returns-in-Any t c = search (rules, the_lemmas)
+
+pub all_value-returns-in_err-value : goal.all_value-returns-in_err-value
+all_value-returns-in_err-value t c = grind (arith, common_steps)
+
+pub all_value-returns-then-branch-eq0 : goal.all_value-returns-then-branch-eq0
+all_value-returns-then-branch-eq0 t c = grind (arith, common_steps)
+
+pub all_value-loop-part-preserved : goal.all_value-loop-part-preserved
+all_value-loop-part-preserved t c = grind (arith, common_steps)
+
+pub all_value-returns : goal.all_value-returns
+all_value-returns t c = grind (arith, common_steps)
+
+pub any_value-returns-in_err-value : goal.any_value-returns-in_err-value
+any_value-returns-in_err-value t c = grind (arith, common_steps)
+
+pub any_value-returns-then-branch-ne0 : goal.any_value-returns-then-branch-ne0
+any_value-returns-then-branch-ne0 t c = grind (arith, common_steps)
+
+pub any_value-loop-part-preserved : goal.any_value-loop-part-preserved
+any_value-loop-part-preserved t c = grind (arith, common_steps)
+
+pub any_value-returns : goal.any_value-returns
+any_value-returns t c = grind (arith, common_steps)
+
+pub chain_value-returns-in_err-right : goal.chain_value-returns-in_err-right
+chain_value-returns-in_err-right t c = grind (arith, common_steps)
+
+pub chain_value-returns-in_err-value_so_far : goal.chain_value-returns-in_err-value_so_far
+chain_value-returns-in_err-value_so_far t c = grind (arith, common_steps, to_z-of_z)
+
+pub chain_value-loop-link-preserved : goal.chain_value-loop-link-preserved
+chain_value-loop-link-preserved t c = grind (arith, common_steps, to_z-of_z)
+
+pub chain_value-returns : goal.chain_value-returns
+chain_value-returns t c = grind (arith, common_steps)
