@@ -3,7 +3,6 @@ use Rattle.std.proofs.Common.{◌≡◌, ℕ, zero, suc, ◌<◌, List, [], ◌�
 use Rattle.std.specs.Prelude.{ℤ, slice_index_or}
 use Rattle.std.specs.List.{All}
 use Rattle.flame_rows.proofs.Lists.{slice_get-IsSomeAnd}
-use Rattle.flame_spec.specs.declared.outcomes.Born.{Born}
 use Rattle.flame_spec.specs.declared.outcomes.Effect.{Effect}
 use Rattle.flame_spec.specs.declared.outcomes.Outcome.{Outcome}
 use Rattle.flame_spec.specs.declared.outcomes.Outcome.TheVariants.{Ended, Faulted}
@@ -13,7 +12,7 @@ use Rattle.flame_meaning.specs.OutcomeLaws.{HasWidths}
 use Rattle.flame_meaning.specs.Outcomes.{outcome, readings_of}
 use Rattle.flame_meaning.specs.RangeLaws.{Each}
 use Rattle.flame_meaning.proofs.Leavings.{rows_have_widths}
-use Rattle.flame_world.specs.AgentRuns.{born_by, born_from, sent_by, sent_from}
+use Rattle.flame_world.specs.AgentRuns.{sent_by, sent_from}
 use Rattle.flame_world.proofs.Eachs.{all_each, each_flat_map}
 
 pub each_at : {X : Type 0} (P : X → Type 0) (xs : List X) → Each P xs → All P xs
@@ -35,15 +34,6 @@ module _ (source : Source) (function : ℕ) (boards : List (List (List ℤ))) (c
   left : (memory : List ℤ) (effect : Effect) → run memory ≡ Ended effect → HasWidths source.model memory effect
   left memory effect is = rows_have_widths source function memory (readings_of source function memory boards) constants iteration fuel effect is
 
-  born_at : (memory : List ℤ) → Each (λ (b : Born). b.agent < length source.model.agents) (born_by (run memory))
-  born_at memory = go (run memory) (left memory)
-    where
-      go : (o : Outcome) → ((effect : Effect) → o ≡ Ended effect → HasWidths source.model memory effect) → Each (λ (b : Born). b.agent < length source.model.agents) (born_by o)
-      go (Ended effect) has =
-          all_each (λ (b : Born). b.agent < length source.model.agents) effect.born
-          (λ k d less. slice_get-IsSomeAnd _ source.model.agents _ ((has effect refl).born k d less))
-      go (Faulted fault) has = tt
-
   sent_at : (memory : List ℤ) → Each (λ (s : Sent). s.message < length source.model.messages) (sent_by (run memory))
   sent_at memory = go (run memory) (left memory)
     where
@@ -52,12 +42,6 @@ module _ (source : Source) (function : ℕ) (boards : List (List (List ℤ))) (c
           all_each (λ (s : Sent). s.message < length source.model.messages) effect.sent
           (λ k d less. slice_get-IsSomeAnd _ source.model.messages _ ((has effect refl).sent k d less))
       go (Faulted fault) has = tt
-
-  pub born-within : (agents : List (List ℤ)) → All (λ (b : Born). b.agent < length source.model.agents) (born_from run agents)
-  born-within agents =
-      each_at (λ (b : Born). b.agent < length source.model.agents) (born_from run agents)
-      (each_flat_map (λ memory. Unit {0}) (λ (b : Born). b.agent < length source.model.agents) (λ memory. born_by (run memory)) (λ memory _. born_at memory) agents
-      (each_of (λ memory. Unit {0}) (λ memory. tt) agents))
 
   pub sent-within : (agents : List (List ℤ)) → All (λ (s : Sent). s.message < length source.model.messages) (sent_from run agents)
   sent-within agents =

@@ -1,8 +1,7 @@
 -- What a function comes to, put together from what its agents leave.
-use Rattle.std.proofs.Common.{◌≡◌, ℕ, ◌<◌, List, [], length, map, get_or, Option, Some, None, Ok, Err, sym, ap, ◌∙◌, arith, subst, refl}
+use Rattle.std.proofs.Common.{◌≡◌, ℕ, ◌<◌, List, [], length, map, get_or, Option, Some, None, sym, ap, ◌∙◌, arith, subst, refl}
 use Rattle.std.specs.Prelude.{ℤ, ◌==◌, not, option_map, slice_get, slice_index_or}
 use Rattle.std.specs.List.{filter}
-use Rattle.flame_rows.specs.Bags.{ascending, merge}
 use Rattle.flame_spec.specs.declared.models.AgentType.{AgentType}
 use Rattle.flame_spec.specs.declared.models.Model.{Model}
 use Rattle.flame_spec.specs.declared.models.Input.{Input}
@@ -11,10 +10,8 @@ use Rattle.flame_spec.specs.Columns.{width}
 use Rattle.flame_spec.specs.Functions.{Place, functions}
 use Rattle.flame_spec.specs.States.{states, state_place}
 use Rattle.flame_meaning.specs.RangeLaws.{Each}
-use Rattle.flame_world.specs.declared.faults.SimFault.{SimFault}
-use Rattle.flame_world.specs.AgentRuns.{births_of, least_fault, messages_of}
-use Rattle.flame_world.specs.Fields.{Field, changed_pool, joined}
-use Rattle.flame_world.specs.Iterations.{Round, moved, outcome_in, resting, staying, step, step_at, taking, unless_faulted}
+use Rattle.flame_world.specs.Fields.{Field}
+use Rattle.flame_world.specs.Iterations.{Round, resting, taking}
 use Rattle.flame_world.specs.WorldFits.{AreWide, FitMessages, FitsField}
 use Rattle.flame_leaving.specs.declared.leavings.Leaving.{Leaving}
 use Rattle.flame_leaving.specs.Leavings.{AreLeft}
@@ -47,38 +44,6 @@ use Rattle.std.proofs.lemmas.Slice.Eq.{bytes_eq-Decides}
 use Rattle.std.proofs.lemmas.Option.{slice_get_read}
 use Rattle.flame_round.proofs.StatePlaces.{from_place, to_place}
 use Rattle.flame_meaning.proofs.Eachs.{each_filter, each_index}
-
--- ---- the step
-
-module _ (round : Round) (function : ℕ) (place : Place) (field : Field) (at : slice_get (functions round.source.model) function ≡ Some place) where
-  pub step-faults : (fault : SimFault)
-      → least_fault round.iteration function (outcome_in round function field) (taking round function place field) ≡ Some fault
-      → step round function field ≡ Err fault
-  step-faults fault is =
-      ap (λ p. step_at p round function field) at ∙ ap (λ o. unless_faulted o (moved round function place field)) is
-
-  pub step-goes :
-      least_fault round.iteration function (outcome_in round function field) (taking round function place field) ≡ None
-      → step round function field ≡ Ok (moved round function place field)
-  step-goes is =
-      ap (λ p. step_at p round function field) at ∙ ap (λ o. unless_faulted o (moved round function place field)) is
-
-  -- agents, births and messages, where what the takers leave went where it belongs
-  pub settled : (leaving : Leaving) (route : Route) (middle : List (List (List (List ℤ)))) (after : Field)
-      → AreLeft round.iteration function (outcome_in round function field) (taking round function place field) leaving
-      → route.agent ≡ place.agent
-      → route.to ≡ state_place place.type place.function.next
-      → middle ≡ changed_pool place.agent (state_place place.type place.function.current) (staying round function place) field.pools
-      → after.pools ≡ changed_pool route.agent route.to (λ pool. merge pool (ascending leaving.survivors.items)) middle
-      → after.born ≡ joined (births_of leaving.born.items) field.born
-      → after.boards ≡ joined (messages_of leaving.sent.items) field.boards
-      → after ≡ moved round function place field
-  settled leaving route middle after left agent to middle_is pools born boards =
-      λ i. record {
-        pools = (pools ∙ (λ j. changed_pool (agent j) (to j) (λ pool. merge pool (ascending (left.survivors j))) (middle_is j))) i;
-        born = (born ∙ (λ j. joined (births_of (left.born j)) field.born)) i;
-        boards = (boards ∙ (λ j. joined (messages_of (left.sent j)) field.boards)) i;
-      }
 
 -- ---- what fits
 
