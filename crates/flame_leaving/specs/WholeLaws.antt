@@ -5,6 +5,8 @@ use Rattle.flame_rows.specs.Order.{row_order}
 use Rattle.flame_rows.specs.Bags.{ascending, merge}
 use Rattle.flame_spec.specs.declared.outcomes.Outcome.{Outcome}
 use Rattle.flame_world.specs.declared.faults.SimFault.{SimFault}
+use Rattle.flame_leaving.specs.declared.leavings.Leaving.{Leaving}
+use Rattle.flame_leaving.specs.Leavings.{AreLeft}
 use Rattle.flame_world.specs.AgentRuns.{survivors, sent_from, born_from, least_fault, messages_of, births_of}
 
 -- these two parts together are all, each row as often and in whatever order [own]
@@ -70,3 +72,30 @@ FaultIsTheLeast =
     → AreTogether ones twos all
     → least_fault iteration function run (ascending all)
     ≡ least_of (least_fault iteration function run (ascending ones)) (least_fault iteration function run (ascending twos))
+
+-- ---- all of it, as one value
+
+-- the one leave, and the other, what the whole leave together: as many ran, survivors, messages and births of each type are
+-- those of both, merged, and the fault is the lesser [own]
+pub record AddUp (one two whole : Leaving) : Type 0 where
+  pub ran : whole.ran ≡ one.ran + two.ran
+  pub survivors : ascending whole.survivors.items ≡ merge (ascending one.survivors.items) (ascending two.survivors.items)
+  pub sent :
+      (message : ℕ)
+      → ascending (messages_of whole.sent.items message)
+      ≡ merge (ascending (messages_of one.sent.items message)) (ascending (messages_of two.sent.items message))
+  pub born :
+      (agent : ℕ)
+      → ascending (births_of whole.born.items agent)
+      ≡ merge (ascending (births_of one.born.items agent)) (ascending (births_of two.born.items agent))
+  pub fault : whole.fault ≡ least_of one.fault two.fault
+
+-- what all leave is what the parts leave, together [own]
+abbrev pub LeavingsAddUp : Type 0
+LeavingsAddUp =
+    (iteration : ℤ) (function : ℕ) (run : List ℤ → Outcome) (ones twos all : List (List ℤ)) (one two whole : Leaving)
+    → AreTogether ones twos all
+    → AreLeft iteration function run ones one
+    → AreLeft iteration function run twos two
+    → AreLeft iteration function run all whole
+    → AddUp one two whole
