@@ -1,9 +1,7 @@
 -- What the steps of the runner on one thread come to.
 use Rattle.std.specs.Prelude.{Result, Ok, Err}
-use Rattle.flame_spec.specs.declared.models.Model.{Model}
 use Rattle.flame_world.specs.declared.faults.SimFault.{SimFault}
 use Rattle.flame_world.specs.Fields.{Field}
-use Rattle.flame_world.specs.WorldFits.{FitsField}
 use Rattle.flame_field.specs.KeptFields.{field_of}
 use Rattle.flame_runner.specs.declared.steps.Stepped.{Stepped}
 use Rattle.flame_runner.specs.declared.steps.Stepped.TheVariants.{On, Faulted}
@@ -12,8 +10,3 @@ use Rattle.flame_runner.specs.declared.steps.Stepped.TheVariants.{On, Faulted}
 abbrev pub result_of : Stepped → Result Field SimFault
 result_of (On field) = Ok (field_of field)
 result_of (Faulted fault) = Err fault
-
--- the field, if there is one, fits the model [own]
-abbrev pub StillFits : Model → Stepped → Type 0
-StillFits model (On field) = FitsField model (field_of field)
-StillFits model (Faulted fault) = Unit {0}

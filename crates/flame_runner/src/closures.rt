@@ -15,12 +15,13 @@ use std::thread::Threads;
 /// A runner that is a closure: it gives the turn of an iteration of a world that fits the model. So whoever calls runners by
 /// their trait takes also one whose type the trait cannot name, as one that is generic in what its threads wait at.
 #[derive(Drop)]
-pub struct By<F: Fn(Global, &Program, World, i32, u32) -> Result<Turn, NoMemory>> {
+pub struct ClosureRunner<F: Fn(Global, &Program, World, i32, u32) -> Result<Turn, NoMemory>> {
     /// Gives the turn of the iteration of this number of this world, with this fuel for each call of a function.
     pub call: F,
 }
 
-impl<F: Fn(Global, &Program, World, i32, u32) -> Result<Turn, NoMemory>> Runner for By<F> {
+impl<F: Fn(Global, &Program, World, i32, u32) -> Result<Turn, NoMemory>> Runner
+    for ClosureRunner<F> {
     ghost ready = { λ runner. (alloc : _) (program : _) (world : _) (iteration : _) (fuel : _)
         → FitsModel program.now.model world
         → F.pre runner.call alloc program world iteration fuel

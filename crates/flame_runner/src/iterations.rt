@@ -6,7 +6,7 @@ ghost use Rattle.flame_world.specs.Iterations.{iteration as meant, steps, turn_o
 ghost use Rattle.flame_world.specs.WorldFits.{FitsField, FitsModel};
 ghost use Rattle.flame_field.specs.KeptFields.{field_of};
 ghost use Rattle.flame_round.specs.KeptRounds.{round_of};
-ghost use Rattle.flame_runner.specs.KeptSteps.{result_of, StillFits};
+ghost use Rattle.flame_runner.specs.KeptSteps.{result_of};
 
 use crate::steps::{Stepped, step};
 use flame_field::Field;
@@ -21,9 +21,8 @@ use std::alloc::Global;
 fn run_all(alloc: Global, round: &Round<'_>, field: Field) -> Result<Stepped, NoMemory>
     requires known { length round.now.constants.now ≡ length round.now.program.now.model.constants }
     requires fits { FitsField round.now.program.now.model (field_of field) }
-    ensures came { IfOk result (λ stepped. result_of stepped
+    ensures { IfOk result (λ stepped. result_of stepped
         ≡ steps (round_of round.now) (model_order round.now.program.now.model) (field_of field)) }
-    ensures fits { IfOk result (λ stepped. StillFits round.now.program.now.model stepped) }
 {
     orders();
     let mut field = field;
@@ -37,13 +36,7 @@ fn run_all(alloc: Global, round: &Round<'_>, field: Field) -> Result<Stepped, No
 }
 
 /// What an iteration comes to whose functions came to this.
-fn ended(
-    alloc: Global,
-    program: &Program,
-    constants: Row,
-    stepped: Stepped,
-) -> Result<Turn, NoMemory>
-    requires { StillFits program.now.model stepped }
+fn ended(alloc: Global, constants: Row, stepped: Stepped) -> Result<Turn, NoMemory>
     ensures { IfOk result (λ turn. turn ≡ turn_of constants (result_of stepped)) }
 {
     match stepped {
@@ -79,5 +72,5 @@ pub fn iterate(
         wants: wants.as_slice(),
     };
     let stepped = run_all(alloc, &round, field)?;
-    ended(alloc, program, constants, stepped)
+    ended(alloc, constants, stepped)
 }

@@ -7,7 +7,7 @@ mod plain;
 mod runners;
 mod steps;
 
-pub use closures::By;
+pub use closures::ClosureRunner;
 pub use iterations::iterate;
 pub use plain::PlainRunner;
 pub use runners::Runner;

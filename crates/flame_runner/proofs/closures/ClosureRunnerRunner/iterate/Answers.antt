@@ -1,7 +1,7 @@
 use Rattle.std.proofs.Common.{◌≡◌, ℤ, IfOk, w32, to_z, of_z, subst, rules}
 use Rattle.std.proofs.lemmas.Int.{to_z-of_z}
 use Rattle.flame_world.specs.Iterations.{iteration as meant}
-use Rattle.flame_runner.proofs.closures.ByRunner.iterate.Goals as goal
+use Rattle.flame_runner.proofs.closures.ClosureRunnerRunner.iterate.Goals as goal
 
 pub returns-clause-turn : goal.returns-clause-turn
 returns-clause-turn g c =
