@@ -16,11 +16,17 @@ use std::alloc::{AllocError, Global};
 fn index_of(alloc: Global, case: &Case, board: &Frozen) -> Result<Index, AllocError>
     ensures { IfOk result (λ index. StandsFor index board.now) }
 {
-    let by = SortBy {
-        variable: case.given("column ").parse::<u32>().unwrap_or(0),
-        descending: case.given("order ") == "descend",
+    let variable = case.given("column ").parse::<u32>().unwrap_or(0);
+    let descending = SortBy {
+        variable,
+        descending: true,
     };
-    match Index::by(alloc, board, by) {
+    let index = if case.given("order ") == "descend" {
+        Index::by(alloc, board, descending)
+    } else {
+        Index::of(alloc, board, variable)
+    };
+    match index {
         Ok(index) => Ok(index),
         Err(_) => Err(AllocError),
     }

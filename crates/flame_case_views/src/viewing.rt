@@ -140,15 +140,13 @@ const INDEXED_COLUMNS: u32 = 4;
 fn indexed(alloc: Global, board: Frozen) -> Result<Frozen, NoMemory> {
     let mut board = board;
     for variable in 0..INDEXED_COLUMNS {
-        for descending in [false, true] {
-            board.keep(
-                alloc,
-                SortBy {
-                    variable,
-                    descending,
-                },
-            )?;
-        }
+        let descending = SortBy {
+            variable,
+            descending: true,
+        };
+        board = board
+            .with_index(alloc, variable)?
+            .with_order(alloc, descending)?;
     }
     Ok(board)
 }
