@@ -11,8 +11,13 @@ use flame_world::World;
 use std::alloc::Global;
 
 /// A model of one agent type with three variables, as a case gives it.
-const MODEL: &str =
-    "case agents\nmodel\n|{\"xmodel\":{\"agents\":[{\"name\":\"Agent\",\"memory\":[{\"type\":\"int\",\"name\":\"x\"},{\"type\":\"int\",\"name\":\"y\"},{\"type\":\"int\",\"name\":\"z\"}]}]}}\n----\n";
+const MODEL: &str = concat!(
+    "case agents\nmodel\n",
+    r#"|{"xmodel":{"agents":[{"name":"Agent","memory":["#,
+    r#"{"type":"int","name":"x"},{"type":"int","name":"y"},{"type":"int","name":"z"}"#,
+    r#"]}]}}"#,
+    "\n----\n"
+);
 
 /// The program of a case's source; none where it has none.
 fn program_in(alloc: Global, case: &Case) -> Result<Option<Program>, NoMemory> {
