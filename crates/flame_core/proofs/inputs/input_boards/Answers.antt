@@ -46,6 +46,17 @@ returns-clause-wide c = λ place at fits.
     subst (λ (p : Place). AreBoardsFor model p.function.inputs (map shared_messages c.of.result))
     (some_place _ _ (sym goes.there ∙ at)) wide
 
+pub returns-in_err-share-clause-kept : goal.returns-in_err-share-clause-kept
+returns-in_err-share-clause-kept c = λ counts tallies.
+    let model = c.args.round.now.program.now.model in
+    let progress = c.args.progress.now in
+    let frozen = subst (All (λ m. is_frozen (core_of progress) m ≡ true)) (sym c.items-inputs.ensures)
+    (fed_frozen model progress c.args.function c.route_of-route.result.now c.route_of-route.ensures c.requires.fed c.requires.began) in
+    let same = same_core progress c.share.new.boards c.in_err-share.ensures.bags (c.in_err-share.ensures.frozen frozen) in
+    came model progress (record progress { field = record progress.field { boards = c.share.new.boards } }) counts counts
+    (core_of progress) same refl refl
+    (λ g has. has) tallies tallies.counted
+
 pub returns-clause-kept : goal.returns-clause-kept
 returns-clause-kept c = λ counts tallies.
     let model = c.args.round.now.program.now.model in
