@@ -24,10 +24,9 @@ use std::alloc::Global;
 
 /// What the function of this number does for an agent with this memory, under this setting of the program: its messages and
 /// births go behind those that these lists have. Its code runs over the views of the boards: those that all agents share,
-/// and its own, each of which is made once, before the run; no row of a board is copied. The room's lists and that of the
-/// views are used and kept.
+/// and its own, each of which is made once, before the run; no row of a board is copied. The room's lists, that of the views
+/// and those into which they pick rows are used and kept.
 fn run_agent<'a>(
-    alloc: Global,
     room: &mut Room,
     views: &mut Views<'a>,
     program: &Program,
@@ -47,7 +46,7 @@ fn run_agent<'a>(
     programs_mean();
     let _source = program.source();
     let code = code_of(program, setting, function, memory);
-    put_views(alloc, program, setting, function, shared, memory, views)?;
+    put_views(program, setting, function, shared, memory, views)?;
     let ending = room.run_into(
         code,
         program.helpers(),
@@ -64,7 +63,6 @@ fn run_agent<'a>(
 
 /// One agent more runs: what these agents left, it leaves too.
 fn run_next<'a>(
-    alloc: Global,
     room: &mut Room,
     views: &mut Views<'a>,
     program: &Program,
@@ -84,7 +82,6 @@ fn run_next<'a>(
         leaving.new) }
 {
     let ending = run_agent(
-        alloc,
         room,
         views,
         program,
@@ -128,7 +125,6 @@ fn run_all<'a>(
     let mut views = Views::new(alloc);
     for memory in agents {
         run_next(
-            alloc,
             &mut room,
             &mut views,
             program,
@@ -161,10 +157,14 @@ fn run_over(
 
 /// What these agents leave, told by their memories, that run the function of this number one after another, under this
 /// setting of the program (FLAME User Manual): all of them run, also where one faults, and of their faults that of the least
-/// in content order is kept. The agents may stand in any order. The views that no memory changes are made once, and there is
-/// one room for all, so that an agent takes memory for the long rows alone that it leaves and for the rows that its own views
-/// pick. The memories, the constants and the messages of the boards are as wide as the model declares. `NoMemory` comes where
-/// none is found, and where 32 bits cannot number the function's inputs.
+/// in content order is kept. The agents may stand in any order. The memories, the constants and the messages of the boards are
+/// as wide as the model declares. `NoMemory` comes where none is found, and where 32 bits cannot number the function's inputs.
+///
+/// The views that no memory changes are made once, where there are two agents at least, and one room and one list of views
+/// serve all. These keep their lists from agent to agent, also those into which views of an agent's own have picked rows, but
+/// for what the machine has open in a run that faults. So an agent takes memory for long rows, those of the messages and births
+/// that it makes, of the memory that it leaves and of that of a fault that is kept, and for a list that is not there yet or has
+/// too little room; a sort of picked rows takes none.
 pub fn run_agents(
     alloc: Global,
     program: &Program,

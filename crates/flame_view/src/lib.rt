@@ -3,6 +3,7 @@
 
 mod inputs;
 pub mod laws;
+mod lists;
 mod order;
 mod picks;
 mod ranges;

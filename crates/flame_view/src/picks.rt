@@ -8,16 +8,16 @@ ghost use Rattle.flame_cond.specs.Said.{key_by};
 ghost use Rattle.flame_view.specs.Compiled.{picked_by};
 ghost use Rattle.flame_view.specs.ViewWays.{in_order_of};
 
+use crate::lists::Lists;
 use crate::order::compare;
 use crate::shown::View;
 use flame_cond::{Filter, SortBy};
 use flame_rows::{NoMemory, Row};
-use std::alloc::Global;
 use std::cmp::Ordering;
 
-/// The rows of a view that pass the filter with this memory, in its order.
+/// The rows of a view that pass the filter with this memory, in its order, in one of the lists.
 fn picked<'a>(
-    alloc: Global,
+    lists: &mut Lists<'a>,
     rows: &View<'a>,
     filter: Option<&Filter>,
     memory: &Row,
@@ -25,7 +25,7 @@ fn picked<'a>(
     ensures { IfOk result (λ picked.
         map (λ row. row.now) picked.items ≡ picked_by (option_copied filter.entry) memory.now rows.now) }
 {
-    let mut picked: Vec<&'a Row> = Vec::new(alloc);
+    let mut picked = lists.empty();
     for place in 0..rows.len() {
         let row = rows.row(place);
         if filter.is_none_or(|filter| filter.passes(memory, row)) {
@@ -35,24 +35,24 @@ fn picked<'a>(
     Ok(picked)
 }
 
-/// The rows in the order of the key.
-fn sorted<'a>(rows: Vec<&'a Row>, by: SortBy) -> Result<Vec<&'a Row>, NoMemory>
-    ensures { IfOk result (λ sorted. map (λ row. row.now) sorted.items
-        ≡ sorted_by (view_order (Some (key_by by))) (map (λ row. row.now) rows.entry.items)) }
+/// The rows in the order of the key. Rows that tie are equal, so that they may change places.
+fn sorted<'a>(rows: Vec<&'a Row>, by: SortBy) -> Vec<&'a Row>
+    ensures { map (λ row. row.now) result.items
+        ≡ sorted_by (view_order (Some (key_by by))) (map (λ row. row.now) rows.entry.items) }
 {
     let mut rows = rows;
-    rows.sort_by(
+    rows.sort_unstable_by(
         |a: &&Row, b: &&Row| -> Ordering
             ensures { result ≡ view_order (Some (key_by by)) a.now.now b.now.now }
         { compare(by, a, b) },
-    )?;
-    Ok(rows)
+    );
+    rows
 }
 
-/// The rows of a view that pass what is left of a filter, in its order or sorted anew. Where there is neither a filter
-/// nor a sort no memory is taken.
+/// The rows of a view that pass what is left of a filter, in its order or sorted anew, in one of the lists. Where there
+/// is neither a filter nor a sort no list is taken.
 pub fn narrowed<'a>(
-    alloc: Global,
+    lists: &mut Lists<'a>,
     rows: View<'a>,
     filter: Option<&Filter>,
     sort: Option<SortBy>,
@@ -62,11 +62,11 @@ pub fn narrowed<'a>(
         view ≡ in_order_of sort (picked_by (option_copied filter.entry) memory.now rows.entry)) }
 {
     if let Some(by) = sort {
-        let picked = picked(alloc, &rows, filter, memory)?;
-        return Ok(View::picked(sorted(picked, by)?));
+        let picked = picked(lists, &rows, filter, memory)?;
+        return Ok(View::picked(sorted(picked, by)));
     }
     if filter.is_none() {
         return Ok(rows);
     }
-    Ok(View::picked(picked(alloc, &rows, filter, memory)?))
+    Ok(View::picked(picked(lists, &rows, filter, memory)?))
 }

@@ -99,6 +99,16 @@ impl<'a> View<'a> {
         }
     }
 
+    /// The list of the rows that it has picked, if it has picked rows.
+    pub(crate) fn into_picked(self) -> Option<Vec<&'a Row>> {
+        match self.rows {
+            Rows::Picked(rows) => Some(rows),
+            Rows::All(_) => None,
+            Rows::Placed(_, _) => None,
+            Rows::Lent(_) => None,
+        }
+    }
+
     /// The same view once more, which reads the rows where they lie and takes no memory.
     pub fn shared<'b>(&'b self) -> View<'b>
         ensures { result ≡ self.now }

@@ -10,6 +10,7 @@ ghost use Rattle.flame_index.specs.FrozenBoards.{messages_on};
 ghost use Rattle.flame_view.specs.Compiled.{picked_by, view_by};
 ghost use Rattle.flame_view.specs.ViewWays.{in_order_of};
 
+use crate::lists::Lists;
 use crate::picks::narrowed;
 use crate::ranges::first_has_number;
 use crate::shown::View;
@@ -67,7 +68,7 @@ fn left_to_sort(rows: &[Row], filter: &Filter, sort: Option<SortBy>) -> Option<S
 
 /// The view of the rows that were found among all.
 fn of_found<'a>(
-    alloc: Global,
+    lists: &mut Lists<'a>,
     found: View<'a>,
     rows: &[Row],
     filter: &Filter,
@@ -82,14 +83,14 @@ fn of_found<'a>(
 {
     let left = left_to_sort(rows, filter, sort);
     if filter.is_equality() {
-        return narrowed(alloc, found, None, left, memory);
+        return narrowed(lists, found, None, left, memory);
     }
-    narrowed(alloc, found, Some(filter), left, memory)
+    narrowed(lists, found, Some(filter), left, memory)
 }
 
 /// The view by a look at each row, in an order that the board has or sorted.
 fn of_all<'a>(
-    alloc: Global,
+    lists: &mut Lists<'a>,
     board: &'a Frozen,
     filter: Option<&Filter>,
     sort: Option<SortBy>,
@@ -100,10 +101,10 @@ fn of_all<'a>(
 {
     if let Some(by) = sort {
         if let Some(rows) = ordered_rows(board, by) {
-            return narrowed(alloc, rows, filter, None, memory);
+            return narrowed(lists, rows, filter, None, memory);
         }
     }
-    narrowed(alloc, View::all(board.bag().rows()), filter, sort, memory)
+    narrowed(lists, View::all(board.bag().rows()), filter, sort, memory)
 }
 
 impl<'a> View<'a> {
@@ -115,7 +116,8 @@ impl<'a> View<'a> {
     /// the board keeps an index, two binary searches find the rows, or two look-ups where the index has a table of starts;
     /// they are tested only where the filter says more. A sort takes n log n comparisons for the n rows that pass, but for
     /// a key that the board keeps, for the column of that number, and for column 0 with the least number first where no
-    /// row is empty: these take none. Where nothing is left to test and to sort no memory is taken.
+    /// row is empty: these take none. Where nothing is left to test and to sort no memory is taken, and else that for the list
+    /// of the rows that pass; their sort takes none beside it. `NoMemory` comes where none is found for it.
     pub fn new(
         alloc: Global,
         board: &'a Frozen,
@@ -126,11 +128,26 @@ impl<'a> View<'a> {
         ensures { IfOk result (λ view. view
             ≡ view_by (option_copied filter.entry) sort memory.now (messages_on board.now)) }
     {
+        View::within(&mut Lists::new(alloc), board, filter, sort, memory)
+    }
+
+    /// The same view. Rows that are picked are picked into one of these lists, which takes memory only where they are more
+    /// than it has room for.
+    pub(crate) fn within(
+        lists: &mut Lists<'a>,
+        board: &'a Frozen,
+        filter: Option<&Filter>,
+        sort: Option<SortBy>,
+        memory: &Row,
+    ) -> Result<View<'a>, NoMemory>
+        ensures { IfOk result (λ view. view
+            ≡ view_by (option_copied filter.entry) sort memory.now (messages_on board.now)) }
+    {
         if let Some(filter) = filter {
             if let Some(found) = found(board, filter, memory) {
-                return of_found(alloc, found, board.bag().rows(), filter, sort, memory);
+                return of_found(lists, found, board.bag().rows(), filter, sort, memory);
             }
         }
-        of_all(alloc, board, filter, sort, memory)
+        of_all(lists, board, filter, sort, memory)
     }
 }

@@ -12,8 +12,8 @@ use Rattle.flame_agent.proofs.ForAll.{shown-there}
 use Rattle.flame_agent.proofs.InputReadings.{next-view, all-views}
 use Rattle.flame_agent.proofs.views.put_views.Goals as goal
 
-pub shared_or_own-requires : goal.shared_or_own-requires
-shared_or_own-requires c = λ view is.
+pub push_shared_or_own-requires : goal.push_shared_or_own-requires
+push_shared_or_own-requires c = λ view is.
     let source = c.args.program.now in
     let function = c.args.function in
     let boards = boards_of c.args.setting.now in
@@ -37,7 +37,8 @@ loop-i-preserved c =
     let items = c.items-boards.result.now in
     let i = c.loop-i.i in
     let board = c.index-boards-i.result in
-    let view = c.in_ok-view.view in
+    let next = c.in_ok-push_shared_or_own.ensures in
+    let view = next.view in
     let fits = c.requires.fits in
     let within : i < length items = omega arith in
     let at : slice_get boards i ≡ Some (shared_messages board) =
@@ -46,11 +47,11 @@ loop-i-preserved c =
     let is : IsViewFor source c.args.function i memory (shared_messages board) view =
     subst (λ n. IsViewFor source c.args.function n memory (shared_messages board) view) c.in_ok-number.ensures
     (subst (λ b. IsViewFor source c.args.function c.in_ok-number.field-0 memory (messages_on b) view) c.deref.ensures
-    c.in_ok-view.ensures) in
+    next.is) in
     let more =
     next-view source c.args.function memory boards fits.place fits.there i (shared_messages board) view
     fits.boards at is in
-    c.in_ok-push.ensures.ok ∙ ap (λ (fed : List Fed). fed ++ not_begun view ∷ []) c.loop-i.invariant ∙ sym more
+    next.fed ∙ ap (λ (fed : List Fed). fed ++ not_begun view ∷ []) c.loop-i.invariant ∙ sym more
 
 pub returns : goal.returns
 returns c =

@@ -14,6 +14,6 @@ returns c =
     let order = view_order key in
     let total = view_total key in
     let ranked =
-    c.in_ok-sort_by.ensures.sorted (λ a b. is_lt (order a.now b.now)) (ranks_by total (λ row. row.now))
+    c.sort_unstable_by.ensures.sorted (λ a b. is_lt (order a.now b.now)) (ranks_by total (λ row. row.now))
     (always_returns_same _ _ _ (λ a r g h. search rules)) in
-    sorted_by-map order total (view_tied key) (λ row. row.now) _ _ c.in_ok-sort_by.ensures.permutation ranked
+    sorted_by-map order total (view_tied key) (λ row. row.now) _ _ c.sort_unstable_by.ensures.permutation ranked
