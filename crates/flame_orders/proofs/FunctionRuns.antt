@@ -4,7 +4,7 @@ use Rattle.std.specs.Prelude.{not, is_some, is_none, slice_get, slice_set}
 use Rattle.std.specs.Option.{option_or}
 use Rattle.std.specs.List.{list_all, filter_map}
 use Rattle.std.proofs.lemmas.Bool.{and_from, le-ltb}
-use Rattle.std.proofs.lemmas.List.{length_push}
+use Rattle.std.proofs.lemmas.List.{length-map, length_push}
 use Rattle.flame_rows.proofs.Lists.{slice_index_or-map_one}
 use Rattle.flame_rows.specs.Cuts.{cut}
 use Rattle.flame_spec.specs.declared.outcomes.Outcome.{Outcome}
@@ -36,7 +36,7 @@ use Rattle.flame_events.proofs.Growing.{histories_grow}
 use Rattle.flame_events.proofs.HandedTogether.{parts_are_handed_in_at_once}
 use Rattle.flame_events.proofs.KeptCores.{KeptWork, kept_core, open_there}
 use Rattle.flame_orders.specs.WholeFunctions.{all_agent_events, all_hand_in_events, function_events, agents_in_pieces, left_by, done_by, WholeFunctionsRun, OpenedPiecesAreTakers, OpenedFunctionsMove}
-use Rattle.flame_orders.proofs.Gatherings.{came, came_twice, nobody_came, joined_more, fresh_parts, length-fresh_parts, all_sent, parts_join, get_behind, set_behind, set_read}
+use Rattle.flame_orders.proofs.Gatherings.{came, came_twice, nobody_came, joined_more, fresh_parts, all_sent, parts_join, get_behind, set_behind, set_read}
 use Rattle.flame_orders.proofs.Lasting.{led_on}
 use Rattle.flame_orders.proofs.OnceOutputs.{outputs_once}
 use Rattle.flame_orders.proofs.SentOutputs.{sends_to_outputs}
@@ -138,7 +138,7 @@ module _ (round : Round) (pieces f : ℕ) (place : Place) (there : slice_get (fu
         let start = stage (before ++ ran work ∷ rest) (with_sent_of all rows) in
         let parts = ran_parts work ready in
         let messages = sent_from run work.agents in
-        let long : length (ran work).parts ≡ length outs = ap length parts ∙ length-with_sent outs messages (fresh_parts outs) (length-fresh_parts outs) in
+        let long : length (ran work).parts ≡ length outs = ap length parts ∙ length-with_sent outs messages (fresh_parts outs) (length-map outs (λ (output : ℕ). Some [])) in
         let every = parts_are_handed_in_at_once round pieces f (length before) (ran work) start (work_at before (ran work) rest (with_sent_of all rows))
         (le-ltb (length work.agents) (length work.agents) (omega arith)) long (ap (list_all is_some) parts ∙ all_sent outs outs messages refl) once in
         let statuses = put_at before (ran work) (over work) rest (with_sent_of all rows) in

@@ -3,6 +3,7 @@ use Rattle.std.proofs.Common.{◌≡◌, ℕ, zero, suc, ◌+◌, ◌<◌, ◌�
 use Rattle.std.specs.Prelude.{◌==◌, is_some, slice_get, slice_set, slice_index_or}
 use Rattle.std.specs.List.{list_all, filter_map, position_or_len}
 use Rattle.std.proofs.lemmas.Bool.{cases_Bool, cases_lt, true≢false}
+use Rattle.std.proofs.lemmas.List.{length-map}
 use Rattle.flame_rows.specs.Bags.{ascending, merge}
 use Rattle.flame_rows.proofs.BagLaws.{weigh-append, weigh-ascending, merge_adds_weights, equal_by_weighings, IsAscending-merge, merge_associates, empty_is_unit}
 use Rattle.flame_spec.specs.declared.outcomes.Outcome.{Outcome}
@@ -105,10 +106,6 @@ module _ (place : Place) (run : Row → Outcome) where
 abbrev pub fresh_parts : List ℕ → List (Option Rows)
 fresh_parts outs = map (λ output. Some []) outs
 
-pub length-fresh_parts : (outs : List ℕ) → length (fresh_parts outs) ≡ length outs
-length-fresh_parts [] = refl
-length-fresh_parts (output ∷ outs) = ap suc (length-fresh_parts outs)
-
 pub all_sent : (outs outputs : List ℕ) (messages : List Sent) → length outs ≡ length outputs → list_all is_some (with_sent outs messages (fresh_parts outputs)) ≡ true
 all_sent [] [] messages long = refl
 all_sent [] (output ∷ outputs) messages long = refl
@@ -141,7 +138,7 @@ module _ (outs : List ℕ) (messages : List Sent) (none : (m : ℕ) → is_in m 
       ∙ sym (merge_associates bag [] (messages_of messages i))
       ∙ ap (λ b. merge b (messages_of messages i)) (empty_is_unit bag up).1)
       (λ (out : is_in i outs ≡ false).
-      ap (λ part. with_part part bag) (no_part outs parts i (length-with_sent outs messages (fresh_parts outs) (length-fresh_parts outs)) out)
+      ap (λ part. with_part part bag) (no_part outs parts i (length-with_sent outs messages (fresh_parts outs) (length-map outs (λ (output : ℕ). Some []))) out)
       ∙ sym (ap (merge bag) (none i out) ∙ (empty_is_unit bag up).1))
       (cases_Bool (is_in i outs))
 

@@ -1,8 +1,9 @@
 -- What is legal stays so until it comes.
-use Rattle.std.proofs.Common.{◌≡◌, ℕ, zero, suc, ⊎_elim, Bool, true, false, List, [], ◌∷◌, ◌++◌, Option, Some, None, refl, sym, ap, ◌∙◌, subst, get_or-set_same}
+use Rattle.std.proofs.Common.{◌≡◌, ℕ, zero, suc, ◌⊎◌, inl, inr, ⊎_elim, Bool, true, false, List, [], ◌∷◌, ◌++◌, Option, Some, None, refl, sym, ap, ◌∙◌, subst, get_or-set_same}
 use Rattle.std.specs.Prelude.{◌&&◌, nat_lt, not, is_some, is_none, slice_get, slice_set, slice_index_or, length}
 use Rattle.std.specs.List.{list_all}
 use Rattle.std.proofs.lemmas.Bool.{and_parts, and_from, cases_eq, true≢false, false≢true, not-true}
+use Rattle.flame_rows.proofs.Lists.{list_all-at}
 use Rattle.flame_spec.specs.declared.models.Model.{Model}
 use Rattle.flame_spec.specs.Before.{function_count}
 use Rattle.flame_meaning.proofs.Eachs.{each_at}
@@ -10,12 +11,12 @@ use Rattle.flame_world.specs.Iterations.{Round}
 use Rattle.flame_events.specs.declared.events.Event.{Event}
 use Rattle.flame_events.specs.declared.events.Event.TheVariants as event
 use Rattle.flame_events.specs.CoreLaws.{EventsLeadTo}
-use Rattle.flame_events.specs.CoreStates.{Work, Waiting, Open, is_waiting, is_shut, works_of, has_left, part_in, Core, status_of, work_of, is_frozen, opening_core}
+use Rattle.flame_events.specs.CoreStates.{Work, Waiting, Open, is_waiting, is_shut, fault_of, works_of, has_left, part_in, Core, status_of, work_of, is_frozen, opening_core}
 use Rattle.flame_events.specs.LegalEvents.{predecessors, inputs_of, outputs_of, writers, are_shut, may_open, may_run, may_hand_in, may_shut, may_freeze, is_over, is_legal}
 use Rattle.flame_events.specs.EventSteps.{joined_board, handed_in, after, are_legal}
 use Rattle.flame_events.proofs.Weights.{Rows}
 use Rattle.flame_events.proofs.Works.{all_of_list, kept_is_output, without, part_in-without-else}
-use Rattle.flame_events.proofs.Sound.{both_wait, can_open, opens_with}
+use Rattle.flame_events.proofs.Sound.{both_wait, waiting_is, can_open, opens_with}
 use Rattle.flame_events.proofs.Legality.{may_shut_is, each_also}
 use Rattle.flame_events.proofs.CoreWidths.{status_below}
 use Rattle.flame_events.proofs.Absorbing.{get_set}
@@ -72,17 +73,27 @@ finds_open model core (event.Shut g) f legal is else =
     let same : g ≡ f = cc in subst (IsOpen core) same (may_shut_is (outputs_of model g) (status_of core g) legal).0
 finds_open model core (event.Freeze m) f legal is else = absurd cc
 
--- an event of a function finds it not shut
+-- and where it opens it, waiting: not done
+finds_undone : (model : Model) (core : Core) (e : Event) (f : ℕ) → is_legal model core e ≡ true → its_function e ≡ Some f
+    → (is_waiting (status_of core f) ≡ true) ⊎ IsOpen core f
+finds_undone model core (event.Open g) f legal is =
+    let same : g ≡ f = cc in inl (sym (ap (λ h. is_waiting (status_of core h)) same) ∙ (can_open model core g legal).waits)
+finds_undone model core (event.Agent g k) f legal is = inr (finds_open model core (event.Agent g k) f legal is (λ e. cc))
+finds_undone model core (event.HandIn g k m) f legal is = inr (finds_open model core (event.HandIn g k m) f legal is (λ e. cc))
+finds_undone model core (event.Shut g) f legal is = inr (finds_open model core (event.Shut g) f legal is (λ e. cc))
+finds_undone model core (event.Freeze m) f legal is = absurd cc
+
 finds_unshut : (model : Model) (core : Core) (e : Event) (f : ℕ) → is_legal model core e ≡ true → its_function e ≡ Some f → is_shut (status_of core f) ≡ true → ⊥
-finds_unshut model core (event.Open g) f legal is shut =
-    let same : g ≡ f = cc in both_wait (status_of core g) (can_open model core g legal).waits (ap (λ h. is_shut (status_of core h)) same ∙ shut)
-finds_unshut model core (event.Agent g k) f legal is shut =
-    false≢true (sym (ap is_shut (finds_open model core (event.Agent g k) f legal is (λ e. cc))) ∙ shut)
-finds_unshut model core (event.HandIn g k m) f legal is shut =
-    false≢true (sym (ap is_shut (finds_open model core (event.HandIn g k m) f legal is (λ e. cc))) ∙ shut)
-finds_unshut model core (event.Shut g) f legal is shut =
-    false≢true (sym (ap is_shut (finds_open model core (event.Shut g) f legal is (λ e. cc))) ∙ shut)
-finds_unshut model core (event.Freeze m) f legal is shut = absurd cc
+finds_unshut model core e f legal is shut = ⊎_elim
+    (λ (waits : is_waiting (status_of core f) ≡ true). both_wait (status_of core f) waits shut)
+    (λ (opens : IsOpen core f). false≢true (sym (ap is_shut opens) ∙ shut))
+    (finds_undone model core e f legal is)
+
+pub finds_faultless : (model : Model) (core : Core) (e : Event) (f : ℕ) → is_legal model core e ≡ true → its_function e ≡ Some f → fault_of (status_of core f) ≡ None
+finds_faultless model core e f legal is = ⊎_elim
+    (λ (waits : is_waiting (status_of core f) ≡ true). ap fault_of (waiting_is (status_of core f) waits))
+    (λ (opens : IsOpen core f). ap fault_of opens)
+    (finds_undone model core e f legal is)
 
 -- ---- what stays, stays
 
@@ -149,14 +160,9 @@ piece_lasts round pieces core (event.Shut f) g j work legal at apart shut =
     ap (λ s. slice_get (works_of s) j) (other_functions_stay round pieces g (event.Shut f) core (λ is. let same : f ≡ g = cc in shut (ap event.Shut same)))
 piece_lasts round pieces core (event.Freeze m) g j work legal at apart shut = refl
 
-all_at : {X : Type 0} (test : X → Bool) (xs : List X) (k : ℕ) (x : X) → list_all test xs ≡ true → slice_get xs k ≡ Some x → test x ≡ true
-all_at test [] k x all at = absurd cc
-all_at test (y ∷ xs) zero x all at = let same : y ≡ x = cc in ap test (sym same) ∙ (and_parts (test y) (list_all test xs) all).0
-all_at test (y ∷ xs) (suc k) x all at = all_at test xs k x (and_parts (test y) (list_all test xs) all).1 at
-
 -- where a function may be shut, a piece of it is over
 pub over_at : (outs : List ℕ) (core : Core) (f k : ℕ) (work : Work) → may_shut outs (status_of core f) ≡ true → work_of core f k ≡ Some work → is_over outs work ≡ true
-over_at outs core f k work may at = all_at (is_over outs) (works_of (status_of core f)) k work (may_shut_is outs (status_of core f) may).1 at
+over_at outs core f k work may at = list_all-at (is_over outs) (works_of (status_of core f)) k work (may_shut_is outs (status_of core f) may).1 at
 
 pub none_left : (outs : List ℕ) (work : Work) → is_over outs work ≡ true → has_left work ≡ false
 none_left outs work over = not-true (has_left work) (and_parts (not (has_left work)) (list_all (λ m. is_none (part_in outs work.parts m)) outs) over).0

@@ -1,6 +1,8 @@
 pub mod Untouched
 pub mod Lasting
 pub mod Newly
+pub mod OpenedTakers
+pub mod Finished
 pub mod OnceOutputs
 pub mod SortedFields
 pub mod SentOutputs

@@ -4,7 +4,7 @@ use Rattle.std.specs.Prelude.{◌==◌, option_map, slice_get}
 use Rattle.std.specs.List.{filter_map, cons_option}
 use Rattle.std.proofs.lemmas.Bool.{eqb-true}
 use Rattle.std.proofs.lemmas.List.Sums.{sum_by-cons}
-use Rattle.std.proofs.lemmas.Option.{get_or_from_slice_get, slice_get_within}
+use Rattle.std.proofs.lemmas.Option.{get_or_from_slice_get, same_Some, slice_get_within}
 use Rattle.flame_spec.specs.declared.models.MessageType.{MessageType}
 use Rattle.flame_spec.specs.declared.models.Model.{Model}
 use Rattle.flame_spec.specs.declared.outcomes.Source.{Source}
@@ -27,11 +27,8 @@ one_name : (model : Model) (n : ℕ) (name other : List ℕ) → number_of model
 one_name model n name other is too =
     let one = named model name n is in
     let two = named model other n too in
-    let same : one.message ≡ two.message = some_is one.message two.message (sym one.there ∙ two.there) in
+    let same : one.message ≡ two.message = same_Some one.message two.message (sym one.there ∙ two.there) in
     sym one.name_is ∙ ap (λ (message : MessageType). message.name) same ∙ two.name_is
-  where
-    some_is : (x y : MessageType) → Some x ≡ Some y → x ≡ y
-    some_is x y e = cc
 
 -- a number that no name has does not stand there
 none_there : (model : Model) (n : ℕ) (names : List (List ℕ)) → ((k : ℕ) (name : List ℕ) → slice_get names k ≡ Some name → number_of model name ≡ Some n → ⊥)

@@ -3,7 +3,7 @@ use Rattle.std.proofs.Common.{◌≡◌, ℕ, zero, suc, ◌<◌, ◌≤◌, ⊎
 use Rattle.std.specs.Prelude.{ℤ, slice_get, slice_index_or}
 use Rattle.std.specs.List.{flat_map}
 use Rattle.std.proofs.lemmas.Bool.{cases_lt, true≢false, false≢true}
-use Rattle.std.proofs.lemmas.List.{length-map}
+use Rattle.std.proofs.lemmas.List.{length-map, get_or_past}
 use Rattle.std.proofs.lemmas.Option.{same_Some}
 use Rattle.flame_rows.specs.Order.{row_order}
 use Rattle.flame_rows.specs.Sorted.{IsAscending}
@@ -128,18 +128,13 @@ one_ideal differ round pieces other_pieces core other both =
 
 -- ---- boards
 
-unmarked : (marks : List Bool) (m : ℕ) → length marks ≤ m → slice_index_or marks m false ≡ false
-unmarked [] m over = refl
-unmarked (mark ∷ marks) zero over = absurd (omega (arith, over))
-unmarked (mark ∷ marks) (suc m) over = unmarked marks m (omega (arith, over))
-
 frozen_is_full : (round : Round) (start : Spot → Rows) (t : Ideal) (core : Core) (m : ℕ) → Sound round start t core → is_frozen core m ≡ true
     → slice_index_or core.field.boards m [] ≡ full_board round.source.model t m
 frozen_is_full round start t core m h frozen =
     let model = round.source.model in
     let less : m < length core.frozen = ⊎_elim
     (λ (less : m < length core.frozen). less)
-    (λ (over : length core.frozen ≤ m). absurd (false≢true (sym (unmarked core.frozen m over) ∙ frozen)))
+    (λ (over : length core.frozen ≤ m). absurd (false≢true (sym (get_or_past core.frozen m false over) ∙ frozen)))
     (cases_lt m (length core.frozen)) in
     meets_board round start t core.field (still_in core) (ran_in t core) (handed_in model t core) h.holds m (omega (arith, less, h.marks))
     (λ g below writes. shut_handed (outputs_of model g) m (t.agents g) (status_of core g) (h.written m g below frozen writes))
@@ -184,9 +179,6 @@ open_functions_agree differ round pieces other_pieces f works counterparts core 
     cut_of_all other_pieces counterparts both.other_some (subst (λ s. IsCutUp other_pieces (works_of s)) other_is (second f)) in
     (agents, λ same. bags ∙ (λ i. cut (same i) (agents i)) ∙ sym other_bags)
 
-none_there : (work : Work) → None ≡ Some work → ⊥
-none_there work e = cc
-
 same_at : (works counterparts : List Work) (k : ℕ) (work counterpart : Work) → map its_agents works ≡ map its_agents counterparts
     → slice_get works k ≡ Some work → slice_get counterparts k ≡ Some counterpart → work.agents ≡ counterpart.agents
 same_at works counterparts k work counterpart same at there =
@@ -194,7 +186,7 @@ same_at works counterparts k work counterpart same at there =
     (sym (mapped_at works k work at) ∙ ap (λ bags. slice_get bags k) same ∙ mapped_at counterparts k counterpart there)
   where
     mapped_at : (works : List Work) (k : ℕ) (work : Work) → slice_get works k ≡ Some work → slice_get (map its_agents works) k ≡ Some work.agents
-    mapped_at [] k work at = absurd (none_there work at)
+    mapped_at [] k work at = absurd cc
     mapped_at (w ∷ works) zero work at = ap (λ (v : Work). Some v.agents) (same_Some w work at)
     mapped_at (w ∷ works) (suc k) work at = mapped_at works k work at
 

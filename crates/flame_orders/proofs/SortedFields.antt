@@ -1,5 +1,5 @@
 -- The bags of a core that legal events lead to stand in content order.
-use Rattle.std.proofs.Common.{ℕ, zero, suc, ◌+◌, true, false, cond, List, [], ◌∷◌, map, Option, Some, None, sym, subst}
+use Rattle.std.proofs.Common.{ℕ, ◌+◌, true, false, cond, List, [], ◌∷◌, map, Option, Some, None, sym, subst}
 use Rattle.std.specs.Prelude.{not, slice_get}
 use Rattle.std.specs.List.{zip}
 use Rattle.flame_rows.specs.Bags.{ascending, merge}
@@ -15,7 +15,7 @@ use Rattle.flame_meaning.specs.RangeLaws.{Each}
 use Rattle.flame_world.specs.AgentRuns.{survivors, born_from, births_of}
 use Rattle.flame_world.specs.Fields.{Field, begun, opening, changed, changed_pool, joined_from}
 use Rattle.flame_world.specs.Iterations.{Round, staying, outcome_in}
-use Rattle.flame_world.proofs.Eachs.{mapped}
+use Rattle.flame_world.proofs.Eachs.{mapped, each_changed}
 use Rattle.flame_events.specs.declared.events.Event.{Event}
 use Rattle.flame_events.specs.declared.events.Event.TheVariants as event
 use Rattle.flame_events.specs.CoreLaws.{EventsLeadTo}
@@ -33,11 +33,6 @@ pub record IsSorted (field : Field) : Type 0 where
   pub boards : Each Up field.boards
 
 -- ---- bags that change
-
-each_changed : {X : Type 0} (P : X → Type 0) (place : ℕ) (change : X → X) → ((x : X) → P x → P (change x)) → (xs : List X) → Each P xs → Each P (changed place change xs)
-each_changed P place change keeps [] all = tt
-each_changed P zero change keeps (x ∷ xs) all = (keeps x all.0, all.1)
-each_changed P (suc place) change keeps (x ∷ xs) all = (all.0, each_changed P place change keeps xs all.1)
 
 pub pools_changed : (agent state : ℕ) (change : Rows → Rows) → ((pool : Rows) → Up pool → Up (change pool)) → (pools : List (List Rows))
     → Each (λ own. Each Up own) pools → Each (λ own. Each Up own) (changed_pool agent state change pools)

@@ -5,7 +5,7 @@ use Rattle.std.proofs.lemmas.Bool.{cases_eq, false≢true}
 use Rattle.flame_spec.specs.Functions.{Place, functions}
 use Rattle.flame_world.specs.Iterations.{Round}
 use Rattle.flame_events.specs.declared.events.Event.TheVariants as event
-use Rattle.flame_events.specs.CoreStates.{Work, Waiting, Open, works_of, part_in, Core, status_of, work_of}
+use Rattle.flame_events.specs.CoreStates.{Work, Status, Waiting, Open, works_of, part_in, Core, status_of, work_of}
 use Rattle.flame_events.specs.LegalEvents.{outputs_of}
 use Rattle.flame_events.specs.EventSteps.{opened, with_work, ran_agent, ran_next, joined_board, handed_in}
 use Rattle.flame_events.proofs.Weights.{Row, Rows}
@@ -14,37 +14,40 @@ use Rattle.flame_orders.specs.UntouchedParts.{OtherFunctionsStay, OtherPiecesSta
 
 -- ---- other functions
 
-opened_else : (round : Round) (pieces f g : ℕ) (place : Option Place) (core : Core) → (g ≡ f → ⊥) → status_of (opened round pieces f place core) g ≡ status_of core g
-opened_else round pieces f g None core apart = refl
-opened_else round pieces f g (Some place) core apart = get_or-set_other core.statuses f g _ Waiting apart
+-- where this is seen of g whatever pieces f gets, it is seen after an event of f too
+module _ {A : Type 0} (see : Status → A) (core : Core) (f g : ℕ)
+    (same : (works : List Work) → see (slice_index_or (slice_set core.statuses f (Open works)) g Waiting) ≡ see (status_of core g)) where
+  pub opened_sees : (round : Round) (pieces : ℕ) (place : Option Place) → see (status_of (opened round pieces f place core) g) ≡ see (status_of core g)
+  opened_sees round pieces None = refl
+  opened_sees round pieces (Some place) = same _
 
-agent_else : (round : Round) (f k g : ℕ) (place : Place) (work : Work) (memory : Option Row) (core : Core) → (g ≡ f → ⊥)
-    → status_of (ran_agent round f k place work memory core) g ≡ status_of core g
-agent_else round f k g place work None core apart = refl
-agent_else round f k g place work (Some memory) core apart = get_or-set_other core.statuses f g _ Waiting apart
+  agent_sees : (round : Round) (k : ℕ) (place : Place) (work : Work) (memory : Option Row) → see (status_of (ran_agent round f k place work memory core) g) ≡ see (status_of core g)
+  agent_sees round k place work None = refl
+  agent_sees round k place work (Some memory) = same _
 
-next_else : (round : Round) (f k g : ℕ) (place : Option Place) (work : Option Work) (core : Core) → (g ≡ f → ⊥)
-    → status_of (ran_next round f k place work core) g ≡ status_of core g
-next_else round f k g None work core apart = refl
-next_else round f k g (Some place) None core apart = refl
-next_else round f k g (Some place) (Some work) core apart = agent_else round f k g place work (slice_get work.agents work.ran) core apart
+  pub next_sees : (round : Round) (k : ℕ) (place : Option Place) (work : Option Work) → see (status_of (ran_next round f k place work core) g) ≡ see (status_of core g)
+  next_sees round k None work = refl
+  next_sees round k (Some place) None = refl
+  next_sees round k (Some place) (Some work) = agent_sees round k place work (slice_get work.agents work.ran)
 
-joined_else : (f k m g : ℕ) (outs : List ℕ) (work : Work) (part : Option Rows) (core : Core) → (g ≡ f → ⊥)
-    → status_of (joined_board f k m outs work part core) g ≡ status_of core g
-joined_else f k m g outs work None core apart = refl
-joined_else f k m g outs work (Some rows) core apart = get_or-set_other core.statuses f g _ Waiting apart
+  joined_sees : (k m : ℕ) (outs : List ℕ) (work : Work) (part : Option Rows) → see (status_of (joined_board f k m outs work part core) g) ≡ see (status_of core g)
+  joined_sees k m outs work None = refl
+  joined_sees k m outs work (Some rows) = same _
 
-handed_else : (f k m g : ℕ) (outs : List ℕ) (work : Option Work) (core : Core) → (g ≡ f → ⊥) → status_of (handed_in f k m outs work core) g ≡ status_of core g
-handed_else f k m g outs None core apart = refl
-handed_else f k m g outs (Some work) core apart = joined_else f k m g outs work (part_in outs work.parts m) core apart
+  pub handed_sees : (k m : ℕ) (outs : List ℕ) (work : Option Work) → see (status_of (handed_in f k m outs work core) g) ≡ see (status_of core g)
+  handed_sees k m outs None = refl
+  handed_sees k m outs (Some work) = joined_sees k m outs work (part_in outs work.parts m)
+
+else_same : (core : Core) (f g : ℕ) → (Some f ≡ Some g → ⊥) → (works : List Work) → slice_index_or (slice_set core.statuses f (Open works)) g Waiting ≡ status_of core g
+else_same core f g apart works = get_or-set_other core.statuses f g (Open works) Waiting (λ same. apart (ap Some (sym same)))
 
 pub other_functions_stay : OtherFunctionsStay
 other_functions_stay round pieces g (event.Open f) core apart =
-    opened_else round pieces f g (slice_get (functions round.source.model) f) core (λ same. apart (ap Some (sym same)))
+    opened_sees (λ s. s) core f g (else_same core f g apart) round pieces (slice_get (functions round.source.model) f)
 other_functions_stay round pieces g (event.Agent f k) core apart =
-    next_else round f k g (slice_get (functions round.source.model) f) (work_of core f k) core (λ same. apart (ap Some (sym same)))
+    next_sees (λ s. s) core f g (else_same core f g apart) round k (slice_get (functions round.source.model) f) (work_of core f k)
 other_functions_stay round pieces g (event.HandIn f k m) core apart =
-    handed_else f k m g (outputs_of round.source.model f) (work_of core f k) core (λ same. apart (ap Some (sym same)))
+    handed_sees (λ s. s) core f g (else_same core f g apart) k m (outputs_of round.source.model f) (work_of core f k)
 other_functions_stay round pieces g (event.Shut f) core apart = get_or-set_other core.statuses f g _ Waiting (λ same. apart (ap Some (sym same)))
 other_functions_stay round pieces g (event.Freeze m) core apart = refl
 

@@ -5,4 +5,6 @@ pub mod LastingLegality
 pub mod NewlyLegal
 pub mod WholeFunctions
 pub mod UntouchedParts
+pub mod OtherTakers
+pub mod LastingEnds
 pub mod OneBeginning

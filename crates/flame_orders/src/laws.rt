@@ -6,6 +6,9 @@ ghost use Rattle.flame_orders.specs.WholeFunctions.{WholeFunctionsRun, OpenedPie
 ghost use Rattle.flame_orders.specs.OneBeginning.{FrozenBoardsAgree, OutcomesAgree, PiecesAgree};
 ghost use Rattle.flame_orders.specs.OneBeginning.{OpenFunctionsAgree, DoneFunctionsAgree};
 ghost use Rattle.flame_orders.specs.UntouchedParts.{OtherFunctionsStay, OtherPiecesStay, OtherMarksStay};
+ghost use Rattle.flame_orders.specs.OtherTakers.{OpeningLeavesOtherTakers, OpeningsLeaveOtherTakers};
+ghost use Rattle.flame_orders.specs.LastingEnds.{ShutFunctionsStay, FaultsStay};
+ghost use Rattle.flame_orders.specs.LastingEnds.{RanksStayUntilShut, RanksStayWithoutFault};
 
 use flame_spec_laws::names_differ;
 
@@ -41,6 +44,25 @@ pub fn others_stay()
     ensures functions { OtherFunctionsStay }
     ensures pieces { OtherPiecesStay }
     ensures marks { OtherMarksStay }
+{}
+
+/// A function of the model has the same takers when others are opened, also where they leave the same state.
+pub fn takers_stay()
+    ensures one { OpeningLeavesOtherTakers }
+    ensures many { OpeningsLeaveOtherTakers }
+{}
+
+/// After a legal event a function that was shut still is, and one that has a fault still has this one.
+pub fn ends_stay()
+    ensures shut { ShutFunctionsStay }
+    ensures faults { FaultsStay }
+{}
+
+/// The least rank of a faulted function is the same after a legal event that shuts no function, and after one that shuts
+/// a function which has no fault then.
+pub fn ranks_stay()
+    ensures until_shut { RanksStayUntilShut }
+    ensures without_fault { RanksStayWithoutFault }
 {}
 
 /// What two cores agree on to which events of an accepted source led, each legal when it came, from one beginning, which has
