@@ -10,8 +10,8 @@ use Rattle.flame_spec.specs.declared.outcomes.Born.{Born}
 use Rattle.flame_world.specs.AgentRuns.{births_of}
 use Rattle.flame_world.specs.Fields.{changed, changed_pool, joined, joined_from}
 use Rattle.flame_world.proofs.Counting.{length-changed}
-use Rattle.flame_field.specs.declared.gatherings.Gathering.{Gathering}
-use Rattle.flame_field.specs.KeptPools.{pools_of, bags_of}
+use Rattle.flame_field.specs.declared.pools.Pool.{Pool}
+use Rattle.flame_field.specs.KeptPools.{pools_of, pool_bags}
 use Rattle.flame_rows.proofs.Merging.{merge-append}
 
 births-append : (births more : List Born) (k : ℕ) → births_of (births ++ more) k ≡ births_of births k ++ births_of more k
@@ -37,20 +37,20 @@ same_for_all z [] (y ∷ ys) long = absurd (omega (arith, long))
 same_for_all z (x ∷ xs) [] long = absurd (omega (arith, long))
 same_for_all z (x ∷ xs) (y ∷ ys) long = λ i. z ∷ same_for_all z xs ys (omega (arith, long)) i
 
-abbrev none_of : Vec (Vec Gathering Global) Global → List (List (List ℤ))
+abbrev none_of : Vec (Vec Pool Global) Global → List (List (List ℤ))
 none_of pools = map (λ own. []) pools.items
 
 -- there are as many types as before
-pub none_same : (old new : Vec (Vec Gathering Global) Global) → length (pools_of new) ≡ length (pools_of old) → none_of new ≡ none_of old
+pub none_same : (old new : Vec (Vec Pool Global) Global) → length (pools_of new) ≡ length (pools_of old) → none_of new ≡ none_of old
 none_same old new long =
-    same_for_all [] new.items old.items (sym (length-map new.items bags_of) ∙ long ∙ length-map old.items bags_of)
+    same_for_all [] new.items old.items (sym (length-map new.items pool_bags) ∙ long ∙ length-map old.items pool_bags)
 
-pub pools_long : (old new : Vec (Vec Gathering Global) Global) (agent state : ℕ) (change : List (List ℤ) → List (List ℤ))
+pub pools_long : (old new : Vec (Vec Pool Global) Global) (agent state : ℕ) (change : List (List ℤ) → List (List ℤ))
     → pools_of new ≡ changed_pool agent state change (pools_of old) → none_of new ≡ none_of old
 pools_long old new agent state change is = none_same old new (ap length is ∙ length-changed agent (changed state change) (pools_of old))
 
 -- births come after the earlier ones
-pub born_more : (old new : Vec (Vec Gathering Global) Global) (born births all : List Born) → none_of new ≡ none_of old → all ≡ born ++ births
+pub born_more : (old new : Vec (Vec Pool Global) Global) (born births all : List Born) → none_of new ≡ none_of old → all ≡ born ++ births
     → joined (births_of all) (none_of new) ≡ joined (births_of births) (joined (births_of born) (none_of old))
 born_more old new born births all same is =
     (λ i. joined (births_of (is i)) (same i)) ∙ joined-later born births (none_of old)

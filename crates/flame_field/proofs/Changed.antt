@@ -73,8 +73,26 @@ changed_pool-to agent state change [] = refl
 changed_pool-to zero state change (xs ∷ pools) = λ i. changed-to state change [] xs i ∷ pools
 changed_pool-to (suc agent) state change (xs ∷ pools) = λ i. xs ∷ changed_pool-to agent state change pools i
 
--- equal changes change alike
-pub changed-same_change : {X : Type 0} (place : ℕ) (f g : X → X) → ((x : X) → f x ≡ g x) → (xs : List X) → changed place f xs ≡ changed place g xs
-changed-same_change place f g same [] = refl
-changed-same_change zero f g same (x ∷ xs) = λ i. same x i ∷ xs
-changed-same_change (suc place) f g same (x ∷ xs) = λ i. x ∷ changed-same_change place f g same xs i
+changed-still : {X : Type 0} (place : ℕ) (f : X → X) → ((x : X) → f x ≡ x) → (xs : List X) → changed place f xs ≡ xs
+changed-still place f still [] = refl
+changed-still zero f still (x ∷ xs) = λ i. still x i ∷ xs
+changed-still (suc place) f still (x ∷ xs) = λ i. x ∷ changed-still place f still xs i
+
+-- where a pool becomes what it is, nothing changes
+pub changed_pool-still : (agent state : ℕ) (pools : List (List (List (List ℤ)))) → changed_pool agent state (λ pool. pool) pools ≡ pools
+changed_pool-still agent state pools =
+    changed-still agent (changed state (λ pool. pool)) (changed-still state (λ pool. pool) (λ pool. refl)) pools
+
+-- what a pool is that was taken away, changed and put back
+pub changed_pool-back : (agent state : ℕ) (taken pool : List (List ℤ)) (pools between after : List (List (List (List ℤ))))
+    (change : List (List ℤ) → List (List ℤ))
+    → between ≡ changed_pool agent state (λ old. taken) pools
+    → after ≡ changed_pool agent state (λ old. pool) between
+    → pool ≡ change (pool_in pools agent state)
+    → after ≡ changed_pool agent state change pools
+changed_pool-back agent state taken pool pools between after change first second is =
+    second
+    ∙ ap (changed_pool agent state (λ old. pool)) first
+    ∙ changed_pool-again agent state taken pool pools
+    ∙ ap (λ (p : List (List ℤ)). changed_pool agent state (λ old. p) pools) is
+    ∙ changed_pool-to agent state change pools

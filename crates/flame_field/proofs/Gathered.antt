@@ -1,5 +1,5 @@
 -- Bags of rows that came together bit by bit.
-use Rattle.std.proofs.Common.{◌≡◌, ◌+◌, List, [], ◌++◌, sym, ap, ◌∙◌, arith, IsPermutation}
+use Rattle.std.proofs.Common.{◌≡◌, ◌+◌, List, [], ◌∷◌, ◌++◌, length, refl, sym, ap, ◌∙◌, arith, IsPermutation}
 use Rattle.std.specs.Prelude.{ℤ}
 use Rattle.std.proofs.lemmas.List.Sorted.{sum_by-IsPermutation}
 use Rattle.flame_rows.specs.Order.{row_order}
@@ -9,10 +9,14 @@ use Rattle.flame_field.specs.declared.boards.Board.{Board}
 use Rattle.flame_field.specs.declared.boards.Board.TheVariants as board
 use Rattle.flame_field.specs.KeptBoards.{board_bag}
 use Rattle.flame_field.specs.declared.gatherings.Gathering.{Gathering}
-use Rattle.flame_field.specs.KeptPools.{bag_of}
+use Rattle.flame_field.specs.KeptGatherings.{bag_of}
 use Rattle.flame_rows.proofs.Sorting.{ascending_once, sum_by-sorted_by}
 use Rattle.flame_rows.proofs.BagLaws.{IsAscending-ascending, rows_tied, rows_total, weigh-ascending, weigh-append}
 use Rattle.flame_rows.proofs.Merging.{same_bag, ascending-ascending}
+
+pub none_left : {X : Type 0} (xs : List X) → length xs ≡ 0 → xs ≡ []
+none_left [] none = refl
+none_left (x ∷ xs) none = absurd (omega (arith, none))
 
 pub merge-none : (rows : List (List ℤ)) → merge (ascending rows) [] ≡ ascending rows
 merge-none rows =
@@ -23,7 +27,7 @@ pub bag-in_order : (gathering : Gathering) → ascending (bag_of gathering) ≡ 
 bag-in_order gathering = ascending-ascending gathering.rows.items
 
 pub board-in_order : (b : Board) → ascending (board_bag b) ≡ board_bag b
-board-in_order (board.Gathering rows) = ascending-ascending rows.items
+board-in_order (board.Gathering messages) = bag-in_order messages
 board-in_order (board.Frozen frozen) = ascending-ascending (messages_on frozen)
 board-in_order (board.Shared frozen) = ascending-ascending (shared_messages frozen)
 

@@ -1,5 +1,5 @@
 -- Lists of which one element is written, as they are seen.
-use Rattle.std.proofs.Common.{◌≡◌, ℕ, zero, suc, ◌<◌, List, [], ◌∷◌, length, map, get_or, Option, Some, Result, Ok, Err, OnErr, sym, ap, ◌∙◌, arith}
+use Rattle.std.proofs.Common.{◌≡◌, ℕ, zero, suc, ◌<◌, List, [], ◌∷◌, length, map, get_or, Option, Some, Result, Ok, Err, OnOk, OnErr, sym, ap, ◌∙◌, arith}
 use Rattle.std.specs.Prelude.{slice_get, slice_set, slice_index_or, unwrap_or}
 use Rattle.std.proofs.lemmas.Option.{unwrap_or-slice_get}
 
@@ -9,12 +9,6 @@ pub map-kept : {X Y : Type 0} (g : X → Y) (xs : List X) (place : ℕ) (old new
 map-kept g [] place old new within at same = absurd (omega (arith, within))
 map-kept g (x ∷ xs) zero old new within at same = λ i. (same ∙ ap g at) i ∷ map g xs
 map-kept g (x ∷ xs) (suc place) old new within at same = λ i. g x ∷ map-kept g xs place old new (omega (arith, within)) at same i
-
--- what is there is one of the elements
-pub got_within : {X Y : Type 0} (g : X → Y) (xs : List X) (place : ℕ) (y : Y) → slice_get (map g xs) place ≡ Some y → place < length xs
-got_within g [] place y at = absurd cc
-got_within g (x ∷ xs) zero y at = omega arith
-got_within g (x ∷ xs) (suc place) y at = omega (arith, got_within g xs place y at)
 
 pub got_is : {X Y : Type 0} (g : X → Y) (xs : List X) (place : ℕ) (old : X) (y : Y)
     → old ≡ get_or xs place old → slice_get (map g xs) place ≡ Some y → g old ≡ y
@@ -30,3 +24,12 @@ or_else_is xs place d got is = sym (unwrap_or-slice_get xs place d) ∙ ap (λ o
 pub on_err : {A E P : Type 0} (r : Result A E) → P → OnErr r P
 on_err (Ok a) holds = tt
 on_err (Err e) holds = holds
+
+-- what follows where there is none, and where there is one
+pub then_ok : {A E P Q : Type 0} (r : Result A E) → (P → Q) → OnOk r P → OnOk r Q
+then_ok (Ok a) follows holds = follows holds
+then_ok (Err e) follows holds = tt
+
+pub then_err : {A E P Q : Type 0} (r : Result A E) → (P → Q) → OnErr r P → OnErr r Q
+then_err (Ok a) follows holds = tt
+then_err (Err e) follows holds = follows holds

@@ -4,9 +4,11 @@ ghost use Rattle.std.specs.Prelude.{◌≡◌, IsTrue, length, [], ◌∷◌, tr
 ghost use Rattle.std.specs.Arc.{arc_value};
 ghost use Rattle.flame_rows.specs.Bags.{ascending, merge};
 ghost use Rattle.flame_index.specs.FrozenBoards.{messages_on, shared_messages};
+ghost use Rattle.flame_field.specs.KeptGatherings.{bag_of};
 ghost use Rattle.flame_field.specs.KeptBoards.{board_bag, board_keeps, is_board_frozen, is_board_shared};
 ghost use Rattle.flame_field.specs.KeptOrders.{KeepsWanted};
 
+use crate::gatherings::Gathering;
 use crate::keeping::{Want, keep};
 use flame_index::Frozen;
 use flame_rows::{Bag, NoMemory, Row};
@@ -18,18 +20,11 @@ use std::sync::Arc;
 #[derive(Debug, Drop)]
 pub enum Board {
     /// Messages still come, in any order.
-    Gathering(Vec<Row>),
+    Gathering(Gathering),
     /// No message comes any more.
     Frozen(Frozen),
     /// The same, where those who read it may share it.
     Shared(Arc<Frozen>),
-}
-
-/// Puts rows in order, where memory is found. std's sort keeps the runs that ascend already, and merges them.
-fn put_in_order(rows: &mut Vec<Row>)
-    ensures { ascending rows.new.items ≡ ascending rows.old.items }
-{
-    let _sorted = rows.sort();
 }
 
 /// The board, whose messages stand in order.
@@ -71,7 +66,7 @@ impl Board {
         ensures bag { board_bag result ≡ [] }
         ensures gathers { is_board_frozen result ≡ false }
     {
-        Board::Gathering(Vec::new(alloc))
+        Board::Gathering(Gathering::empty(alloc))
     }
 
     /// Whether no message comes any more.
@@ -101,7 +96,7 @@ impl Board {
         ensures keeps { board_keeps self.new ≡ board_keeps self.old }
     {
         match self {
-            Board::Gathering(rows) => put_in_order(rows),
+            Board::Gathering(messages) => messages.put_in_order(),
             Board::Frozen(_) => {}
             Board::Shared(_) => {}
         }
@@ -115,9 +110,9 @@ impl Board {
         ensures left { IsTrue (is_board_frozen self.old) → self.new ≡ self.old }
         ensures keeps { board_keeps self.new ≡ board_keeps self.old }
     {
-        if let Board::Gathering(rows) = self {
-            let empty = Vec::new(*rows.allocator());
-            let gathered = mem::replace(rows, empty);
+        if let Board::Gathering(messages) = self {
+            let empty = Vec::new(*messages.rows.allocator());
+            let gathered = mem::replace(&mut messages.rows, empty);
             *self = Board::Frozen(Frozen::of(Bag::gathered(gathered)));
         }
     }
@@ -172,13 +167,13 @@ impl Board {
     }
 
     /// The board as it gathers, whether it was frozen or not.
-    fn into_rows(self) -> Result<Vec<Row>, NoMemory>
-        ensures { IfOk result (λ rows. ascending rows.items ≡ board_bag self) }
+    fn into_gathering(self) -> Result<Gathering, NoMemory>
+        ensures { IfOk result (λ messages. bag_of messages ≡ board_bag self) }
     {
         match self {
-            Board::Gathering(rows) => Ok(rows),
-            Board::Frozen(board) => Ok(board.into_bag().into_rows()),
-            Board::Shared(board) => Ok(unshared(board)?.into_rows()),
+            Board::Gathering(messages) => Ok(messages),
+            Board::Frozen(board) => Ok(Gathering::of(board.into_bag())),
+            Board::Shared(board) => Ok(Gathering::of(unshared(board)?)),
         }
     }
 
@@ -188,8 +183,8 @@ impl Board {
         ensures gathers { OnOk result (is_board_frozen self.new ≡ false) }
     {
         if self.is_frozen() {
-            let rows = mem::replace(self, Board::empty(alloc)).into_rows()?;
-            *self = Board::Gathering(rows);
+            let messages = mem::replace(self, Board::empty(alloc)).into_gathering()?;
+            *self = Board::Gathering(messages);
         }
         Ok(())
     }
@@ -200,7 +195,7 @@ impl Board {
         ensures { OnOk result (board_bag self.new ≡ merge (board_bag self.old) (row ∷ [])) }
     {
         match self {
-            Board::Gathering(rows) => rows.push(row)?,
+            Board::Gathering(messages) => messages.add(row)?,
             Board::Frozen(_) => unreachable!(),
             Board::Shared(_) => unreachable!(),
         }
@@ -221,7 +216,7 @@ impl Board {
         ensures { IfOk result (λ bag. bag ≡ board_bag self) }
     {
         match self {
-            Board::Gathering(rows) => Bag::of_rows(rows),
+            Board::Gathering(messages) => messages.into_bag(),
             Board::Frozen(board) => {
                 let _in_order = in_order(&board);
                 Ok(board.into_bag())

@@ -1,16 +1,18 @@
-//! Agents that come together.
+//! Rows that come together.
 
-ghost use Rattle.std.specs.Prelude.{◌≡◌, ◌+◌, ◌≤◌, [], ◌∷◌, IfOk, OnOk, OnErr};
-ghost use Rattle.std.specs.Vec.{vec_len, vec_capacity};
+ghost use Rattle.std.specs.Prelude.{◌≡◌, ◌==◌, [], ◌∷◌, IfOk, OnOk, OnErr};
+ghost use Rattle.std.specs.Vec.{vec_len};
 ghost use Rattle.flame_rows.specs.Bags.{ascending, merge};
-ghost use Rattle.flame_field.specs.KeptPools.{bag_of};
+ghost use Rattle.flame_field.specs.KeptGatherings.{bag_of, HasRoom};
 
 use flame_rows::{Bag, NoMemory, Row};
 use std::alloc::Global;
 
-/// Rows that come together, in any order. They are put in order when their bag is taken.
+/// Rows that come together, in any order. What comes in ascending runs stands there in ascending runs, which are merged when
+/// the rows are put in order.
 #[derive(Debug, Drop)]
 pub struct Gathering {
+    /// The rows, as they came.
     pub rows: Vec<Row>,
 }
 
@@ -34,6 +36,20 @@ impl Gathering {
         }
     }
 
+    /// How many rows there are.
+    pub fn len(&self) -> usize
+        ensures { result ≡ vec_len self.now.rows }
+    {
+        self.rows.len()
+    }
+
+    /// Whether there are none.
+    pub fn is_empty(&self) -> bool
+        ensures { result ≡ (vec_len self.now.rows == 0) }
+    {
+        self.rows.is_empty()
+    }
+
     /// Adds a row.
     pub fn add(&mut self, row: Row) -> Result<(), NoMemory>
         ensures ok { OnOk result (bag_of self.new ≡ merge (bag_of self.old) (row ∷ [])) }
@@ -43,43 +59,47 @@ impl Gathering {
         Ok(())
     }
 
-    /// Adds some rows.
-    pub fn add_all(&mut self, rows: Vec<Row>) -> Result<(), NoMemory>
-        ensures ok { OnOk result (bag_of self.new ≡ merge (bag_of self.old) rows.items) }
-        ensures err { OnErr result (bag_of self.new ≡ bag_of self.old) }
-    {
-        let mut rows = rows;
-        self.rows.append(&mut rows)?;
-        Ok(())
-    }
-
-    /// Makes room for so many rows more.
+    /// Makes room for so many rows that come together. Where there are none yet no memory is taken, since what comes is
+    /// then taken as it stands.
     pub fn make_room(&mut self, rows: usize) -> Result<(), NoMemory>
         ensures same { bag_of self.new ≡ bag_of self.old }
-        ensures room { OnOk result (vec_len self.new.rows + rows ≤ vec_capacity self.new.rows) }
+        ensures room { OnOk result (HasRoom rows self.new) }
     {
+        if self.rows.is_empty() {
+            return Ok(());
+        }
         self.rows.reserve(rows)?;
         Ok(())
     }
 
-    /// Adds some rows, for which there is room.
+    /// Adds some rows, for which there is room. Where there were none, their list is taken as it stands.
     pub fn put(&mut self, rows: Vec<Row>)
-        requires { vec_len self.old.rows + vec_len rows ≤ vec_capacity self.old.rows }
+        requires { HasRoom (vec_len rows) self.old }
         ensures { bag_of self.new ≡ merge (bag_of self.old) (ascending rows.items) }
     {
+        if self.rows.is_empty() {
+            self.rows = rows;
+            return;
+        }
         let mut rows = rows;
         let _room = self.rows.append(&mut rows);
     }
 
-    /// The bag of the rows, copied.
-    pub fn copied(&self) -> Result<Bag, NoMemory>
-        ensures { IfOk result (λ bag. bag ≡ bag_of self.now) }
+    /// The same, for which room is made.
+    pub fn add_all(&mut self, rows: Vec<Row>) -> Result<(), NoMemory>
+        ensures ok { OnOk result (bag_of self.new ≡ merge (bag_of self.old) (ascending rows.items)) }
+        ensures err { OnErr result (bag_of self.new ≡ bag_of self.old) }
     {
-        let mut copies = Vec::new(*self.rows.allocator());
-        for row in &self.rows {
-            copies.push(row.copy()?)?;
-        }
-        Bag::of_rows(copies)
+        self.make_room(rows.len())?;
+        self.put(rows);
+        Ok(())
+    }
+
+    /// Puts the rows in order, where memory is found. std's sort keeps the runs that ascend already, and merges them.
+    pub fn put_in_order(&mut self)
+        ensures { bag_of self.new ≡ bag_of self.old }
+    {
+        let _sorted = self.rows.sort();
     }
 
     /// The bag of the rows.

@@ -12,5 +12,5 @@ pub use boards::Board;
 pub use fields::Field;
 pub use gatherings::Gathering;
 pub use keeping::Want;
-pub use pools::{exchange, exchanged, pool_of};
+pub use pools::{Pool, exchange, exchanged, pool_of};
 pub use sharing::share;

@@ -1,7 +1,7 @@
 -- The choices by numbers are those of the model.
 use Rattle.std.proofs.Common.{◌≡◌, ℕ, zero, suc, ◌+◌, ◌≤◌, Bool, true, false, cond, List, [], ◌∷◌, map, Option, Some, None, refl, sym, ap, ◌∙◌, arith, inl, inr, add-zero}
 use Rattle.std.specs.Prelude.{ℤ, ◌==◌, not, ◌&&◌}
-use Rattle.std.specs.List.{AllZip, find, filter, slice_get, position_from}
+use Rattle.std.specs.List.{AllZip, find, filter, slice_get, position_from, position_or_len}
 use Rattle.std.specs.Option.{option_map_or}
 use Rattle.std.proofs.lemmas.Bool.Decides.{eqb_tells}
 use Rattle.std.proofs.lemmas.List.Folds.{find_at}
@@ -18,7 +18,7 @@ use Rattle.flame_cond.specs.declared.forms.Test.{Test}
 use Rattle.flame_pool.specs.Choosing.{lets_through, admits, first_place}
 use Rattle.flame_rows.specs.Parted.{whose}
 use Rattle.flame_cond.specs.Said.{IsConditionOf}
-use Rattle.flame_pool.specs.PoolLaws.{permits_at, ChoiceIsFirstOut, PlaceIsChoice, WhoseAreTakers}
+use Rattle.flame_pool.specs.PoolLaws.{permits_at, chosen_place, ChoiceIsFirstOut, FirstIsChosenPlace, PlaceIsChoice, TakersByPlace, WhoseAreTakers}
 
 -- ---- the first of all that pass two tests is the first, of those that pass one, that passes the other
 
@@ -34,6 +34,23 @@ module _ {X : Type 0} (p q : X → Bool) where
       elim (p x) as (λ t. find test (cond t (i ∷ numbers_from p (i + 1) xs) (numbers_from p (i + 1) xs))
       ≡ cond (t && q x) (Some i) (position_from (λ y. p y && q y) (i + 1) xs)) [
         | true ↦ (λ j. cond (here j) (Some i) (later j))
+        | false ↦ later
+      ]
+
+-- ---- the first is the same by tests that tell the same of each number
+
+module _ {X : Type 0} (p : X → Bool) (one other : ℕ → Bool) where
+  pub same-place : (i : ℕ) (xs : List X)
+      → ((k : ℕ) (x : X) → slice_get xs k ≡ Some x → one (i + k) ≡ other (i + k))
+      → position_or_len one (numbers_from p i xs) ≡ position_or_len other (numbers_from p i xs)
+  same-place i [] tells = refl
+  same-place i (x ∷ xs) tells =
+      let here : one i ≡ other i = ap one (sym (add-zero i)) ∙ tells 0 x refl ∙ ap other (add-zero i) in
+      let later =
+      same-place (i + 1) xs (λ k y at. ap one (omega arith) ∙ tells (suc k) y at ∙ ap other (omega arith)) in
+      let rest = numbers_from p (i + 1) xs in
+      elim (p x) as (λ t. position_or_len one (cond t (i ∷ rest) rest) ≡ position_or_len other (cond t (i ∷ rest) rest)) [
+        | true ↦ (λ j. cond (not (here j)) (1 + later j) 0)
         | false ↦ later
       ]
 
@@ -173,3 +190,24 @@ whose_are_takers model conditions agent state iteration pool place function says
       whose-map (λ c. c == place) chosen pool ∙ filter-same _ _ is_it pool,
       whose-map (λ c. not (c == place)) chosen pool ∙ filter-same _ _ (λ memory. ap not (is_it memory)) pool,
     )
+
+pub first_is_chosen_place : FirstIsChosenPlace
+first_is_chosen_place model conditions agent state memory iteration says =
+    same-place (leaves agent state) (admits conditions iteration memory) (permits_at model memory iteration) 0
+    (functions model)
+    (λ k place at.
+    ap (admits conditions iteration memory) (omega arith)
+    ∙ admits-at model.units memory iteration (functions model) conditions says k place at
+    ∙ ap (λ found. option_map_or (λ p. permits p.type model.units p.function.condition memory iteration) found false) (sym at)
+    ∙ ap (permits_at model memory iteration) (omega arith))
+
+pub takers_by_place : TakersByPlace
+takers_by_place model agent state iteration pool place function at =
+    let numbers = functions_out model agent state in
+    let chosen = chosen_place model agent state iteration in
+    let is_it =
+    λ (memory : List ℤ).
+    place-chosen numbers function place at (numbers-once (leaves agent state) function 0 (functions model)) (chosen memory)
+    ∙ ap (is_chosen function) (
+    sym (find_at (permits_at model memory iteration) numbers) ∙ sym (choice_is_first_out model agent state memory iteration)
+    ) in (filter-same _ _ is_it pool, filter-same _ _ (λ memory. ap not (is_it memory)) pool)

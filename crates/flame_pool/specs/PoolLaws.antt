@@ -1,6 +1,6 @@
 -- What the choices by numbers are in the model's own words.
 use Rattle.std.specs.Prelude.{◌≡◌, ℕ, ◌==◌, not, ℤ, List, Bool, false, Option, Some}
-use Rattle.std.specs.List.{find, filter, slice_get}
+use Rattle.std.specs.List.{find, filter, position_or_len, slice_get}
 use Rattle.std.specs.Option.{option_map_or}
 use Rattle.flame_spec.specs.declared.models.Model.{Model}
 use Rattle.flame_spec.specs.Functions.{functions}
@@ -18,6 +18,12 @@ permits_at model memory iteration function =
     (λ place. permits place.type model.units place.function.condition memory iteration)
     (slice_get (functions model) function)
     false
+
+-- the place, among the functions out of a state, of that which an agent takes there; their number where it takes none
+-- [FLAME User Manual]
+abbrev pub chosen_place : Model → ℕ → List ℕ → ℤ → List ℤ → ℕ
+chosen_place model agent state iteration memory =
+    position_or_len (permits_at model memory iteration) (functions_out model agent state)
 
 -- the function that an agent takes is the first of the functions out of its state whose condition holds
 -- [FLAME User Manual; the first: own]
@@ -47,4 +53,22 @@ WhoseAreTakers =
     → let choices = choices_of conditions (functions_out model agent state) iteration pool in
     (whose (λ choice. choice == place) pool choices ≡ takers model agent state function iteration pool)
     × (whose (λ choice. not (choice == place)) pool choices
+    ≡ filter (λ memory. not (is_chosen function (choice model agent state memory iteration))) pool)
+
+-- with the functions out of a state, the first whose condition was read and holds is that of the model
+abbrev pub FirstIsChosenPlace : Type 0
+FirstIsChosenPlace =
+    (model : Model) (conditions : List (Option Test)) (agent : ℕ) (state : List ℕ) (memory : List ℤ) (iteration : ℤ)
+    → AreConditionsOf conditions model
+    → first_place conditions (functions_out model agent state) iteration memory
+    ≡ chosen_place model agent state iteration memory
+
+-- those whose choice is a function's place are its takers, and the others rest on
+abbrev pub TakersByPlace : Type 0
+TakersByPlace =
+    (model : Model) (agent : ℕ) (state : List ℕ) (iteration : ℤ) (pool : List (List ℤ)) (place function : ℕ)
+    → slice_get (functions_out model agent state) place ≡ Some function
+    → (filter (λ memory. chosen_place model agent state iteration memory == place) pool
+    ≡ takers model agent state function iteration pool)
+    × (filter (λ memory. not (chosen_place model agent state iteration memory == place)) pool
     ≡ filter (λ memory. not (is_chosen function (choice model agent state memory iteration))) pool)

@@ -6,4 +6,4 @@ pub mod laws;
 mod pools;
 
 pub use choices::{choose, choose_here, choose_rows};
-pub use pools::{take, take_rows, turn_over};
+pub use pools::{take, turn_over};

@@ -7,7 +7,6 @@ ghost use Rattle.flame_rows.specs.Parted.{whose};
 
 use flame_rows::laws::parted_bags;
 use flame_rows::{Bag, NoMemory, Row, Seq};
-use std::alloc::Global;
 
 /// The agents of the pool whose choice is this number, and all others. No row is copied.
 pub fn take(pool: Bag, choices: &Seq<u32>, number: u32) -> Result<(Bag, Bag), NoMemory>
@@ -20,31 +19,6 @@ pub fn take(pool: Bag, choices: &Seq<u32>, number: u32) -> Result<(Bag, Bag), No
     let _ascending = pool.rows();
     let parts = pool.chosen(choices.items(), number)?;
     Ok(parts)
-}
-
-/// The same of agents in any order: each part has its own in the order in which they were. No row is copied.
-pub fn take_rows(
-    alloc: Global,
-    pool: Vec<Row>,
-    choices: &Seq<u32>,
-    number: u32,
-) -> Result<(Vec<Row>, Vec<Row>), NoMemory>
-    requires { length choices.now ≡ length pool.items }
-    ensures takers { IfOk result (λ parts. parts.0.items ≡ whose (λ choice. choice == number) pool.items choices.now) }
-    ensures others { IfOk result (λ parts. parts.1.items
-        ≡ whose (λ choice. not (choice == number)) pool.items choices.now) }
-{
-    let choices = choices.items();
-    let mut takers = Vec::new(alloc);
-    let mut others = Vec::new(alloc);
-    for (row, choice) in pool.into_iter().zip(choices) {
-        if *choice == number {
-            takers.push(row)?;
-        } else {
-            others.push(row)?;
-        }
-    }
-    Ok((takers, others))
 }
 
 /// All pools and the births together: what a type's agents are after an iteration.

@@ -1,10 +1,10 @@
 -- Agents of all states of a type that are collected, pool by pool.
-use Rattle.std.proofs.Common.{◌≡◌, List, [], ◌∷◌, ◌++◌, length, sym, ap, ◌∙◌, arith}
-use Rattle.std.specs.Prelude.{ℕ, ℤ}
+use Rattle.std.proofs.Common.{◌≡◌, List, [], ◌∷◌, length, sym, ap, ◌∙◌, arith}
+use Rattle.std.specs.Prelude.{ℤ}
 use Rattle.std.specs.List.{flat_map}
-use Rattle.flame_rows.specs.Bags.{ascending, merge}
-use Rattle.flame_rows.proofs.BagLaws.{weigh-append, weigh-ascending}
-use Rattle.flame_rows.proofs.Merging.{ascending-ascending, same_bag}
+use Rattle.flame_rows.specs.Bags.{ascending, merge, merge_all}
+use Rattle.flame_rows.proofs.Merging.{ascending-append, merge-append}
+use Rattle.flame_field.proofs.Gathered.{merge-none}
 
 abbrev Rows : Type 0
 Rows = List (List ℤ)
@@ -13,30 +13,25 @@ abbrev all_rows : List Rows → Rows
 all_rows pools = flat_map (λ pool. pool) pools
 
 -- one pool more
-pub collected-more : (whole : Rows) (pools left : List Rows) (rows so_far after : Rows)
-    → whole ≡ merge (all_rows pools) so_far
-    → pools ≡ ascending rows ∷ left
-    → after ≡ merge so_far rows
-    → whole ≡ merge (all_rows left) after
-collected-more whole pools left rows so_far after is next more =
+pub collected-more : (whole so_far bag after : Rows) (pools left : List Rows)
+    → whole ≡ merge so_far (all_rows pools)
+    → pools ≡ bag ∷ left
+    → after ≡ merge so_far bag
+    → whole ≡ merge after (all_rows left)
+collected-more whole so_far bag after pools left is next more =
     is
-    ∙ ap (λ ps. merge (all_rows ps) so_far) next
-    ∙ same_bag ((ascending rows ++ all_rows left) ++ so_far) (all_rows left ++ merge so_far rows)
-    (λ (weight : List ℤ → ℕ). omega (
-      arith,
-      weigh-append weight (ascending rows ++ all_rows left) so_far,
-      weigh-append weight (ascending rows) (all_rows left),
-      weigh-ascending weight rows,
-      weigh-append weight (all_rows left) (merge so_far rows),
-      weigh-ascending weight (so_far ++ rows),
-      weigh-append weight so_far rows,
-    ))
-    ∙ ap (merge (all_rows left)) (sym more)
+    ∙ ap (λ ps. merge so_far (all_rows ps)) next
+    ∙ sym (merge-append so_far bag (all_rows left))
+    ∙ ap (λ rows. merge rows (all_rows left)) (sym more)
 
 -- where no pool is left, all are collected
-pub collected-all : (whole : Rows) (pools : List Rows) (rows : Rows)
-    → whole ≡ merge (all_rows pools) (ascending rows)
+pub collected-all : (whole rows : Rows) (pools : List Rows)
+    → whole ≡ merge (ascending rows) (all_rows pools)
     → length pools ≡ 0
     → ascending rows ≡ whole
-collected-all whole [] rows is none = sym (is ∙ ascending-ascending rows)
-collected-all whole (pool ∷ pools) rows is none = absurd (omega (arith, none))
+collected-all whole rows [] is none = sym (is ∙ merge-none rows)
+collected-all whole rows (pool ∷ pools) is none = absurd (omega (arith, none))
+
+-- those of all pools and some more
+pub collected-and : (pools : List Rows) (more : Rows) → merge (merge_all pools) more ≡ merge (all_rows pools) more
+collected-and pools more = sym (ascending-append (all_rows pools) more)

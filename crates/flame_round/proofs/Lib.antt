@@ -3,6 +3,8 @@ pub mod StatePlaces
 pub mod NamedNumbers
 pub mod LeftRows
 pub mod Stepped
+pub mod Chosen
+mod Dealt
 pub mod Beginnings
 pub mod Past
 mod Lengths

@@ -1,7 +1,6 @@
 -- What a function comes to, put together from what its agents leave.
 use Rattle.std.proofs.Common.{◌≡◌, ℕ, ◌<◌, List, [], length, map, get_or, Option, Some, None, sym, ap, ◌∙◌, arith, subst, refl}
-use Rattle.std.specs.Prelude.{ℤ, ◌==◌, not, option_map, slice_get, slice_index_or}
-use Rattle.std.specs.List.{filter}
+use Rattle.std.specs.Prelude.{ℤ, option_map, slice_get, slice_index_or}
 use Rattle.flame_spec.specs.declared.models.AgentType.{AgentType}
 use Rattle.flame_spec.specs.declared.models.Model.{Model}
 use Rattle.flame_spec.specs.declared.models.Input.{Input}
@@ -23,12 +22,7 @@ use Rattle.flame_world.proofs.Eachs.{zip_at}
 use Rattle.flame_world.proofs.RowsKept.{place_type}
 use Rattle.flame_route.specs.declared.routes.Route.{Route}
 use Rattle.flame_route.specs.ModelRoutes.{AreLeaving}
-use Rattle.flame_spec.specs.Choice.{choice, functions_out, is_chosen, takers}
-use Rattle.flame_cond.specs.declared.forms.Test.{Test}
-use Rattle.flame_cond.specs.Said.{AreConditionsOf}
-use Rattle.flame_pool.specs.Choosing.{choices_of}
-use Rattle.flame_rows.specs.Parted.{whose}
-use Rattle.flame_pool.proofs.AsChosen.{whose_are_takers}
+use Rattle.flame_spec.specs.Choice.{functions_out}
 use Rattle.flame_round.specs.KeptRounds.{GoesBy, HasRoute}
 use Rattle.flame_round.proofs.Gets.{has-at, mapped-get, position-passes}
 use Rattle.flame_spec.specs.declared.outcomes.Outcome.{Outcome}
@@ -135,26 +129,6 @@ out-is model function place from out at same there =
     ∙ ap (λ k. get_or (map (functions_out model place.agent) (states place.type.functions)) k out) same
     ∙ mapped-get (functions_out model place.agent) out (states place.type.functions) (state_place place.type place.function.current) found.item found.there
     ∙ ap (functions_out model place.agent) (state-there place.type place.function.current found.item found.there)
-
--- ---- choices
-
--- by the choices among the functions out of its state, those in the function's turn are its takers, and the others stay
-pub chosen-takers : (model : Model) (conditions : List (Option Test)) (function : ℕ) (place : Place) (turn : ℕ) (iteration : ℤ)
-    (pool : List (List ℤ)) (out choices : List ℕ)
-    → AreConditionsOf conditions model
-    → slice_get (functions_out model place.agent place.function.current) turn ≡ Some function
-    → out ≡ functions_out model place.agent place.function.current
-    → choices ≡ choices_of conditions out iteration pool
-    → (whose (λ choice. choice == turn) pool choices ≡ takers model place.agent place.function.current function iteration pool)
-    × (whose (λ choice. not (choice == turn)) pool choices
-    ≡ filter (λ memory. not (is_chosen function (choice model place.agent place.function.current memory iteration))) pool)
-chosen-takers model conditions function place turn iteration pool out choices says at is chose =
-    let same : choices ≡ choices_of conditions (functions_out model place.agent place.function.current) iteration pool =
-    chose ∙ ap (λ fs. choices_of conditions fs iteration pool) is in
-    let both = whose_are_takers model conditions place.agent place.function.current iteration pool turn function says at in (
-      ap (whose (λ c. c == turn) pool) same ∙ both.0,
-      ap (whose (λ c. not (c == turn)) pool) same ∙ both.1,
-    )
 
 -- ---- what is read
 

@@ -3,3 +3,4 @@
 -- libmboard: boards
 -- own: a choice of this project, or a word that a definition is made of
 pub mod KeptRounds
+pub mod Choices

@@ -2,21 +2,22 @@
 
 ghost use Rattle.std.specs.Prelude.{◌≡◌, [], ◌∷◌, IfOk, OnOk, map};
 ghost use Rattle.std.specs.List.{flat_map, zip};
-ghost use Rattle.flame_rows.specs.Bags.{merge};
+ghost use Rattle.flame_rows.specs.Bags.{merge, merge_all};
 ghost use Rattle.flame_world.specs.AgentRuns.{births_of};
 ghost use Rattle.flame_world.specs.Fields.{changed, gathered, joined};
 ghost use Rattle.flame_field.specs.KeptBoards.{board_bag};
 ghost use Rattle.flame_field.specs.KeptFields.{field_of};
-ghost use Rattle.flame_field.specs.KeptPools.{bag_of, bags_of, pools_of};
+ghost use Rattle.flame_field.specs.KeptGatherings.{bag_of, bags_of};
+ghost use Rattle.flame_field.specs.KeptPools.{pool_bags, pools_of};
 
-use flame_field::{Board, Field, Gathering};
+use flame_field::{Board, Field, Gathering, Pool};
 use flame_rows::{Bag, NoMemory, Row, Seq};
 use flame_spec::Born;
 use flame_world::{Boards, World};
 use std::alloc::Global;
 
 /// No births of the types that have these pools.
-fn no_births(alloc: Global, types: &[Vec<Gathering>]) -> Result<Vec<Gathering>, NoMemory>
+fn no_births(alloc: Global, types: &[Vec<Pool>]) -> Result<Vec<Gathering>, NoMemory>
     ensures { IfOk result (λ born. bags_of born ≡ map (λ pools. []) types.now) }
 {
     let mut born = Vec::new(alloc);
@@ -39,11 +40,7 @@ fn bear_one(born: &mut Vec<Gathering>, birth: Born) -> Result<(), NoMemory>
 }
 
 /// The births of each of the types that have these pools.
-fn borne(
-    alloc: Global,
-    types: &[Vec<Gathering>],
-    births: Vec<Born>,
-) -> Result<Vec<Gathering>, NoMemory>
+fn borne(alloc: Global, types: &[Vec<Pool>], births: Vec<Born>) -> Result<Vec<Gathering>, NoMemory>
     ensures { IfOk result (λ born. bags_of born ≡ joined (births_of births.items) (map (λ pools. []) types.now)) }
 {
     let mut born = no_births(alloc, types)?;
@@ -53,21 +50,30 @@ fn borne(
     Ok(born)
 }
 
-/// The agents of a type: those in all its states, and its births. They are put in order once.
-fn all_of(pools: Vec<Gathering>, born: Gathering) -> Result<Bag, NoMemory>
-    ensures { IfOk result (λ bag. bag ≡ merge (flat_map (λ pool. pool) (bags_of pools)) (bag_of born)) }
+/// The agents in all states of a type, in any order.
+fn resting(alloc: Global, pools: Vec<Pool>) -> Result<Gathering, NoMemory>
+    ensures { IfOk result (λ all. bag_of all ≡ merge_all (pool_bags pools)) }
 {
-    let mut all = born;
+    let mut all = Gathering::empty(alloc);
     for pool in pools {
-        all.add_all(pool.rows)?;
+        pool.join(&mut all)?;
     }
+    Ok(all)
+}
+
+/// The agents of a type: those in all its states, and its births. They are put in order once.
+fn all_of(alloc: Global, pools: Vec<Pool>, born: Gathering) -> Result<Bag, NoMemory>
+    ensures { IfOk result (λ bag. bag ≡ merge (flat_map (λ pool. pool) (pool_bags pools)) (bag_of born)) }
+{
+    let mut all = resting(alloc, pools)?;
+    all.add_all(born.rows)?;
     all.into_bag()
 }
 
 /// The agents of each type.
 fn agents_of(
     alloc: Global,
-    pools: Vec<Vec<Gathering>>,
+    pools: Vec<Vec<Pool>>,
     born: Vec<Gathering>,
 ) -> Result<Vec<Bag>, NoMemory>
     ensures { IfOk result (λ bags. bags.items
@@ -75,7 +81,7 @@ fn agents_of(
 {
     let mut bags = Vec::new(alloc);
     for (pools, born) in pools.into_iter().zip(born) {
-        bags.push(all_of(pools, born)?)?;
+        bags.push(all_of(alloc, pools, born)?)?;
     }
     Ok(bags)
 }

@@ -12,7 +12,7 @@ mod wants;
 
 pub use closing::closed;
 pub use opening::opened;
-pub use parting::{part, part_rows};
+pub use parting::{choose, count_takers, leave};
 pub use rounds::Round;
 pub use routes::route_of;
 pub use takers::run_over;

@@ -1,22 +1,26 @@
-//! Agents that take a function, and those that stay.
+//! Agents that choose, and those that leave to take a function.
 
-ghost use Rattle.std.specs.Prelude.{◌≡◌, ◌==◌, not, Some, IfOk, length, slice_get};
-ghost use Rattle.flame_rows.specs.Parted.{whose};
-ghost use Rattle.flame_spec.specs.Choice.{takers};
+ghost use Rattle.std.specs.Prelude.{◌≡◌, ℕ, ℤ, List, [], Some, IfOk, OnOk, length, map, slice_get};
+ghost use Rattle.flame_rows.specs.Bags.{ascending};
 ghost use Rattle.flame_spec.specs.Functions.{Place, functions};
-ghost use Rattle.flame_world.specs.Iterations.{staying};
-ghost use Rattle.flame_round.specs.KeptRounds.{GoesBy, round_of};
+ghost use Rattle.flame_spec.specs.States.{state_place};
+ghost use Rattle.flame_world.specs.Fields.{Field, changed_pool};
+ghost use Rattle.flame_world.specs.Iterations.{Round as Standing, staying, taking};
+ghost use Rattle.flame_field.specs.KeptPools.{pool_bag, pool_bags, pools_of, AreDealt, HaveChosen, IsDealt};
+ghost use Rattle.flame_round.specs.Choices.{choice_at, takers_kept};
+ghost use Rattle.flame_round.specs.KeptRounds.{GoesBy, HasRoute};
 
 use crate::rounds::Round;
 use crate::routes::out_of;
-use flame_pool::{choose_rows, take, take_rows};
+use flame_field::{Pool, exchange, pool_of};
+use flame_pool::choose_rows;
 use flame_route::Route;
-use flame_rows::{Bag, NoMemory, Row, Seq, number};
+use flame_rows::{NoMemory, Row, Seq, number};
 use std::alloc::Global;
 
 /// What each of these agents takes, which rest in the state that the function leaves by this route: places among the functions
-/// out of it. By them agents are parted into those that take the function, and those that stay.
-fn choose(
+/// out of it.
+fn choices(
     alloc: Global,
     round: &Round<'_>,
     function: u32,
@@ -24,15 +28,8 @@ fn choose(
     agents: &[Row],
 ) -> Result<Seq<u32>, NoMemory>
     requires { GoesBy round.now.program.now.model function route.now }
-    ensures count { IfOk result (λ choices. length choices ≡ length agents.now) }
-    ensures takers { IfOk result (λ choices. (place : Place)
-        → slice_get (functions round.now.program.now.model) function ≡ Some place
-        → whose (λ choice. choice == route.now.choice) agents.now choices
-        ≡ takers round.now.program.now.model place.agent place.function.current function round.now.iteration agents.now) }
-    ensures others { IfOk result (λ choices. (place : Place)
-        → slice_get (functions round.now.program.now.model) function ≡ Some place
-        → whose (λ choice. not (choice == route.now.choice)) agents.now choices
-        ≡ staying (round_of round.now) function place agents.now) }
+    ensures { IfOk result (λ choices. choices
+        ≡ map (choice_at round.now.program.now.model round.now.iteration route.now.agent route.now.from) agents.now) }
 {
     let functions = out_of(round, function, route);
     // Agents choose by numbers of 32 bits.
@@ -41,43 +38,82 @@ fn choose(
     choose_rows(alloc, agents, conditions, functions, round.iteration)
 }
 
-/// The agents of the pool that take the function which goes by this route, and the others.
-pub fn part(
+/// Those of the pool that have not chosen yet choose. After `NoMemory`, which comes also where 32 bits cannot number the
+/// functions out of the state, nobody did.
+fn deal(
     alloc: Global,
     round: &Round<'_>,
     function: u32,
     route: &Route,
-    pool: Bag,
-) -> Result<(Bag, Bag), NoMemory>
+    pool: &mut Pool,
+) -> Result<(), NoMemory>
     requires { GoesBy round.now.program.now.model function route.now }
-    ensures takers { IfOk result (λ parts. (place : Place)
-        → slice_get (functions round.now.program.now.model) function ≡ Some place
-        → parts.0 ≡ takers round.now.program.now.model place.agent place.function.current function round.now.iteration pool) }
-    ensures others { IfOk result (λ parts. (place : Place)
-        → slice_get (functions round.now.program.now.model) function ≡ Some place
-        → parts.1 ≡ staying (round_of round.now) function place pool) }
+    ensures bag { pool_bag pool.new ≡ pool_bag pool.old }
+    ensures dealt { IsDealt (choice_at round.now.program.now.model round.now.iteration route.now.agent route.now.from) pool.old
+        → IsDealt (choice_at round.now.program.now.model round.now.iteration route.now.agent route.now.from) pool.new }
+    ensures all { OnOk result (pool.new.fresh.rows.items ≡ []) }
+    ensures still { pool.old.fresh.rows.items ≡ [] → pool.new.fresh.rows.items ≡ [] }
 {
-    let choices = choose(alloc, round, function, route, pool.rows())?;
-    take(pool, &choices, route.choice)
+    let choices = choices(alloc, round, function, route, pool.fresh.rows.as_slice())?;
+    let places = out_of(round, function, route).len() + 1;
+    pool.deal(choices.items(), places)
 }
 
-/// The same of agents in any order, which stays theirs.
-pub fn part_rows(
+/// All agents in the state that the function leaves have chosen: each is asked once in each state where it rests, however many
+/// functions leave the state. After `NoMemory`, which comes also where 32 bits cannot number the functions out of the state,
+/// they rest as they did.
+pub fn choose(
     alloc: Global,
     round: &Round<'_>,
     function: u32,
     route: &Route,
-    pool: Vec<Row>,
-) -> Result<(Vec<Row>, Vec<Row>), NoMemory>
-    requires { GoesBy round.now.program.now.model function route.now }
-    ensures takers { IfOk result (λ parts. (place : Place)
-        → slice_get (functions round.now.program.now.model) function ≡ Some place
-        → parts.0.items ≡ takers round.now.program.now.model place.agent place.function.current function round.now.iteration
-        pool.items) }
-    ensures others { IfOk result (λ parts. (place : Place)
-        → slice_get (functions round.now.program.now.model) function ≡ Some place
-        → parts.1.items ≡ staying (round_of round.now) function place pool.items) }
+    pools: &mut Vec<Vec<Pool>>,
+) -> Result<(), NoMemory>
+    requires route { GoesBy round.now.program.now.model function route.now }
+    requires pools { HasRoute (pools_of pools.old) route.now }
+    ensures same { pools_of pools.new ≡ pools_of pools.old }
+    ensures dealt { AreDealt (choice_at round.now.program.now.model round.now.iteration) pools.old
+        → AreDealt (choice_at round.now.program.now.model round.now.iteration) pools.new }
+    ensures chosen { OnOk result (HaveChosen pools.new route.now.agent route.now.from) }
+    ensures stay_chosen { (agent state : ℕ) → HaveChosen pools.old agent state → HaveChosen pools.new agent state }
 {
-    let choices = choose(alloc, round, function, route, pool.as_slice())?;
-    take_rows(alloc, pool, &choices, route.choice)
+    let mut pool = exchange(pools, route.agent, route.from, Pool::empty(alloc));
+    let dealt = deal(alloc, round, function, route, &mut pool);
+    exchange(pools, route.agent, route.from, pool);
+    dealt
+}
+
+/// How many agents take the function which goes by this route, where all in the state that it leaves have chosen.
+pub fn count_takers(route: &Route, pools: &[Vec<Pool>]) -> usize
+    requires { HasRoute (map pool_bags pools.now) route.now }
+    ensures { result ≡ takers_kept route.now pools.now }
+{
+    pool_of(pools, route.agent, route.from).count(route.choice)
+}
+
+/// The agents leave that take the function which goes by this route, where all in the state that it leaves have chosen. They
+/// stand in any order.
+pub fn leave(alloc: Global, route: &Route, pools: &mut Vec<Vec<Pool>>) -> Vec<Row>
+    requires pools { HasRoute (pools_of pools.old) route.now }
+    requires chosen { HaveChosen pools.old route.now.agent route.now.from }
+    ensures count { length result.items ≡ takers_kept route.now pools.old.items }
+    ensures takers { (round : Standing) (function : ℕ) (place : Place) (field : Field)
+        → GoesBy round.source.model function route.now
+        → slice_get (functions round.source.model) function ≡ Some place
+        → AreDealt (choice_at round.source.model round.iteration) pools.old
+        → field.pools ≡ pools_of pools.old
+        → ascending result.items ≡ taking round function place field }
+    ensures others { (round : Standing) (function : ℕ) (place : Place)
+        → GoesBy round.source.model function route.now
+        → slice_get (functions round.source.model) function ≡ Some place
+        → AreDealt (choice_at round.source.model round.iteration) pools.old
+        → pools_of pools.new ≡ changed_pool place.agent (state_place place.type place.function.current)
+        (staying round function place) (pools_of pools.old) }
+    ensures dealt { (choose : ℕ → ℕ → List ℤ → ℕ) → AreDealt choose pools.old → AreDealt choose pools.new }
+    ensures stay_chosen { (agent state : ℕ) → HaveChosen pools.old agent state → HaveChosen pools.new agent state }
+{
+    let mut pool = exchange(pools, route.agent, route.from, Pool::empty(alloc));
+    let takers = pool.take(route.choice);
+    exchange(pools, route.agent, route.from, pool);
+    takers
 }

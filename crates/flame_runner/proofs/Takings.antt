@@ -1,18 +1,8 @@
--- Agents in any order that take a function, and those that stay.
-use Rattle.std.proofs.Common.{◌≡◌, true, false, cond, Bool, List, [], ◌∷◌, sym, Ordering}
-use Rattle.std.specs.Prelude.{ℤ}
-use Rattle.std.specs.List.{filter}
+-- Agents in any order.
+use Rattle.std.proofs.Common.{true, false, cond, List, [], ◌∷◌, Ordering}
 use Rattle.std.specs.Ordering.{is_gt}
-use Rattle.flame_rows.specs.Order.{row_order}
 use Rattle.flame_rows.specs.Sorted.{sorted_by, with_one}
-use Rattle.flame_rows.specs.Bags.{ascending}
-use Rattle.flame_rows.proofs.BagLaws.{rows_tied, rows_total}
-use Rattle.flame_index.proofs.SortedParts.{filter-sorted_by}
 use Rattle.flame_meaning.specs.RangeLaws.{Each}
-
--- the bag of those that pass are those of the bag that pass
-pub ascending-filter : (passes : List ℤ → Bool) (rows : List (List ℤ)) → ascending (filter passes rows) ≡ filter passes (ascending rows)
-ascending-filter passes rows = sym (filter-sorted_by row_order passes rows_total rows_tied rows)
 
 -- what holds of each element of a list in order holds of each element of the list
 each-with_one : {X : Type 0} (P : X → Type 0) (order : X → X → Ordering) (x : X) (xs : List X) → Each P (with_one order x xs) → P x × Each P xs

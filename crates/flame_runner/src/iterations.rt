@@ -5,6 +5,8 @@ ghost use Rattle.flame_spec.specs.ModelOrder.{model_order};
 ghost use Rattle.flame_world.specs.Iterations.{iteration as meant, steps, turn_of};
 ghost use Rattle.flame_world.specs.WorldFits.{FitsField, FitsModel};
 ghost use Rattle.flame_field.specs.KeptFields.{field_of};
+ghost use Rattle.flame_field.specs.KeptPools.{AreDealt};
+ghost use Rattle.flame_round.specs.Choices.{choice_at};
 ghost use Rattle.flame_round.specs.KeptRounds.{round_of};
 ghost use Rattle.flame_runner.specs.KeptSteps.{result_of};
 
@@ -21,6 +23,7 @@ use std::alloc::Global;
 fn run_all(alloc: Global, round: &Round<'_>, field: Field) -> Result<Stepped, NoMemory>
     requires known { length round.now.constants.now ≡ length round.now.program.now.model.constants }
     requires fits { FitsField round.now.program.now.model (field_of field) }
+    requires dealt { AreDealt (choice_at round.now.program.now.model round.now.iteration) field.pools }
     ensures { IfOk result (λ stepped. result_of stepped
         ≡ steps (round_of round.now) (model_order round.now.program.now.model) (field_of field)) }
 {

@@ -1,6 +1,6 @@
 //! One function of an iteration.
 
-ghost use Rattle.std.specs.Prelude.{◌≡◌, ◌<◌, ℤ, List, [], Some, IfOk, OnOk, length, map, slice_get, slice_index_or};
+ghost use Rattle.std.specs.Prelude.{◌≡◌, ◌<◌, ℕ, ℤ, List, [], Some, IfOk, OnOk, length, map, slice_get, slice_index_or};
 ghost use Rattle.std.specs.List.{All};
 ghost use Rattle.flame_rows.specs.Bags.{ascending, merge};
 ghost use Rattle.flame_spec.specs.Before.{function_count};
@@ -15,16 +15,17 @@ ghost use Rattle.flame_world.specs.InputBoards.{boards_named};
 ghost use Rattle.flame_world.specs.Iterations.{step as meant, taking, staying, unless_faulted};
 ghost use Rattle.flame_world.specs.WorldFits.{FitsField};
 ghost use Rattle.flame_leaving.specs.Leavings.{AreLeft};
-ghost use Rattle.flame_field.specs.KeptPools.{pools_of};
+ghost use Rattle.flame_field.specs.KeptPools.{pools_of, AreDealt};
 ghost use Rattle.flame_field.specs.KeptFields.{field_of};
+ghost use Rattle.flame_round.specs.Choices.{choice_at};
 ghost use Rattle.flame_round.specs.KeptRounds.{GoesBy, HasRoute, FitsRun, round_of};
-ghost use Rattle.flame_runner.specs.KeptSteps.{result_of};
+ghost use Rattle.flame_runner.specs.KeptSteps.{result_of, IsOnDealt};
 
-use flame_field::{Field, Gathering, exchange, share};
+use flame_field::{Field, Pool, share};
 use flame_index::Frozen;
 use flame_leaving::Leaving;
 use flame_leaving::laws::parts_make_the_whole;
-use flame_round::{Round, part_rows, route_of, run_over};
+use flame_round::{Round, choose, leave, route_of, run_over};
 use flame_route::Route;
 use flame_rows::{NoMemory, Row, Seq};
 use flame_world::SimFault;
@@ -40,16 +41,17 @@ pub(crate) enum Stepped {
     Faulted(SimFault),
 }
 
-/// The takers of a function leave the state where they rest. They stand in any order.
-fn leave(
+/// The takers of a function leave the state where they rest, once all that rest there have chosen. They stand in any order.
+fn leave_chosen(
     alloc: Global,
     round: &Round<'_>,
     function: u32,
     route: &Route,
-    pools: &mut Vec<Vec<Gathering>>,
+    pools: &mut Vec<Vec<Pool>>,
 ) -> Result<Vec<Row>, NoMemory>
     requires route { GoesBy round.now.program.now.model function route.now }
     requires pools { HasRoute (pools_of pools.old) route.now }
+    requires dealt { AreDealt (choice_at round.now.program.now.model round.now.iteration) pools.old }
     ensures takers { IfOk result (λ takers. (place : Place) (field : Standing)
         → slice_get (functions round.now.program.now.model) function ≡ Some place
         → field.pools ≡ pools_of pools.old
@@ -58,10 +60,10 @@ fn leave(
         → slice_get (functions round.now.program.now.model) function ≡ Some place
         → pools_of pools.new ≡ changed_pool place.agent (state_place place.type place.function.current)
         (staying (round_of round.now) function place) (pools_of pools.old)) }
+    ensures dealt { AreDealt (choice_at round.now.program.now.model round.now.iteration) pools.new }
 {
-    let pool = exchange(pools, route.agent, route.from, Gathering::empty(alloc));
-    let (takers, others) = part_rows(alloc, round, function, route, pool.rows)?;
-    exchange(pools, route.agent, route.from, Gathering { rows: others });
+    choose(alloc, round, function, route, pools)?;
+    let takers = leave(alloc, route, pools);
     Ok(takers)
 }
 
@@ -90,7 +92,9 @@ fn run(
 fn settle(alloc: Global, route: &Route, field: Field, leaving: Leaving) -> Result<Stepped, NoMemory>
     requires to { route.now.to < length (slice_index_or (pools_of field.pools) route.now.agent []) }
     requires messages { All (λ message. message.message < length field.boards.items) leaving.sent.items }
-    ensures { IfOk result (λ stepped. result_of stepped ≡ unless_faulted leaving.fault (record {
+    ensures dealt { IfOk result (λ stepped. (choose : ℕ → ℕ → List ℤ → ℕ) → AreDealt choose field.pools
+        → IsOnDealt choose stepped) }
+    ensures stepped { IfOk result (λ stepped. result_of stepped ≡ unless_faulted leaving.fault (record {
       pools = changed_pool route.now.agent route.now.to (λ pool. merge pool (ascending leaving.survivors.items))
           (field_of field).pools;
       born = joined (births_of leaving.born.items) (field_of field).born;
@@ -125,12 +129,14 @@ pub(crate) fn step(
     requires there { function < function_count round.now.program.now.model }
     requires known { length round.now.constants.now ≡ length round.now.program.now.model.constants }
     requires fits { FitsField round.now.program.now.model (field_of field) }
-    ensures { IfOk result (λ stepped. result_of stepped ≡ meant (round_of round.now) function (field_of field)) }
+    requires dealt { AreDealt (choice_at round.now.program.now.model round.now.iteration) field.pools }
+    ensures dealt { IfOk result (IsOnDealt (choice_at round.now.program.now.model round.now.iteration)) }
+    ensures stepped { IfOk result (λ stepped. result_of stepped ≡ meant (round_of round.now) function (field_of field)) }
 {
     parts_make_the_whole();
     let mut field = field;
     let route = route_of(round, function);
-    let takers = leave(alloc, round, function, route, &mut field.pools)?;
+    let takers = leave_chosen(alloc, round, function, route, &mut field.pools)?;
     let boards = share(alloc, &mut field.boards, route.inputs.items(), round.wants)?;
     let leaving = run(alloc, round, function, takers.as_slice(), boards)?;
     settle(alloc, route, field, leaving)

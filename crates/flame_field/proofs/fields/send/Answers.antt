@@ -8,13 +8,9 @@ use Rattle.flame_world.specs.AgentRuns.{messages_of}
 use Rattle.flame_world.specs.Fields.{joined}
 use Rattle.flame_field.specs.KeptBoards.{board_bag}
 use Rattle.flame_field.proofs.Changed.{map-written}
-use Rattle.flame_field.proofs.Gathered.{board-in_order}
+use Rattle.flame_field.proofs.Gathered.{board-in_order, none_left}
 use Rattle.flame_field.proofs.Joining.{joined-message, joined-nothing}
 use Rattle.flame_field.proofs.fields.send.Goals as goal
-
-none_left : {X : Type 0} (xs : List X) → length xs ≡ 0 → xs ≡ []
-none_left [] none = refl
-none_left (x ∷ xs) none = absurd (omega (arith, none))
 
 pub loop-message-preserved : goal.loop-message-preserved
 loop-message-preserved c =

@@ -1,6 +1,5 @@
-use Rattle.std.proofs.Common.{◌≡◌, ◌∙◌, ◌<◌, ◌++◌, [], ◌∷◌, true, false, List, refl, ap, sym, subst, arith, length, map, take, slice_index_or, ℕ}
+use Rattle.std.proofs.Common.{◌≡◌, ◌∙◌, ◌<◌, ◌++◌, [], ◌∷◌, false, List, refl, ap, sym, subst, arith, length, map, take, slice_index_or, ℕ}
 use Rattle.std.specs.Prelude.{ℤ}
-use Rattle.std.specs.List.{All}
 use Rattle.std.proofs.lemmas.List.{length-set, map-append, take_more}
 use Rattle.flame_rows.proofs.Lists.{slice_index_or-map}
 use Rattle.flame_field.specs.declared.boards.Board.{Board}

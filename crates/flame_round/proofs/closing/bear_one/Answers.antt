@@ -1,6 +1,6 @@
 use Rattle.std.proofs.Common.{[], ◌∷◌, sym, arith}
 use Rattle.flame_rows.specs.Bags.{merge}
-use Rattle.flame_field.specs.KeptPools.{bag_of}
+use Rattle.flame_field.specs.KeptGatherings.{bag_of}
 use Rattle.flame_field.proofs.Changed.{map-written}
 use Rattle.flame_round.proofs.Past.{changed-past}
 use Rattle.flame_round.proofs.closing.bear_one.Goals as goal

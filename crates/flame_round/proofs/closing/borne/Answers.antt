@@ -3,7 +3,7 @@ use Rattle.std.specs.Vec.Iter.{into_iter_items}
 use Rattle.flame_spec.specs.declared.outcomes.Born.{Born}
 use Rattle.flame_world.specs.AgentRuns.{births_of}
 use Rattle.flame_world.specs.Fields.{joined}
-use Rattle.flame_field.specs.KeptPools.{bag_of, bags_of}
+use Rattle.flame_field.specs.KeptGatherings.{bag_of, bags_of}
 use Rattle.flame_field.proofs.Gathered.{bag-in_order}
 use Rattle.flame_field.proofs.Joining.{joined-birth, joined-nothing}
 use Rattle.flame_round.proofs.closing.borne.Goals as goal

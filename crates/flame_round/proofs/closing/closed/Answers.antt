@@ -5,7 +5,7 @@ use Rattle.std.specs.List.{flat_map, zip}
 use Rattle.flame_rows.specs.Bags.{merge}
 use Rattle.flame_world.specs.AgentRuns.{births_of}
 use Rattle.flame_world.specs.Fields.{joined}
-use Rattle.flame_field.specs.declared.gatherings.Gathering.{Gathering}
+use Rattle.flame_field.specs.declared.pools.Pool.{Pool}
 use Rattle.flame_field.specs.KeptPools.{pools_of}
 use Rattle.flame_round.proofs.closing.closed.Goals as goal
 
@@ -14,7 +14,7 @@ returns-clause-world c =
     let field = c.args.field in
     let none : List (List ℤ) = [] in
     let born = c.in_ok-born.ensures
-    ∙ ap (λ (types : List (Vec Gathering Global)). joined (births_of field.born.items) (map (λ pools. none) types)) c.as_slice.ensures.value in
+    ∙ ap (λ (types : List (Vec Pool Global)). joined (births_of field.born.items) (map (λ pools. none) types)) c.as_slice.ensures.value in
     c.of.ensures ∙ c.in_ok-agents_of.ensures
     ∙ ap (λ b. map (λ ((ps, more) : List (List (List ℤ)) × List (List ℤ)). merge (flat_map (λ pool. pool) ps) more) (zip (pools_of field.pools) b)) born
 

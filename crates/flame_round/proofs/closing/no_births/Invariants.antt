@@ -1,5 +1,5 @@
 use Rattle.std.proofs.Common.{◌≡◌, [], map, take}
-use Rattle.flame_field.specs.KeptPools.{bags_of}
+use Rattle.flame_field.specs.KeptGatherings.{bags_of}
 use Rattle.flame_round.proofs.closing.no_births.Given as goal
 
 abbrev pub invariant-loop-pools : goal.invariant-loop-pools

@@ -6,7 +6,7 @@ use Rattle.flame_spec.specs.declared.models.MessageType.{MessageType}
 use Rattle.flame_spec.specs.declared.outcomes.Source.{Source}
 use Rattle.flame_world.specs.AgentRuns.{births_of}
 use Rattle.flame_world.specs.Fields.{begun, joined}
-use Rattle.flame_field.specs.KeptPools.{bags_of}
+use Rattle.flame_field.specs.KeptPools.{pool_bags}
 use Rattle.flame_field.proofs.Joining.{joined-nothing}
 use Rattle.flame_field.proofs.Borne.{same_for_all}
 use Rattle.flame_round.proofs.Lengths.{zip-long}
@@ -16,9 +16,9 @@ pub returns-clause-field : goal.returns-clause-field
 returns-clause-field c =
     let model = c.args.program.now.model in
     let pools = c.in_ok-pools.pools in
-    let pools_are = c.in_ok-pools.ensures in
+    let pools_are = c.in_ok-pools.ensures.bags in
     let long : length pools.items ≡ length model.agents =
-    sym (length-map pools.items bags_of) ∙ ap length pools_are
+    sym (length-map pools.items pool_bags) ∙ ap length pools_are
     ∙ zip-long _ (λ ((type, bag) : AgentType × List (List ℤ)). begun type bag) model.agents c.args.agents c.requires in
     let none : List (List ℤ) = [] in
     let born =

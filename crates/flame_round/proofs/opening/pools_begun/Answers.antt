@@ -1,5 +1,6 @@
-use Rattle.std.proofs.Common.{◌≡◌, ◌∙◌, ◌<◌, ◌++◌, ◌+◌, [], ◌∷◌, List, ap, append_assoc, arith, drop, get_or, length, length-append, map, sym, refl}
+use Rattle.std.proofs.Common.{◌≡◌, ◌∙◌, ◌<◌, ◌++◌, ◌+◌, [], ◌∷◌, List, ap, append_assoc, arith, drop, get_or, length, length-append, map, sym, subst, refl, Vec}
 use Rattle.std.specs.Prelude.{ℤ}
+use Rattle.std.specs.Global.{Global}
 use Rattle.std.specs.List.{zip}
 use Rattle.std.specs.Vec.Iter.{into_iter_items, into_iter_len}
 use Rattle.std.specs.Iterator.Adapters.{zip_first, zip_second}
@@ -13,9 +14,11 @@ use Rattle.flame_spec.specs.States.{is_entered, states}
 use Rattle.flame_route.specs.ModelRoutes.{start_place}
 use Rattle.flame_program.proofs.Acceptances.{accepted-are-runnable}
 use Rattle.flame_world.specs.Fields.{begun, changed}
-use Rattle.flame_field.specs.KeptPools.{bags_of, pools_of}
+use Rattle.flame_field.specs.KeptPools.{pool_bags, pools_of}
 use Rattle.flame_round.proofs.Beginnings.{next-type, nones, some-left, stands-alone}
+use Rattle.flame_field.specs.declared.pools.Pool.{Pool}
 use Rattle.flame_route.proofs.Places.{zip-length}
+use Rattle.flame_round.proofs.Dealt.{each-pushed, all-dealt, all-none, AllDealt, AnyDealt}
 use Rattle.flame_round.proofs.opening.pools_begun.Goals as goal
 
 pub loop-bag-init : goal.loop-bag-init
@@ -48,7 +51,8 @@ loop-bag-init c =
           ∙ ap (λ ps. length (drop (length ps) types)) (sym empty);
       begins =
           (λ i. map (λ ((t, b) : AgentType × List (List ℤ)). begun t b) (zip types (sym bags i)))
-          ∙ ap (λ ps. map bags_of ps ++ map (λ ((t, b) : AgentType × List (List ℤ)). begun t b) (zip (drop (length ps) types) all)) (sym empty);
+          ∙ ap (λ ps. map pool_bags ps ++ map (λ ((t, b) : AgentType × List (List ℤ)). begun t b) (zip (drop (length ps) types) all)) (sym empty);
+      dealt = all-none c.new-pools.result.items empty;
     }
 
 pub begun-requires : goal.begun-requires
@@ -102,8 +106,8 @@ loop-bag-preserved c =
     ∙ (λ i. get_or (c.items-in-loop-bag.ensures i) ((c.len.ensures ∙ c.loop-bag.pools.ok.0) i) lists) in
     let is = c.routes-routes.ensures.leaving.1 k type lists next.there
     (slice_get_read leaving (length leaving) k lists refl (omega (arith, within, c.routes-routes.ensures.leaving.0)) at) in
-    let here : bags_of c.in_ok-own.own ≡ begun type bag =
-    c.in_ok-own.ensures
+    let here : pool_bags c.in_ok-own.own ≡ begun type bag =
+    c.in_ok-own.ensures.bags
     ∙ (λ i. changed (start i) (λ old. ascending bag) (map (λ state. none) ((c.items-states.ensures ∙ is) i)))
     ∙ ap (changed (start_place type) (λ old. ascending bag)) (nones (functions_out model k) none (states type.functions))
     ∙ alone.there in
@@ -119,8 +123,15 @@ loop-bag-preserved c =
           old.begins
           ∙ (λ i. pools_of c.loop-bag.pools ++ map (λ ((t, b) : AgentType × List (List ℤ)). begun t b) (zip (next.left i) (steps.0.0 i)))
           ∙ (λ i. pools_of c.loop-bag.pools ++ (sym here i ∷ map (λ ((t, b) : AgentType × List (List ℤ)). begun t b) (zip (drop (k + 1) types) bags)))
-          ∙ sym (append_assoc (pools_of c.loop-bag.pools) (bags_of c.in_ok-own.own ∷ []) (map (λ ((t, b) : AgentType × List (List ℤ)). begun t b) (zip (drop (k + 1) types) bags)))
+          ∙ sym (append_assoc (pools_of c.loop-bag.pools) (pool_bags c.in_ok-own.own ∷ []) (map (λ ((t, b) : AgentType × List (List ℤ)). begun t b) (zip (drop (k + 1) types) bags)))
           ∙ ap (λ ps. ps ++ map (λ ((t, b) : AgentType × List (List ℤ)). begun t b) (zip (drop (k + 1) types) bags))
-          (sym (ap (map bags_of) c.in_ok-push.ensures.items ∙ map-append bags_of c.loop-bag.pools.items (c.in_ok-own.own ∷ [])))
+          (sym (ap (map pool_bags) c.in_ok-push.ensures.items ∙ map-append pool_bags c.loop-bag.pools.items (c.in_ok-own.own ∷ [])))
           ∙ ap (λ n. pools_of c.push.new.self ++ map (λ ((t, b) : AgentType × List (List ℤ)). begun t b) (zip (drop n types) bags)) (sym more);
+      dealt =
+          subst AllDealt (sym c.in_ok-push.ensures.items)
+          (each-pushed (λ (own : Vec Pool Global). AnyDealt own.items) c.loop-bag.pools.items c.in_ok-own.own old.dealt
+          (λ state pool at choose. c.in_ok-own.ensures.dealt (λ s. choose) state pool at));
     }
+
+pub returns-clause-dealt : goal.returns-clause-dealt
+returns-clause-dealt c choose = all-dealt choose c.loop-bag.pools c.loop-bag.invariant.dealt

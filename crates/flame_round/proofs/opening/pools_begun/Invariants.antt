@@ -6,6 +6,7 @@ use Rattle.std.specs.Slice.Iter.{iter_rest}
 use Rattle.flame_route.specs.ModelRoutes.{start_place}
 use Rattle.flame_world.specs.Fields.{begun}
 use Rattle.flame_field.specs.KeptPools.{pools_of}
+use Rattle.flame_round.proofs.Dealt.{AllDealt}
 use Rattle.flame_round.proofs.opening.pools_begun.Given as goal
 
 abbrev pub invariant-loop-bag : goal.invariant-loop-bag
@@ -19,4 +20,5 @@ invariant-loop-bag l =
       many : length bags ≡ length left;
       begins : map (λ (type, bag). begun type bag) (zip types l.fn.agents)
           ≡ pools_of l.pools ++ map (λ (type, bag). begun type bag) (zip left bags);
+      dealt : AllDealt l.pools.items;
     }

@@ -1,7 +1,8 @@
-use Rattle.std.proofs.Common.{sym, subst}
+use Rattle.std.proofs.Common.{sym, subst, w32, to_z, of_z}
 use Rattle.flame_world.specs.Fields.{Field}
 use Rattle.flame_world.specs.WorldFits.{FitsField}
 use Rattle.flame_world.proofs.WidthsKept.{fitting_worlds_open}
+use Rattle.flame_round.specs.Choices.{choice_at}
 use Rattle.flame_runner.proofs.iterations.iterate.Goals as goal
 
 pub run_all-requires-clause-fits : goal.run_all-requires-clause-fits
@@ -9,3 +10,7 @@ run_all-requires-clause-fits c =
     let model = c.args.program.now.model in
     subst (λ (field : Field). FitsField model field) (sym c.in_ok-field.ensures.field)
     (fitting_worlds_open model c.args.world c.requires)
+
+pub run_all-requires-clause-dealt : goal.run_all-requires-clause-dealt
+run_all-requires-clause-dealt c =
+    c.in_ok-field.ensures.dealt (choice_at c.args.program.now.model (to_z w32 (of_z w32 c.args.iteration)))

@@ -5,8 +5,9 @@ use Rattle.flame_spec.specs.ModelOrder.{model_order}
 use Rattle.flame_world.specs.Iterations.{and_on, step, steps}
 use Rattle.flame_world.proofs.WidthsKept.{fitting_fields_stay}
 use Rattle.flame_field.specs.KeptFields.{field_of}
+use Rattle.flame_round.specs.Choices.{choice_at}
 use Rattle.flame_round.specs.KeptRounds.{round_of}
-use Rattle.flame_runner.specs.KeptSteps.{result_of}
+use Rattle.flame_runner.specs.KeptSteps.{result_of, IsOnDealt}
 use Rattle.flame_round.proofs.Gets.{drop-next}
 use Rattle.flame_runner.proofs.iterations.run_all.Goals as goal
 
@@ -26,10 +27,11 @@ loop-function-preserved c =
     let place = c.loop-function.function-index in
     let function = slice_index_or items place 0 in
     let field = field_of c.loop-function.field in
-    let stepped : step round function field ≡ Ok (field_of c.in-On.next) = sym c.in_ok-next.ensures ∙ ap result_of c.in-On.is in
+    let stepped : step round function field ≡ Ok (field_of c.in-On.next) = sym c.in_ok-next.ensures.stepped ∙ ap result_of c.in-On.is in
     let old = c.loop-function.invariant in
     record {
       fits = fitting_fields_stay round function field (field_of c.in-On.next) old.fits stepped;
+      dealt = subst (IsOnDealt (choice_at round.source.model round.iteration)) c.in-On.is c.in_ok-next.ensures.dealt;
       rest =
           sym (ap (λ r. and_on r (steps round (drop (place + 1) items))) stepped)
           ∙ ap (λ list. steps round list field) (sym (drop-next items place 0 c.loop-function-test.true))

@@ -2,6 +2,7 @@ use Rattle.std.proofs.Common.{◌≡◌, ◌∙◌, ◌<◌, ap, arith, length, 
 use Rattle.std.specs.Prelude.{ℤ, slice_index_or}
 use Rattle.std.specs.List.{All}
 use Rattle.std.proofs.lemmas.List.{length-map}
+use Rattle.std.proofs.lemmas.Result.{IfOk-weaker}
 use Rattle.flame_rows.specs.Order.{row_order}
 use Rattle.flame_spec.specs.Columns.{width}
 use Rattle.flame_spec.specs.declared.outcomes.Outcome.{Outcome}
@@ -18,6 +19,7 @@ use Rattle.flame_field.specs.KeptFields.{field_of}
 use Rattle.flame_field.specs.KeptPools.{pools_of}
 use Rattle.flame_field.proofs.Borne.{pools_long}
 use Rattle.flame_field.proofs.Changed.{changed_pool-length}
+use Rattle.flame_round.specs.Choices.{choice_at}
 use Rattle.flame_round.specs.KeptRounds.{round_of}
 use Rattle.flame_round.proofs.LeftRows.{sent-within}
 use Rattle.flame_round.proofs.NamedNumbers.{numbers-within}
@@ -27,8 +29,8 @@ use Rattle.flame_runner.proofs.Settlings.{came, settled, stepped}
 use Rattle.flame_runner.proofs.Takings.{each-sorted}
 use Rattle.flame_runner.proofs.steps.step.Goals as goal
 
-pub leave-requires-clause-pools : goal.leave-requires-clause-pools
-leave-requires-clause-pools c =
+pub leave_chosen-requires-clause-pools : goal.leave_chosen-requires-clause-pools
+leave_chosen-requires-clause-pools c =
     has-route c.args.round.now.program.now.model c.args.function c.route_of-route.result.now (field_of c.args.field)
     c.route_of-route.ensures c.requires.fits
 
@@ -99,8 +101,8 @@ settle-requires-clause-messages c =
     (subst (λ n. All (λ (s : Sent). s.message < n) (sent_from run c.in_ok-takers.takers.items)) count
     (sent-within source c.args.function all round.constants.now round.iteration round.fuel c.in_ok-takers.takers.items))
 
-pub returns : goal.returns
-returns c =
+pub returns-clause-stepped : goal.returns-clause-stepped
+returns-clause-stepped c =
     let round = c.args.round.now in
     let source = round.program.now in
     let goes = c.route_of-route.ensures in
@@ -116,10 +118,10 @@ returns c =
     let pools = c.in_ok-takers.ensures.others goes.place goes.there in
     let born =
     ap (joined (births_of c.args.field.born.items))
-    (pools_long c.args.field.pools c.leave.new.pools _ _ _ pools) in
+    (pools_long c.args.field.pools c.leave_chosen.new.pools _ _ _ pools) in
     let after : Standing = record {
-      pools = pools_of c.leave.new.pools;
-      born = joined (births_of c.args.field.born.items) (map (λ own. []) c.leave.new.pools.items);
+      pools = pools_of c.leave_chosen.new.pools;
+      born = joined (births_of c.args.field.born.items) (map (λ own. []) c.leave_chosen.new.pools.items);
       boards = map board_bag c.share.new.boards.items;
     } in
     let leaving = c.in_ok-leaving.leaving in
@@ -127,4 +129,9 @@ returns c =
     (stepped (round_of round) c.args.function goes.place field goes.there c.parts_make_the_whole.ensures.survivors
     c.parts_make_the_whole.ensures.messages c.parts_make_the_whole.ensures.births leaving route c.in_ok-takers.takers.items after
     left (c.in_ok-takers.ensures.takers goes.place field goes.there refl) goes.routed.agent goes.routed.to pools born c.in_ok-boards.ensures.bags)
-    c.settle.ensures
+    c.settle.ensures.stepped
+
+pub returns-clause-dealt : goal.returns-clause-dealt
+returns-clause-dealt c =
+    let choose = choice_at c.args.round.now.program.now.model c.args.round.now.iteration in
+    IfOk-weaker c.settle.result _ _ (λ stepped all. all choose c.in_ok-takers.ensures.dealt) c.settle.ensures.dealt
