@@ -1,52 +1,23 @@
--- The parts of a piece, as messages join what it sent, and as they are handed in.
-use Rattle.std.proofs.Common.{◌≡◌, ℕ, zero, suc, ◌+◌, ◌<◌, ◌≤◌, Bool, true, false, cond, List, [], ◌∷◌, ◌++◌, map, Option, Some, None, refl, sym, ap, ◌∙◌, subst, arith, one-add, add-one, ⊎_elim, length, take, drop, get_or, drop-cons}
-use Rattle.std.proofs.lemmas.List.{length-map, take_more}
-use Rattle.std.specs.Prelude.{ℤ, option_map, slice_set, slice_index_or, ◌==◌, not, ◌&&◌, is_none}
-use Rattle.std.specs.List.{count_by, filter, list_all, position_or_len}
-use Rattle.std.proofs.lemmas.Bool.{eq-eqb, ne_eqb, cases_eq}
-use Rattle.std.proofs.lemmas.List.Sums.{length-filter, sum_by-cons}
+-- The parts of a piece, as they are handed in.
+use Rattle.std.proofs.Common.{◌≡◌, ℕ, zero, suc, ◌+◌, ◌<◌, ◌≤◌, Bool, true, false, cond, List, [], ◌∷◌, map, Option, Some, None, refl, sym, ap, ◌∙◌, arith, one-add, ⊎_elim, length, get_or}
+use Rattle.std.specs.Prelude.{ℤ, slice_set, slice_index_or, option_map, ◌==◌, not, ◌&&◌, is_none, is_some, nat_lt}
+use Rattle.std.specs.List.{find, list_all, position, position_or_len}
+use Rattle.std.proofs.lemmas.Bool.{eq-eqb, ne_eqb, cases_eq, ltb-true, ltb-false}
+use Rattle.std.proofs.lemmas.List.{length-map}
+use Rattle.std.proofs.lemmas.List.Sums.{sum_by-cons}
 use Rattle.flame_rows.specs.Bags.{ascending, merge, weigh}
-use Rattle.flame_rows.proofs.BagLaws.{IsAscending-ascending, equal_by_weighings, weigh-ascending, weigh-append}
-use Rattle.flame_spec.specs.declared.outcomes.Sent.{Sent}
+use Rattle.flame_rows.proofs.BagLaws.{weigh-ascending}
+use Rattle.flame_rows.proofs.Lists.{slice_index_or-map}
+use Rattle.flame_rows.proofs.Merging.{merge-ascending}
 use Rattle.flame_spec.specs.Below.{times, HasNoTwice}
-use Rattle.flame_world.specs.AgentRuns.{messages_of}
 use Rattle.flame_events.specs.CoreStates.{part_in}
-use Rattle.flame_events.specs.EventSteps.{with_sent}
-use Rattle.flame_events.proofs.Holding.{messages_of-append}
+use Rattle.flame_field.specs.KeptGatherings.{bag_of}
+use Rattle.flame_field.specs.declared.gatherings.Gathering.{Gathering}
 use Rattle.flame_pieces.specs.declared.works.Output.{Output}
-use Rattle.flame_pieces.specs.KeptWorks.{part_of, messages_in, handed}
+use Rattle.flame_pieces.specs.KeptWorks.{part_of, messages_in}
 
 abbrev one : Bool → ℕ
 one here = cond here 1 0
-
--- ---- messages join
-
-ascending-append : (rows more : List (List ℤ)) → ascending (rows ++ more) ≡ merge (ascending rows) more
-ascending-append rows more =
-    equal_by_weighings (ascending (rows ++ more)) (ascending (ascending rows ++ more)) (IsAscending-ascending (rows ++ more)) (IsAscending-ascending (ascending rows ++ more))
-    (λ weight.
-    weigh-ascending weight (rows ++ more)
-    ∙ weigh-append weight rows more
-    ∙ ap (λ n. n + weigh weight more) (sym (weigh-ascending weight rows))
-    ∙ sym (weigh-append weight (ascending rows) more)
-    ∙ sym (weigh-ascending weight (ascending rows ++ more)))
-
-part_of-append : (sent more : List Sent) (output : Output)
-    → part_of (sent ++ more) output ≡ option_map (λ rows. merge rows (messages_of more output.message)) (part_of sent output)
-part_of-append sent more output =
-    elim output.handed as (λ b. cond b None (Some (ascending (messages_of (sent ++ more) output.message)))
-    ≡ option_map (λ rows. merge rows (messages_of more output.message)) (cond b None (Some (ascending (messages_of sent output.message))))) [
-      | true ↦ refl
-      | false ↦ ap Some (ap ascending (messages_of-append output.message sent more) ∙ ascending-append (messages_of sent output.message) (messages_of more output.message))
-    ]
-
-pub parts-append : (sent more : List Sent) (outputs : List Output)
-    → map (part_of (sent ++ more)) outputs ≡ with_sent (messages_in outputs) more (map (part_of sent) outputs)
-parts-append sent more [] = refl
-parts-append sent more (output ∷ outputs) =
-    let here = part_of-append sent more output in
-    let rest = parts-append sent more outputs in
-    λ i. here i ∷ rest i
 
 -- ---- outputs are handed in
 
@@ -69,7 +40,7 @@ part_in-cons message output outputs part parts =
     ]
 
 -- what stands at the head does not stand in the rest, where nothing stands twice
-apart_head : (output : ℕ) (outputs : List ℕ) → HasNoTwice (output ∷ outputs) → (message : ℕ) → 1 ≤ times message outputs → output ≡ message → ⊥
+pub apart_head : (output : ℕ) (outputs : List ℕ) → HasNoTwice (output ∷ outputs) → (message : ℕ) → 1 ≤ times message outputs → output ≡ message → ⊥
 apart_head output outputs once message there same =
     let counted = sum_by-cons (λ o. cond (o == message) 1 0) output outputs in
     let here = ap one (eq-eqb output message same) in
@@ -80,56 +51,16 @@ once_rest output outputs once message =
     let counted = sum_by-cons (λ o. cond (o == message) 1 0) output outputs in
     omega (arith, counted, once message)
 
-stands : (output : ℕ) (outputs : List ℕ) → 1 ≤ times output (output ∷ outputs)
+pub stands : (output : ℕ) (outputs : List ℕ) → 1 ≤ times output (output ∷ outputs)
 stands output outputs =
     let counted = sum_by-cons (λ o. cond (o == output) 1 0) output outputs in
     let here = ap one (eq-eqb output output refl) in
     omega (arith, counted, here)
 
-stands_behind : (message output : ℕ) (outputs : List ℕ) → 1 ≤ times message outputs → 1 ≤ times message (output ∷ outputs)
+pub stands_behind : (message output : ℕ) (outputs : List ℕ) → 1 ≤ times message outputs → 1 ≤ times message (output ∷ outputs)
 stands_behind message output outputs there =
     let counted = sum_by-cons (λ o. cond (o == message) 1 0) output outputs in
     omega (arith, counted, there)
-
--- parts of messages that stay
-parts_same : (sent after : List Sent) (message : ℕ) → ((other : ℕ) → (other ≡ message → ⊥) → messages_of after other ≡ messages_of sent other)
-    → (outputs : List Output) → ((other : ℕ) → 1 ≤ times other (messages_in outputs) → other ≡ message → ⊥)
-    → map (part_of after) outputs ≡ map (part_of sent) outputs
-parts_same sent after message others [] apart = refl
-parts_same sent after message others (output ∷ outputs) apart =
-    let rest = parts_same sent after message others outputs (λ other there. apart other (stands_behind other output.message (messages_in outputs) there)) in
-    let here : part_of after output ≡ part_of sent output =
-    ap (λ rows. cond output.handed None (Some (ascending rows))) (others output.message (apart output.message (stands output.message (messages_in outputs)))) in
-    λ i. here i ∷ rest i
-
-pub parts_handed : (sent after : List Sent) (message : ℕ) → ((other : ℕ) → (other ≡ message → ⊥) → messages_of after other ≡ messages_of sent other)
-    → (outputs : List Output) (d : Output) → HasNoTwice (messages_in outputs)
-    → map (part_of after)
-    (slice_set outputs (position_or_len (λ o. o == message) (messages_in outputs))
-    (handed (slice_index_or outputs (position_or_len (λ o. o == message) (messages_in outputs)) d)))
-    ≡ slice_set (map (part_of sent) outputs) (position_or_len (λ o. o == message) (messages_in outputs)) None
-parts_handed sent after message others [] d once = refl
-parts_handed sent after message others (output ∷ outputs) d once =
-    let place : ℕ = position_or_len (λ o. o == message) (messages_in outputs) in
-    let P : ℕ → Type 0 = λ k. map (part_of after) (slice_set (output ∷ outputs) k (handed (slice_index_or (output ∷ outputs) k d)))
-    ≡ slice_set (map (part_of sent) (output ∷ outputs)) k None in
-    let at = place-cons message output.message (messages_in outputs) in
-    ⊎_elim
-    (λ (same : output.message ≡ message).
-    let here : position_or_len (λ o. o == message) (output.message ∷ messages_in outputs) ≡ zero = at ∙ ap (λ t. cond t zero (suc place)) (eq-eqb output.message message same) in
-    let rest = parts_same sent after message others outputs (λ other there is. apart_head output.message (messages_in outputs) once other there (same ∙ sym is)) in
-    subst P (sym here) (λ i. None ∷ rest i))
-    (λ (apart : output.message ≡ message → ⊥).
-    let here : position_or_len (λ o. o == message) (output.message ∷ messages_in outputs) ≡ suc place = at ∙ ap (λ t. cond t zero (suc place)) (ne_eqb output.message message apart) in
-    let same : part_of after output ≡ part_of sent output = ap (λ rows. cond output.handed None (Some (ascending rows))) (others output.message apart) in
-    let rest = parts_handed sent after message others outputs d (once_rest output.message (messages_in outputs) once) in
-    subst P (sym here) (λ i. same i ∷ rest i))
-    (cases_eq output.message message)
-
-pub messages-set : (outputs : List Output) (k : ℕ) (d : Output) → messages_in (slice_set outputs k (handed (slice_index_or outputs k d))) ≡ messages_in outputs
-messages-set [] k d = refl
-messages-set (output ∷ outputs) zero d = refl
-messages-set (output ∷ outputs) (suc k) d = ap (λ l. output.message ∷ l) (messages-set outputs k d)
 
 -- ---- everything is handed in
 
@@ -140,131 +71,155 @@ agree f g (message ∷ messages) same =
     let rest = agree f g messages (λ other there. same other (stands_behind other message messages there)) in
     λ i. here i && rest i
 
-none_kept : (sent : List Sent) (output : Output) → output.handed ≡ is_none (part_of sent output)
-none_kept sent output =
-    elim output.handed as (λ b. b ≡ is_none (cond b None (Some (ascending (messages_of sent output.message))))) [
+none_kept : (output : Output) → output.handed ≡ is_none (part_of output)
+none_kept output =
+    elim output.handed as (λ b. b ≡ is_none (cond b None (Some (bag_of output.rows)))) [
       | true ↦ refl
       | false ↦ refl
     ]
 
-pub all_handed : (sent : List Sent) (outputs : List Output) → HasNoTwice (messages_in outputs)
-    → list_all (λ output. output.handed) outputs
-    ≡ list_all (λ message. is_none (part_in (messages_in outputs) (map (part_of sent) outputs) message)) (messages_in outputs)
-all_handed sent [] once = refl
-all_handed sent (output ∷ outputs) once =
-    let parts = map (part_of sent) outputs in
-    let messages = messages_in outputs in
-    let here : output.handed ≡ is_none (part_in (output.message ∷ messages) (part_of sent output ∷ parts) output.message) =
-    none_kept sent output
-    ∙ ap is_none (sym (part_in-cons output.message output.message messages (part_of sent output) parts
-    ∙ ap (λ t. cond t (part_of sent output) (part_in messages parts output.message)) (eq-eqb output.message output.message refl))) in
-    let same = agree
-    (λ message. is_none (part_in (output.message ∷ messages) (part_of sent output ∷ parts) message))
-    (λ message. is_none (part_in messages parts message)) messages
-    (λ message there. ap is_none (part_in-cons message output.message messages (part_of sent output) parts
-    ∙ ap (λ t. cond t (part_of sent output) (part_in messages parts message)) (ne_eqb output.message message (apart_head output.message messages once message there)))) in
-    let rest = all_handed sent outputs (once_rest output.message messages once) ∙ sym same in
-    λ i. here i && rest i
+pub some_kept : (output : Output) → not output.handed ≡ is_some (part_of output)
+some_kept output =
+    elim output.handed as (λ b. not b ≡ is_some (cond b None (Some (bag_of output.rows)))) [
+      | true ↦ refl
+      | false ↦ refl
+    ]
 
--- ---- one output after another
+pub all_handed : (outputs : List Output) → HasNoTwice (messages_in outputs)
+    → list_all (λ output. output.handed) outputs
+    ≡ list_all (λ message. is_none (part_in (messages_in outputs) (map part_of outputs) message)) (messages_in outputs)
+all_handed [] once = refl
+all_handed (output ∷ outputs) once =
+    let parts = map part_of outputs in
+    let messages = messages_in outputs in
+    let here : output.handed ≡ is_none (part_in (output.message ∷ messages) (part_of output ∷ parts) output.message) =
+    none_kept output
+    ∙ ap is_none (sym (part_in-cons output.message output.message messages (part_of output) parts
+    ∙ ap (λ t. cond t (part_of output) (part_in messages parts output.message)) (eq-eqb output.message output.message refl))) in
+    let same = agree
+    (λ message. is_none (part_in (output.message ∷ messages) (part_of output ∷ parts) message))
+    (λ message. is_none (part_in messages parts message)) messages
+    (λ message there. ap is_none (part_in-cons message output.message messages (part_of output) parts
+    ∙ ap (λ t. cond t (part_of output) (part_in messages parts message)) (ne_eqb output.message message (apart_head output.message messages once message there)))) in
+    let rest = all_handed outputs (once_rest output.message messages once) ∙ sym same in
+    λ i. here i && rest i
 
 -- ---- the place of an output
 
-abbrev pub place_of : ℕ → List Output → ℕ
-place_of message outputs = position_or_len (λ o. o == message) (messages_in outputs)
+abbrev pub place_in : ℕ → List Output → ℕ
+place_in message outputs = position_or_len (λ o. o == message) (messages_in outputs)
 
-pub place_here : (outputs : List Output) (i : ℕ) (d : Output) (message : ℕ) → i < length outputs → i ≤ place_of message outputs
-    → (slice_index_or outputs i d).message ≡ message → place_of message outputs ≡ i
-place_here [] i d message within below same = absurd (omega (arith, within))
-place_here (output ∷ outputs) zero d message within below same =
-    place-cons message output.message (messages_in outputs) ∙ ap (λ t. cond t zero (suc (place_of message outputs))) (eq-eqb output.message message same)
-place_here (output ∷ outputs) (suc i) d message within below same =
-    let at = place-cons message output.message (messages_in outputs) in
+abbrev pub test : ℕ → Output → Bool
+test message output = output.message == message
+
+place_is : (message : ℕ) (outputs : List Output) → position_or_len (test message) outputs ≡ place_in message outputs
+place_is message [] = refl
+place_is message (output ∷ outputs) =
+    ap (λ n. cond (not (output.message == message)) (1 + n) 0) (place_is message outputs)
+
+some_or_none : (b : Bool) (k i : ℕ) → cond b (Some k) None ≡ Some i → (b ≡ true) × (k ≡ i)
+some_or_none true k i is = let same : k ≡ i = cc in (refl, same)
+some_or_none false k i is = absurd cc
+
+none_or_some : (b : Bool) (k : ℕ) → (let none : Option ℕ = None in cond b (Some k) None ≡ none) → b ≡ false
+none_or_some true k is = absurd cc
+none_or_some false k is = refl
+
+pub place_found : (message : ℕ) (outputs : List Output) (i : ℕ) → position (test message) outputs ≡ Some i
+    → (i < length outputs) × (place_in message outputs ≡ i)
+place_found message outputs i found =
+    let parts = some_or_none (nat_lt (position_or_len (test message) outputs) (length outputs)) (position_or_len (test message) outputs) i found in
+    let within = ltb-true (position_or_len (test message) outputs) (length outputs) parts.0 in
+    (omega (arith, within, parts.1), sym (place_is message outputs) ∙ parts.1)
+
+pub place_missing : (message : ℕ) (outputs : List Output) → (let none : Option ℕ = None in position (test message) outputs ≡ none)
+    → length outputs ≤ place_in message outputs
+place_missing message outputs missing =
+    let past = none_or_some (nat_lt (position_or_len (test message) outputs) (length outputs)) (position_or_len (test message) outputs) missing in
+    omega (arith, ltb-false (position_or_len (test message) outputs) (length outputs) past, place_is message outputs)
+
+-- ---- what stands there
+
+pub found_there : (message : ℕ) (outputs : List Output) (i : ℕ) (output : Output) → i < length outputs → place_in message outputs ≡ i
+    → output ≡ get_or outputs i output → find (test message) outputs ≡ Some output
+found_there message [] i output within place at = absurd (omega (arith, within))
+found_there message (first ∷ outputs) i output within place at =
     ⊎_elim
-    (λ (here : output.message ≡ message).
-    let first : place_of message (output ∷ outputs) ≡ zero = at ∙ ap (λ t. cond t zero (suc (place_of message outputs))) (eq-eqb output.message message here) in
-    absurd (omega (arith, first, below)))
-    (λ (apart : output.message ≡ message → ⊥).
-    let later : place_of message (output ∷ outputs) ≡ suc (place_of message outputs) = at ∙ ap (λ t. cond t zero (suc (place_of message outputs))) (ne_eqb output.message message apart) in
-    let rest = place_here outputs i d message (omega (arith, within)) (omega (arith, below, later)) same in
-    later ∙ ap suc rest)
-    (cases_eq output.message message)
+    (λ (same : first.message ≡ message).
+    let here : place_in message (first ∷ outputs) ≡ zero = place-cons message first.message (messages_in outputs)
+    ∙ ap (λ t. cond t zero (suc (place_in message outputs))) (eq-eqb first.message message same) in
+    let none : i ≡ zero = sym place ∙ here in
+    ap (λ t. cond t (Some first) (find (test message) outputs)) (eq-eqb first.message message same)
+    ∙ ap Some (sym (at ∙ ap (λ n. get_or (first ∷ outputs) n output) none)))
+    (λ (apart : first.message ≡ message → ⊥).
+    let here : place_in message (first ∷ outputs) ≡ suc (place_in message outputs) = place-cons message first.message (messages_in outputs)
+    ∙ ap (λ t. cond t zero (suc (place_in message outputs))) (ne_eqb first.message message apart) in
+    let more : i ≡ suc (place_in message outputs) = sym place ∙ here in
+    ap (λ t. cond t (Some first) (find (test message) outputs)) (ne_eqb first.message message apart)
+    ∙ found_there message outputs (place_in message outputs) output (omega (arith, within, more)) refl
+    (at ∙ ap (λ n. get_or (first ∷ outputs) n output) more))
+    (cases_eq first.message message)
 
-pub place_later : (outputs : List Output) (i : ℕ) (d : Output) (message : ℕ) → i < length outputs → i ≤ place_of message outputs
-    → ((slice_index_or outputs i d).message ≡ message → ⊥) → i + 1 ≤ place_of message outputs
-place_later [] i d message within below apart = absurd (omega (arith, within))
-place_later (output ∷ outputs) zero d message within below apart =
-    let later : place_of message (output ∷ outputs) ≡ suc (place_of message outputs) =
-    place-cons message output.message (messages_in outputs) ∙ ap (λ t. cond t zero (suc (place_of message outputs))) (ne_eqb output.message message apart) in
-    omega (arith, later)
-place_later (output ∷ outputs) (suc i) d message within below apart =
-    let at = place-cons message output.message (messages_in outputs) in
+pub found_nowhere : (message : ℕ) (outputs : List Output) → length outputs ≤ place_in message outputs
+    → (let none : Option Output = None in find (test message) outputs ≡ none)
+found_nowhere message [] past = refl
+found_nowhere message (first ∷ outputs) past =
     ⊎_elim
-    (λ (here : output.message ≡ message).
-    let first : place_of message (output ∷ outputs) ≡ zero = at ∙ ap (λ t. cond t zero (suc (place_of message outputs))) (eq-eqb output.message message here) in
-    absurd (omega (arith, first, below)))
-    (λ (other : output.message ≡ message → ⊥).
-    let later : place_of message (output ∷ outputs) ≡ suc (place_of message outputs) = at ∙ ap (λ t. cond t zero (suc (place_of message outputs))) (ne_eqb output.message message other) in
-    let rest = place_later outputs i d message (omega (arith, within)) (omega (arith, below, later)) apart in
-    omega (arith, later, rest))
-    (cases_eq output.message message)
+    (λ (same : first.message ≡ message).
+    let here : place_in message (first ∷ outputs) ≡ zero = place-cons message first.message (messages_in outputs)
+    ∙ ap (λ t. cond t zero (suc (place_in message outputs))) (eq-eqb first.message message same) in
+    absurd (omega (arith, past, here)))
+    (λ (apart : first.message ≡ message → ⊥).
+    let here : place_in message (first ∷ outputs) ≡ suc (place_in message outputs) = place-cons message first.message (messages_in outputs)
+    ∙ ap (λ t. cond t zero (suc (place_in message outputs))) (ne_eqb first.message message apart) in
+    ap (λ t. cond t (Some first) (find (test message) outputs)) (ne_eqb first.message message apart)
+    ∙ found_nowhere message outputs (omega (arith, past, here)))
+    (cases_eq first.message message)
 
--- ---- how many messages
+pub past_end : {X : Type 0} (xs : List X) (k : ℕ) (d : X) → length xs ≤ k → slice_index_or xs k d ≡ d
+past_end [] k d past = refl
+past_end (x ∷ xs) zero d past = absurd (omega (arith, past))
+past_end (x ∷ xs) (suc k) d past = past_end xs k d (omega (arith, past))
 
-pub messages_count : (sent : List Sent) (message : ℕ) → length (messages_of sent message) ≡ count_by (λ (s : Sent). s.message == message) sent
-messages_count sent message =
-    length-map (filter (λ (s : Sent). s.message == message) sent) (λ (s : Sent). s.row) ∙ length-filter (λ (s : Sent). s.message == message) sent
+pub set_past : {X : Type 0} (xs : List X) (k : ℕ) (x : X) → length xs ≤ k → slice_set xs k x ≡ xs
+set_past [] k x past = refl
+set_past (y ∷ xs) zero x past = absurd (omega (arith, past))
+set_past (y ∷ xs) (suc k) x past = ap (λ l. y ∷ l) (set_past xs k x (omega (arith, past)))
 
--- ---- a piece of which nothing ran
+pub part_there : (message : ℕ) (outputs : List Output) (i : ℕ) (output : Output) → i < length outputs → place_in message outputs ≡ i
+    → output ≡ get_or outputs i output → part_in (messages_in outputs) (map part_of outputs) message ≡ part_of output
+part_there message outputs i output within place at =
+    ap (λ k. slice_index_or (map part_of outputs) k None) place ∙ slice_index_or-map part_of None outputs i output within at
 
-pub fresh_parts : (messages : List ℕ)
-    → map (part_of []) (map (λ (m : ℕ). let output : Output = record { message = m; handed = false } in output) messages) ≡ map (λ output. Some []) messages
-fresh_parts [] = refl
-fresh_parts (message ∷ messages) = (let rest = fresh_parts messages in λ i. Some [] ∷ rest i)
+pub part_nowhere : (message : ℕ) (outputs : List Output) → length outputs ≤ place_in message outputs
+    → part_in (messages_in outputs) (map part_of outputs) message ≡ None
+part_nowhere message outputs past =
+    past_end (map part_of outputs) (place_in message outputs) None (omega (arith, past, length-map outputs part_of))
 
-pub fresh_messages : (messages : List ℕ)
-    → messages_in (map (λ (m : ℕ). let output : Output = record { message = m; handed = false } in output) messages) ≡ messages
-fresh_messages [] = refl
-fresh_messages (message ∷ messages) = ap (λ l. message ∷ l) (fresh_messages messages)
+pub put_part : (output : Output) (after : Gathering) (rows : List (List ℤ)) → bag_of after ≡ merge (bag_of output.rows) (ascending rows)
+    → cond output.handed None (Some (bag_of after)) ≡ option_map (λ own. merge own rows) (part_of output)
+put_part output after rows is =
+    elim output.handed as (λ b. cond b None (Some (bag_of after)) ≡ option_map (λ own. merge own rows) (cond b None (Some (bag_of output.rows)))) [
+      | true ↦ refl
+      | false ↦ ap Some (is ∙ merge-ascending (bag_of output.rows) rows)
+    ]
 
--- ---- messages one after another
+-- what was kept for an output that is not handed in
+pub part_kept : (output : Output) (rows : List (List ℤ)) → part_of output ≡ Some rows → bag_of output.rows ≡ rows
+part_kept output rows is = kept output.handed is
+  where
+    kept : (b : Bool) → cond b None (Some (bag_of output.rows)) ≡ Some rows → bag_of output.rows ≡ rows
+    kept true is = absurd cc
+    kept false is = cc
 
-pub one_message : (one : Sent) (message : ℕ) → messages_of (one ∷ []) message ≡ cond (one.message == message) (one.row ∷ []) []
-one_message one message =
-    elim (one.message == message) as (λ t. map (λ (s : Sent). s.row) (cond t (one ∷ []) []) ≡ cond t (one.row ∷ []) []) [ true ↦ refl | false ↦ refl ]
+-- ---- as many as before
 
-pub messages_more : (sent : List Sent) (i : ℕ) (d : Sent) (message : ℕ) → i < length sent
-    → messages_of (take (i + 1) sent) message
-    ≡ messages_of (take i sent) message ++ cond ((get_or sent i d).message == message) ((get_or sent i d).row ∷ []) []
-messages_more sent i d message within =
-    ap (λ l. messages_of l message) (take_more sent i d within)
-    ∙ messages_of-append message (take i sent) (get_or sent i d ∷ [])
-    ∙ ap (λ l. messages_of (take i sent) message ++ l) (one_message (get_or sent i d) message)
+weigh-ones : (rows : List (List ℤ)) → weigh (λ row. 1) rows ≡ length rows
+weigh-ones [] = refl
+weigh-ones (row ∷ rows) = omega (arith, weigh-ones rows)
 
-pub messages_left : (sent : List Sent) (i : ℕ) (d : Sent) (message : ℕ) → i < length sent
-    → messages_of (drop i sent) message
-    ≡ cond ((get_or sent i d).message == message) ((get_or sent i d).row ∷ []) [] ++ messages_of (drop (i + 1) sent) message
-messages_left sent i d message within =
-    ap (λ l. messages_of l message) (drop-cons sent i d within ∙ ap (λ n. get_or sent i d ∷ drop n sent) (sym (add-one i)))
-    ∙ messages_of-append message (get_or sent i d ∷ []) (drop (i + 1) sent)
-    ∙ ap (λ l. l ++ messages_of (drop (i + 1) sent) message) (one_message (get_or sent i d) message)
+length-ascending : (rows : List (List ℤ)) → length (ascending rows) ≡ length rows
+length-ascending rows = sym (weigh-ones (ascending rows)) ∙ weigh-ascending (λ row. 1) rows ∙ weigh-ones rows
 
--- ---- an output is handed in
-
-same_default : {X : Type 0} (xs : List X) (k : ℕ) (d e : X) → k < length xs → slice_index_or xs k d ≡ slice_index_or xs k e
-same_default [] k d e within = absurd (omega (arith, within))
-same_default (x ∷ xs) zero d e within = refl
-same_default (x ∷ xs) (suc k) d e within = same_default xs k d e (omega (arith, within))
-
-pub set_back : {X : Type 0} (xs : List X) (k : ℕ) (d : X) → k < length xs → slice_set xs k (slice_index_or xs k d) ≡ xs
-set_back [] k d within = absurd (omega (arith, within))
-set_back (x ∷ xs) zero d within = refl
-set_back (x ∷ xs) (suc k) d within = ap (λ l. x ∷ l) (set_back xs k d (omega (arith, within)))
-
-pub hand_here : (outputs : List Output) (i message : ℕ) (d e : Output) → i < length outputs → i ≤ place_of message outputs
-    → (slice_index_or outputs i d).message ≡ message
-    → slice_set outputs i (handed (slice_index_or outputs i d))
-    ≡ slice_set outputs (place_of message outputs) (handed (slice_index_or outputs (place_of message outputs) e))
-hand_here outputs i message d e within below same =
-    ap (λ o. slice_set outputs i (handed o)) (same_default outputs i d e within)
-    ∙ ap (λ k. slice_set outputs k (handed (slice_index_or outputs k e))) (sym (place_here outputs i d message within below same))
+pub same_count : (rows more : List (List ℤ)) → ascending rows ≡ ascending more → length rows ≡ length more
+same_count rows more same = sym (length-ascending rows) ∙ ap (length {A = List ℤ}) same ∙ length-ascending more

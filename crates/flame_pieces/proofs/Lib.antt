@@ -3,4 +3,6 @@ mod Things
 pub mod Freeing
 mod Faults
 mod KeptParts
-mod MovedRows
+mod Rooms
+mod ByOutput
+mod Pieces

@@ -2,10 +2,12 @@
 #![tactic(auto)]
 
 pub mod laws;
+mod partings;
 mod statuses;
 mod waits;
 mod works;
 
+pub use partings::parted;
 pub use statuses::Status;
 pub use waits::Waits;
 pub use works::{Output, Work};

@@ -1,14 +1,16 @@
 //! How far functions are.
 
-ghost use Rattle.std.specs.Prelude.{◌≡◌, ◌<◌, ℕ, List, map, length, is_some, slice_get, option_map, IfSome};
+ghost use Rattle.std.specs.Prelude.{◌≡◌, ◌+◌, ◌≤◌, ◌<◌, ℕ, List, map, length, is_some, Some, slice_get, slice_set, option_map, IfSome, OnOk};
+ghost use Rattle.std.specs.Option.{option_or};
 ghost use Rattle.flame_spec.specs.Below.{HasNoTwice};
-ghost use Rattle.flame_events.specs.CoreStates.{fault_in, fault_of, is_shut, is_waiting, works_of};
+ghost use Rattle.flame_events.specs.CoreStates.{Work as Meant, Open, fault_in, fault_of, is_shut, is_waiting, works_of};
 ghost use Rattle.flame_events.specs.EventSteps.{done_with};
 ghost use Rattle.flame_events.specs.LegalEvents.{may_shut};
-ghost use Rattle.flame_pieces.specs.KeptWorks.{work_of, outputs_in};
-ghost use Rattle.flame_pieces.specs.KeptStatuses.{status_of, HasOutputs};
+ghost use Rattle.flame_pieces.specs.KeptWorks.{work_of, outputs_in, with_lists};
+ghost use Rattle.flame_pieces.specs.KeptStatuses.{status_of, HasOutputs, FitOutputs, PieceHasRoom};
 
 use crate::works::{Work, all_over};
+use flame_rows::{NoMemory, Row};
 use flame_world::SimFault;
 use std::mem;
 
@@ -81,6 +83,45 @@ impl Status {
             Status::Open(works) => works.get(piece as usize),
             Status::Shut => None,
             Status::Faulted(_) => None,
+        }
+    }
+
+    /// Makes room in the piece of this number for these messages, a list for each output, in their order.
+    pub fn make_room(&mut self, piece: u32, parts: &[Vec<Row>]) -> Result<(), NoMemory>
+        requires there { piece < length (works_of (status_of self.old)) }
+        requires parts { FitOutputs (length parts.now) self.old }
+        ensures same { status_of self.new ≡ status_of self.old }
+        ensures outputs { (outputs : List ℕ) → HasOutputs outputs self.old → HasOutputs outputs self.new }
+        ensures room { OnOk result (PieceHasRoom parts.now self.new piece) }
+    {
+        match self {
+            Status::Waiting => unreachable!(),
+            Status::Open(works) => works[piece as usize].make_room(parts),
+            Status::Shut => unreachable!(),
+            Status::Faulted(_) => unreachable!(),
+        }
+    }
+
+    /// So many agents more of the piece of this number ran, and sent these messages, a list for each output, in their order, for
+    /// which there is room; the least of them that faulted did so.
+    pub fn add(&mut self, piece: u32, ran: usize, parts: Vec<Vec<Row>>, fault: Option<SimFault>)
+        requires there { piece < length (works_of (status_of self.old)) }
+        requires room { PieceHasRoom parts.items self.old piece }
+        requires left { (work : Meant) → slice_get (works_of (status_of self.old)) piece ≡ Some work
+            → work.ran + ran ≤ length work.agents }
+        ensures status { (work : Meant) → slice_get (works_of (status_of self.old)) piece ≡ Some work
+            → status_of self.new ≡ Open (slice_set (works_of (status_of self.old)) piece (record work {
+              ran = work.ran + ran;
+              parts = with_lists (map (λ rows. rows.items) parts.items) work.parts;
+              fault = option_or work.fault fault;
+            })) }
+        ensures outputs { (outputs : List ℕ) → HasOutputs outputs self.old → HasOutputs outputs self.new }
+    {
+        match self {
+            Status::Waiting => unreachable!(),
+            Status::Open(works) => works[piece as usize].add(ran, parts, fault),
+            Status::Shut => unreachable!(),
+            Status::Faulted(_) => unreachable!(),
         }
     }
 

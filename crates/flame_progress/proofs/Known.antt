@@ -76,32 +76,6 @@ outputs_kept works piece old new outputs less at same all =
     All-set (λ (work : run.Work). outputs_in work ≡ outputs) works piece new
     (same ∙ ap outputs_in at ∙ all piece old less) all
 
--- ---- how pieces are kept
-
--- what a piece keeps of an output that is not handed in
-pub part_is : (sent : List Sent) (outputs : List Output) (message : ℕ) (rows : List (List ℤ))
-    → part_in (messages_in outputs) (map (part_of sent) outputs) message ≡ Some rows
-    → rows ≡ ascending (messages_of sent message)
-part_is sent [] message rows at = absurd cc
-part_is sent (output ∷ outputs) message rows at =
-    (elim (output.message == message) as (λ t. (output.message == message) ≡ t
-    → slice_index_or (part_of sent output ∷ map (part_of sent) outputs) (cond (not t) (1 + position_or_len (λ o. o == message) (messages_in outputs)) 0) None ≡ Some rows
-    → rows ≡ ascending (messages_of sent message)) [
-      | true ↦ λ same here. own output.handed here ∙ ap (λ m. ascending (messages_of sent m)) (eqb-true output.message message same)
-      | false ↦ λ apart later.
-          part_is sent outputs message rows
-          (ap (λ k. slice_index_or (part_of sent output ∷ map (part_of sent) outputs) k None) (next (position_or_len (λ o. o == message) (messages_in outputs))) ∙ later)
-    ])
-    refl at
-  where
-    next : (k : ℕ) → suc k ≡ 1 + k
-    next k = omega arith
-
-    own : (handed : Bool) → (if handed then None else Some (ascending (messages_of sent output.message))) ≡ Some rows
-        → rows ≡ ascending (messages_of sent output.message)
-    own true is = absurd cc
-    own false is = cc
-
 -- ---- messages that may be handed in
 
 pub record Hands (outputs : List ℕ) (work : Option Work) (message : ℕ) : Type 0 where

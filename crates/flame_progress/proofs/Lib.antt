@@ -3,3 +3,4 @@ pub mod Tallied
 pub mod Cores
 pub mod Waiters
 pub mod Allowing
+mod Pieces

@@ -1,21 +1,20 @@
 -- What events make of a piece.
-use Rattle.std.specs.Prelude.{ℕ, ◌+◌, ◌==◌, nat_le, List, length, Option, Some, None, slice_set, Bool, false}
+use Rattle.std.specs.Prelude.{ℕ, ◌+◌, ◌==◌, nat_le, List, map, length, Option, Some, None, slice_set, Bool, false}
 use Rattle.std.specs.List.{All, position_or_len}
 use Rattle.std.specs.Option.{option_or}
 use Rattle.flame_spec.specs.Below.{HasNoTwice}
 use Rattle.flame_events.specs.CoreStates.{Work}
-use Rattle.flame_events.specs.EventSteps.{with_sent}
 use Rattle.flame_pieces.specs.declared.statuses.Status as run
 use Rattle.flame_pieces.specs.declared.statuses.Status.TheVariants as is
-use Rattle.flame_pieces.specs.KeptWorks.{outputs_in}
-use Rattle.flame_leaving.specs.declared.leavings.Leaving.{Leaving}
+use Rattle.flame_pieces.specs.KeptWorks.{outputs_in, with_lists}
+use Rattle.flame_progress.specs.declared.leavings.PartedLeaving.{PartedLeaving}
 
--- so many agents more of it ran, and left this [own]
-abbrev pub added : List ℕ → Leaving → Work → Work
-added outputs leaving work = record work {
-  ran = work.ran + leaving.ran;
-  parts = with_sent outputs leaving.sent.items work.parts;
-  fault = option_or work.fault leaving.fault;
+-- some agents more of it ran, and left this [own]
+abbrev pub added : PartedLeaving → Work → Work
+added left work = record work {
+  ran = work.ran + left.ran;
+  parts = with_lists (map (λ rows. rows.items) left.parts.items) work.parts;
+  fault = option_or work.fault left.fault;
 }
 
 -- there are so many agents left in the piece [own]

@@ -8,3 +8,4 @@ pub mod Tallying
 pub mod ManyWait
 -- ---- the words that only bodies and proofs use
 pub mod KeptWorkEvents
+pub mod KeptRooms

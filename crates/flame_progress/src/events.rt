@@ -23,10 +23,11 @@ pub fn shut(progress: &mut Progress, counts: &mut Counts, function: u32)
     requires known { function < length progress.old.statuses.items }
     requires functions { (thing_at counts.old.functions.things function).done ≡ false }
     requires outputs { (thing_at counts.old.outputs.things function).done ≡ false }
-    ensures { (round : Round) (pieces : ℕ)
+    ensures came { (round : Round) (pieces : ℕ)
         → Tallies round.source.model progress.old counts.old
         → IsTrue (is_legal round.source.model (core_of progress.old) (event.Shut function))
         → Came round.source.model (after round pieces (core_of progress.old) (event.Shut function)) progress.new counts.new }
+    ensures pools { progress.new.field.pools ≡ progress.old.field.pools }
 {
     progress.shut(function);
     if progress.is_shut(function) {
@@ -38,10 +39,11 @@ pub fn shut(progress: &mut Progress, counts: &mut Counts, function: u32)
 pub fn freeze(progress: &mut Progress, counts: &mut Counts, message: u32)
     requires known { message < length progress.old.field.boards.items }
     requires inputs { (thing_at counts.old.inputs.things message).done ≡ false }
-    ensures { (round : Round) (pieces : ℕ)
+    ensures came { (round : Round) (pieces : ℕ)
         → Tallies round.source.model progress.old counts.old
         → IsTrue (is_legal round.source.model (core_of progress.old) (event.Freeze message))
         → Came round.source.model (after round pieces (core_of progress.old) (event.Freeze message)) progress.new counts.new }
+    ensures pools { progress.new.field.pools ≡ progress.old.field.pools }
 {
     progress.freeze(message);
     counts.freeze(message);
@@ -70,6 +72,7 @@ pub fn hand_in(
     ensures err { OnErr result ((round : Round) (counts : Kept)
         → Tallies round.source.model progress.old counts
         → Came round.source.model (core_of progress.old) progress.new counts) }
+    ensures pools { progress.new.field.pools ≡ progress.old.field.pools }
 {
     let is_last = outputs.is_nearly_free(message);
     progress.hand_in(alloc, function, piece, message, is_last)?;

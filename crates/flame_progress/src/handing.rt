@@ -5,7 +5,6 @@ ghost use Rattle.std.specs.Prelude.{slice_set, slice_index_or};
 ghost use Rattle.std.specs.List.{All};
 ghost use Rattle.flame_rows.specs.Bags.{merge};
 ghost use Rattle.flame_spec.specs.Below.{HasNoTwice};
-ghost use Rattle.flame_world.specs.AgentRuns.{messages_of};
 ghost use Rattle.flame_world.specs.Fields.{changed};
 ghost use Rattle.flame_events.specs.CoreStates.{Work as Meant, Open, part_in, works_of};
 ghost use Rattle.flame_pieces.specs.KeptWorks.{work_of, outputs_in};
@@ -27,7 +26,9 @@ fn hand_over(
 ) -> Result<(), NoMemory>
     requires once { HasNoTwice (outputs_in work.old) }
     requires gathers { is_board_frozen board.old ≡ false }
-    ensures board { OnOk result (board_bag board.new ≡ merge (board_bag board.old) (messages_of work.old.sent.items message)) }
+    ensures board { OnOk result ((rows : List (List ℤ))
+        → part_in (outputs_in work.old) (work_of work.old).parts message ≡ Some rows
+        → board_bag board.new ≡ merge (board_bag board.old) rows) }
     ensures work { OnOk result (work_of work.new ≡ without (outputs_in work.old) message (work_of work.old)) }
     ensures gathers { is_board_frozen board.new ≡ false }
     ensures outputs { outputs_in work.new ≡ outputs_in work.old }
@@ -35,9 +36,9 @@ fn hand_over(
     ensures same_work { OnErr result (work_of work.new ≡ work_of work.old) }
 {
     match board {
-        Board::Gathering(rows) => {
-            rows.reserve(work.count(message))?;
-            work.hand_in(alloc, message, rows);
+        Board::Gathering(messages) => {
+            messages.make_room(work.count(message))?;
+            messages.put(work.hand_in(alloc, message));
             Ok(())
         }
         Board::Frozen(_) => unreachable!(),

@@ -4,15 +4,16 @@
 mod counts;
 mod events;
 mod handing;
+mod leavings;
 mod legal;
-mod opening;
 mod progress;
-mod settling;
+mod rooms;
 mod telling;
 
 pub use counts::Counts;
 pub use events::{freeze, hand_in, shut};
+pub use leavings::PartedLeaving;
 pub use legal::allows;
-pub use opening::works_of;
 pub use progress::Progress;
+pub use rooms::PieceRooms;
 pub use telling::{tell_waiters, wait_for};

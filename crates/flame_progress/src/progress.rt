@@ -6,26 +6,25 @@ ghost use Rattle.std.specs.Prelude.{is_some, IfSome, slice_get, slice_set, slice
 ghost use Rattle.flame_rows.specs.Bags.{ascending, merge};
 ghost use Rattle.flame_index.specs.FrozenBoards.{messages_on};
 ghost use Rattle.flame_world.specs.AgentRuns.{births_of};
-ghost use Rattle.flame_world.specs.Fields.{changed, changed_pool, joined, pool_in};
+ghost use Rattle.flame_world.specs.Fields.{changed, changed_pool, joined};
 ghost use Rattle.flame_events.specs.CoreStates.{Work as Meant, Open, is_waiting, is_shut, fault_of, fault_in};
 ghost use Rattle.flame_events.specs.CoreStates.{is_frozen, part_in};
 ghost use Rattle.flame_events.specs.CoreStates.{status_of, work_of, works_of};
 ghost use Rattle.flame_events.specs.EventSteps.{done_with, with_work};
 ghost use Rattle.flame_events.specs.LegalEvents.{may_run, may_hand_in, may_shut};
 ghost use Rattle.flame_pieces.specs.KeptWorks.{work_of as kept_work, outputs_in};
-ghost use Rattle.flame_pieces.specs.KeptStatuses.{status_of as kept_status, HasOutputs};
-ghost use Rattle.flame_field.specs.KeptPools.{bag_of};
+ghost use Rattle.flame_pieces.specs.KeptStatuses.{status_of as kept_status, FitOutputs};
+ghost use Rattle.flame_field.specs.KeptPools.{AreDealt};
 ghost use Rattle.flame_field.specs.KeptBoards.{board_bag, is_board_frozen};
 ghost use Rattle.flame_progress.specs.KeptCores.{core_of, kept_at, HasOutputsAt};
 ghost use Rattle.flame_progress.specs.KeptWorkEvents.{added, are_left, without, OutputsOnce};
 
 use crate::handing::hand_over_at;
-use crate::settling::settle_function;
-use flame_field::{Board, Field, Gathering, exchange, pool_of};
+use crate::leavings::PartedLeaving;
+use flame_field::{Board, Field};
 use flame_index::Frozen;
-use flame_leaving::Leaving;
 use flame_pieces::{Status, Work};
-use flame_rows::{Bag, NoMemory};
+use flame_rows::NoMemory;
 use std::alloc::Global;
 
 /// How far an iteration is: how far each function is, and where agents, births and messages are.
@@ -130,14 +129,6 @@ impl Progress {
         }
     }
 
-    /// The agents that rest in this state of this type.
-    pub fn pool(&self, agent: u32, state: u32) -> &Gathering
-        requires { state < length (slice_index_or (core_of self.now).field.pools agent []) }
-        ensures { bag_of result.now ≡ pool_in (core_of self.now).field.pools agent state }
-    {
-        pool_of(&self.field.pools, agent, state)
-    }
-
     /// The function of this number is done.
     pub(crate) fn shut(&mut self, function: u32)
         requires { function < length self.old.statuses.items }
@@ -147,6 +138,7 @@ impl Progress {
         } }
         ensures outputs { (other : ℕ) (outputs : List ℕ) → HasOutputsAt self.old other outputs
             → HasOutputsAt self.new other outputs }
+        ensures field { self.new.field ≡ self.old.field }
     {
         self.statuses[function as usize].shut();
     }
@@ -158,63 +150,65 @@ impl Progress {
           frozen = slice_set (core_of self.old).frozen message true;
         } }
         ensures statuses { self.new.statuses.items ≡ self.old.statuses.items }
+        ensures pools { self.new.field.pools ≡ self.old.field.pools }
     {
         self.field.boards[message as usize].freeze();
     }
 
-    /// The takers of the function of this number leave their state, in these pieces, and these agents stay.
-    pub fn start(&mut self, function: u32, works: Vec<Work>, agent: u32, state: u32, staying: Bag)
-        requires known { function < length self.old.statuses.items }
-        requires there { state < length (slice_index_or (core_of self.old).field.pools agent []) }
+    /// The function of this number is open, in these pieces.
+    pub fn start(&mut self, function: u32, works: Vec<Work>)
+        requires { function < length self.old.statuses.items }
         ensures core { core_of self.new ≡ record (core_of self.old) {
           statuses = slice_set (core_of self.old).statuses function (Open (map kept_work works.items));
-          field = record (core_of self.old).field {
-            pools = changed_pool agent state (λ old. staying) (core_of self.old).field.pools;
-          };
         } }
         ensures statuses { self.new.statuses.items ≡ slice_set self.old.statuses.items function (Status.Open works) }
+        ensures field { self.new.field ≡ self.old.field }
     {
-        let _gone = exchange(&mut self.field.pools, agent, state, Gathering::of(staying));
         self.statuses[function as usize] = Status::Open(works);
     }
 
-    /// The next agents of a piece of a function ran: those that live on arrive in this state of this type.
+    /// The next agents of a piece of a function ran, and left this, with a list of messages for each output of the function:
+    /// those that live on arrive in this state of this type, their births are set aside, their messages join those of the
+    /// piece, and the piece has the least of their faults where it had none. Nothing changes where no memory is found.
     pub fn settle(
         &mut self,
+        alloc: Global,
         function: u32,
         piece: u32,
         agent: u32,
         state: u32,
-        leaving: Leaving,
+        left: PartedLeaving,
     ) -> Result<(), NoMemory>
-        requires left { are_left leaving.ran (work_of (core_of self.old) function piece) ≡ true }
+        requires left { are_left left.ran (work_of (core_of self.old) function piece) ≡ true }
         requires known { function < length self.old.statuses.items }
+        requires parts { FitOutputs (length left.parts.items) (kept_at self.old function) }
         requires there { state < length (slice_index_or (core_of self.old).field.pools agent []) }
-        ensures ok { OnOk result ((outputs : List ℕ) (work : Meant)
-            → HasOutputsAt self.old function outputs
+        ensures ok { OnOk result ((work : Meant)
             → work_of (core_of self.old) function piece ≡ Some work
             → core_of self.new ≡ record (core_of self.old) {
-              statuses = with_work (core_of self.old) function piece
-                  (added outputs leaving work);
+              statuses = with_work (core_of self.old) function piece (added left work);
               field = record (core_of self.old).field {
-                pools = changed_pool agent state (λ pool. merge pool (ascending leaving.survivors.items))
+                pools = changed_pool agent state (λ pool. merge pool (ascending left.survivors.items))
                     (core_of self.old).field.pools;
-                born = joined (births_of leaving.born.items) (core_of self.old).field.born;
+                born = joined (births_of left.born.items) (core_of self.old).field.born;
               };
             }) }
         ensures outputs { (other : ℕ) (outputs : List ℕ) → HasOutputsAt self.old other outputs
             → HasOutputsAt self.new other outputs }
         ensures err { OnErr result (core_of self.new ≡ core_of self.old) }
+        ensures dealt { (choose : ℕ → ℕ → List ℤ → ℕ) → AreDealt choose self.old.field.pools
+            → AreDealt choose self.new.field.pools }
     {
-        settle_function(
-            &mut self.statuses[function as usize],
-            piece,
-            &mut self.field.pools,
-            agent,
-            state,
-            &mut self.field.born,
-            leaving,
-        )?;
+        let PartedLeaving {
+            ran,
+            survivors,
+            parts,
+            born,
+            fault,
+        } = left;
+        self.statuses[function as usize].make_room(piece, &parts)?;
+        self.field.bring(alloc, agent, state, survivors, born)?;
+        self.statuses[function as usize].add(piece, ran, parts, fault);
         Ok(())
     }
 
@@ -246,6 +240,7 @@ impl Progress {
         ensures outputs { (other : ℕ) (outputs : List ℕ) → HasOutputsAt self.old other outputs
             → HasOutputsAt self.new other outputs }
         ensures err { OnErr result (core_of self.new ≡ core_of self.old) }
+        ensures pools { self.new.field.pools ≡ self.old.field.pools }
     {
         hand_over_at(
             alloc,

@@ -20,8 +20,8 @@ same_outputs : (old new : Progress) → new.statuses.items ≡ old.statuses.item
 same_outputs old new same f outputs has =
     let P : List Status → Type 0 = λ l. HasOutputs outputs (slice_index_or l f Waiting) in subst P (sym same) has
 
-pub returns : goal.returns
-returns c = λ round pieces tallies legal.
+pub returns-clause-came : goal.returns-clause-came
+returns-clause-came c = λ round pieces tallies legal.
     let model = round.source.model in
     let core = core_of c.args.progress.now in
     let m = c.args.message in

@@ -13,8 +13,8 @@ use Rattle.flame_progress.proofs.Known.{may_shut_is}
 use Rattle.flame_progress.proofs.Tallied.{came, counted_kept, counted_shut, status_kept, status_shut}
 use Rattle.flame_progress.proofs.events.shut.Goals as goal
 
-pub returns-else-is_shut : goal.returns-else-is_shut
-returns-else-is_shut c = λ round pieces tallies legal.
+pub returns-else-is_shut-clause-came : goal.returns-else-is_shut-clause-came
+returns-else-is_shut-clause-came c = λ round pieces tallies legal.
     let model = round.source.model in
     let core = core_of c.args.progress.now in
     let f = c.args.function in
@@ -29,8 +29,8 @@ returns-else-is_shut c = λ round pieces tallies legal.
     (length-set core.statuses f v) refl (λ g has. c.shut.ensures.outputs g (outputs_of model g) has) tallies
     (counted_kept model core next c.args.counts.now (status_kept is_shut core.statuses f v less (now ∙ sym was)) refl tallies.counted)
 
-pub returns-then-is_shut : goal.returns-then-is_shut
-returns-then-is_shut c = λ round pieces tallies legal.
+pub returns-then-is_shut-clause-came : goal.returns-then-is_shut-clause-came
+returns-then-is_shut-clause-came c = λ round pieces tallies legal.
     let model = round.source.model in
     let core = core_of c.args.progress.now in
     let f = c.args.function in

@@ -1,15 +1,11 @@
 use Rattle.std.proofs.Common.{◌≡◌, map, sym, ap, ◌∙◌, subst}
 use Rattle.std.specs.Prelude.{Some, slice_set}
 use Rattle.std.proofs.lemmas.List.{map-set}
-use Rattle.flame_rows.specs.Bags.{merge}
 use Rattle.flame_spec.specs.Below.{HasNoTwice}
-use Rattle.flame_world.specs.AgentRuns.{messages_of}
 use Rattle.flame_events.specs.CoreStates.{part_in}
 use Rattle.flame_pieces.specs.KeptWorks.{work_of, outputs_in}
-use Rattle.flame_field.specs.KeptBoards.{board_bag}
 use Rattle.flame_progress.specs.KeptWorkEvents.{without}
-use Rattle.flame_rows.proofs.Merging.{merge-ascending}
-use Rattle.flame_progress.proofs.Known.{outputs_kept, part_is}
+use Rattle.flame_progress.proofs.Known.{outputs_kept}
 use Rattle.flame_field.proofs.Written.{got_is, map-kept, on_err}
 use Rattle.flame_progress.proofs.handing.hand_over_piece.Goals as goal
 
@@ -38,10 +34,7 @@ returns-clause-board c = λ outputs work rows all there part.
     let is : work_of old ≡ work = got_is work_of works c.args.piece old work c.index_mut.ensures.value there in
     let own : part_in (outputs_in old) (work_of old).parts c.args.message ≡ Some rows =
     (λ i. part_in (outs i) (is i).parts c.args.message) ∙ part in
-    let kept = part_is old.sent.items old.outputs.items c.args.message rows own in
-    c.in_ok-hand_over.ensures.board
-    ∙ sym (merge-ascending (board_bag c.args.board.now) (messages_of old.sent.items c.args.message))
-    ∙ ap (merge (board_bag c.args.board.now)) (sym kept)
+    c.in_ok-hand_over.ensures.board rows own
 
 pub returns-clause-works : goal.returns-clause-works
 returns-clause-works c = λ outputs work all there.

@@ -1,9 +1,11 @@
 -- What agents sent joins the parts.
-use Rattle.std.proofs.Common.{◌+◌, ◌<◌, ◌^◌, ◌++◌, Bool, cond, List, length, map, ap, ◌∙◌, subst, arith}
+use Rattle.std.proofs.Common.{◌+◌, ◌<◌, ◌^◌, List, length, map, ap, ◌∙◌, subst, arith}
 use Rattle.std.specs.Option.{option_or}
 use Rattle.std.specs.Prelude.{ℤ}
-use Rattle.flame_pieces.specs.KeptWorks.{part_of}
-use Rattle.flame_pieces.proofs.KeptParts.{parts-append}
+use Rattle.flame_rows.proofs.Lists.{take-written}
+use Rattle.flame_pieces.specs.declared.works.Output.{Output}
+use Rattle.flame_pieces.specs.KeptWorks.{part_of, with_lists}
+use Rattle.flame_pieces.proofs.Rooms.{items_of}
 use Rattle.flame_pieces.proofs.works.Work.add.Goals as goal
 
 pub overflow_add-self : goal.overflow_add-self
@@ -14,9 +16,12 @@ overflow_add-self c =
 
 pub returns-clause-work : goal.returns-clause-work
 returns-clause-work c =
-    let joined = c.append-room.ensures.items
-    ∙ ap (λ (b : Bool). cond b (c.args.self.now.sent.items ++ c.args.sent.items) c.args.self.now.sent.items) (c.append-room.ensures.succeeds c.requires.room) in
-    let parts = ap (λ sent. map (part_of sent) c.args.self.now.outputs.items) joined
-    ∙ parts-append c.args.self.now.sent.items c.args.sent.items c.args.self.now.outputs.items in
+    let work = c.args.self.now in
+    let outputs = c.put_parts.new.outputs in
+    let all_outputs = take-written outputs work.outputs.items work.outputs.len
+    (c.put_parts.auto.outputs ∙ ap (length {A = Output}) c.deref_mut.ensures.value) (omega arith) in
+    let parts = ap (map part_of) all_outputs
+    ∙ c.put_parts.ensures.parts
+    ∙ ap (λ l. with_lists (map items_of c.args.parts.items) (map part_of l)) c.deref_mut.ensures.value in
     let fault = c.or.ensures ∙ ap (λ one. option_or one c.args.fault) c.take-earlier.ensures.value in
-    λ i. record { agents = c.args.self.now.agents; ran = c.args.self.now.ran + c.args.ran; parts = parts i; fault = fault i }
+    λ i. record { agents = work.agents; ran = work.ran + c.args.ran; parts = parts i; fault = fault i }

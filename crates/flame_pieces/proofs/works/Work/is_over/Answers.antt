@@ -10,8 +10,7 @@ use Rattle.flame_pieces.proofs.works.Work.is_over.Goals as goal
 pub returns : goal.returns
 returns c = λ once.
     let outputs = c.args.self.now.outputs.items in
-    let parts = map (part_of c.args.self.now.sent.items) outputs in
     c.all_handed.ensures
     ∙ ap (list_all (λ (output : Output). output.handed)) c.deref.ensures.value
-    ∙ all_handed c.args.self.now.sent.items outputs once
-    ∙ ap (λ b. not b && list_all (λ message. is_none (part_in (messages_in outputs) parts message)) (messages_in outputs)) c.if-has_left.ensures
+    ∙ all_handed outputs once
+    ∙ ap (λ b. not b && list_all (λ message. is_none (part_in (messages_in outputs) (map part_of outputs) message)) (messages_in outputs)) c.if-has_left.ensures
