@@ -1,22 +1,23 @@
 -- What events that run agents leave, put together from what the body makes.
 use Rattle.std.proofs.Common.{◌≡◌, ℕ, ◌+◌, ◌<◌, true, false, Vec, ⊎_elim, get_or-set_same, get_or-set_other, List, [], ◌∷◌, ◌++◌, length, map, Option, Some, None, refl, sym, ap, ◌∙◌, subst, append-nil, Result, IfOk}
 use Rattle.std.specs.Global.{Global}
-use Rattle.std.specs.Prelude.{ℤ, slice_get, slice_index_or, slice_set}
+use Rattle.std.specs.Prelude.{ℤ, option_map, slice_get, slice_index_or, slice_set}
 use Rattle.std.specs.Option.{option_or}
 use Rattle.std.specs.List.{All, cons_option}
 use Rattle.std.proofs.lemmas.Bool.{and_from, cases_eq}
+use Rattle.std.proofs.lemmas.List.{length-map}
 use Rattle.std.proofs.lemmas.Result.{IfOk-weaker}
 use Rattle.flame_rows.specs.Bags.{ascending, merge}
 use Rattle.flame_spec.specs.declared.models.Model.{Model}
 use Rattle.flame_spec.specs.Accepted.{IsAccepted}
-use Rattle.flame_spec.specs.Choice.{takers}
 use Rattle.flame_spec.specs.Functions.{Place, functions}
 use Rattle.flame_world.specs.declared.turns.Turn.{Turn}
 use Rattle.flame_spec.specs.Lists.{first}
-use Rattle.flame_world.specs.AgentRuns.{born_by, births_of, fault_by, kept, sent_by}
+use Rattle.flame_spec.specs.declared.outcomes.Sent.{Sent}
+use Rattle.flame_world.specs.AgentRuns.{born_by, births_of, fault_by, kept, messages_of, sent_by}
 use Rattle.flame_spec.specs.States.{state_place}
-use Rattle.flame_world.specs.Fields.{changed_pool, joined, pool_in}
-use Rattle.flame_world.specs.Iterations.{Round, iteration, outcome_in, staying}
+use Rattle.flame_world.specs.Fields.{changed_pool, joined}
+use Rattle.flame_world.specs.Iterations.{Round, iteration, outcome_in, staying, taking}
 use Rattle.flame_meaning.specs.Outcomes.{outputs_at}
 use Rattle.flame_events.specs.declared.events.Event.{Event}
 use Rattle.flame_events.specs.declared.events.Event.TheVariants as event
@@ -34,8 +35,11 @@ use Rattle.flame_route.proofs.Places.{zip-length}
 use Rattle.flame_pieces.specs.declared.works.Work as run
 use Rattle.flame_pieces.specs.declared.statuses.Status as kept
 use Rattle.flame_pieces.specs.declared.statuses.Status.TheVariants as is
-use Rattle.flame_pieces.specs.KeptWorks.{outputs_in}
-use Rattle.flame_pieces.specs.KeptStatuses.{HasOutputs}
+use Rattle.flame_field.specs.declared.pools.Pool.{Pool}
+use Rattle.flame_field.specs.KeptPools.{pools_of, AreDealt}
+use Rattle.flame_field.proofs.Borne.{none_same}
+use Rattle.flame_pieces.specs.KeptWorks.{outputs_in, with_lists}
+use Rattle.flame_pieces.specs.KeptStatuses.{FitOutputs, HasOutputs}
 use Rattle.flame_progress.specs.declared.counts.Counts.{Counts}
 use Rattle.flame_leaving.specs.declared.leavings.Leaving.{Leaving}
 use Rattle.flame_leaving.specs.Leavings.{AreLeft}
@@ -43,42 +47,69 @@ use Rattle.flame_progress.specs.declared.progress.Progress.{Progress}
 use Rattle.flame_progress.specs.KeptCores.{core_of}
 use Rattle.flame_progress.specs.KeptCounts.{Counted}
 use Rattle.flame_progress.specs.KeptWorkEvents.{added}
-use Rattle.flame_progress.specs.Tallying.{Came}
-use Rattle.flame_field.proofs.Changed.{changed_pool-to}
-use Rattle.flame_progress.proofs.Tallied.{counted_kept, status_kept}
+use Rattle.flame_progress.specs.declared.leavings.PartedLeaving.{PartedLeaving}
+use Rattle.flame_progress.specs.Tallying.{Came, Tallies}
+use Rattle.flame_progress.proofs.Tallied.{came, counted_kept, status_kept}
+use Rattle.flame_round.specs.Choices.{choice_at}
+use Rattle.flame_core.specs.declared.ranks.Ranks.{Ranks}
+use Rattle.flame_core.specs.KeptShares.{ArePartsOf}
+use Rattle.flame_core.specs.FunctionRanks.{AreRanksOf}
 use Rattle.flame_core.specs.KeptReady.{IsKeptCore}
 use Rattle.flame_core.specs.SeenCores.{Seen, IsReached, round_in, start_in, when_came}
 
 -- ---- a function is opened
 
-pub open_is : (round : Round) (pieces f : ℕ) (place : Place) (core : Core) (works : List Work) (agent from : ℕ) (stay pool : List (List ℤ))
+-- no births of any type
+abbrev none_of : Vec (Vec Pool Global) Global → List (List (List ℤ))
+none_of pools = map (λ own. []) pools.items
+
+-- the core where pools are these, of as many types
+pub core_with : (progress : Progress) (pools : Vec (Vec Pool Global) Global) (bags : List (List (List (List ℤ))))
+    → pools_of pools ≡ bags
+    → none_of pools ≡ none_of progress.field.pools
+    → core_of (record progress { field = record progress.field { pools = pools } })
+    ≡ record (core_of progress) { field = record (core_of progress).field { pools = bags } }
+core_with progress pools bags is same = λ i. record {
+  statuses = (core_of progress).statuses;
+  field = record {
+    pools = is i;
+    born = joined (births_of progress.field.born.items) (same i);
+    boards = (core_of progress).field.boards;
+  };
+  frozen = (core_of progress).frozen;
+}
+
+-- agents that chose rest where they did
+pub stays_with : (model : Model) (progress : Progress) (counts : Counts) (pools : Vec (Vec Pool Global) Global)
+    → pools_of pools ≡ pools_of progress.field.pools → Tallies model progress counts
+    → Came model (core_of progress) (record progress { field = record progress.field { pools = pools } }) counts
+stays_with model progress counts pools same tallies =
+    came model progress (record progress { field = record progress.field { pools = pools } }) counts counts
+    (core_of progress) (core_with progress pools (pools_of progress.field.pools) same (none_same progress.field.pools pools (ap length same)))
+    refl refl (λ g has. has) tallies tallies.counted
+
+pub open_is : (round : Round) (pieces f : ℕ) (place : Place) (core : Core) (works : List Work) (agents : List (List ℤ))
+    (pools : List (List (List (List ℤ))))
     → slice_get (functions round.source.model) f ≡ Some place
-    → agent ≡ place.agent
-    → from ≡ state_place place.type place.function.current
-    → pool ≡ pool_in core.field.pools place.agent (state_place place.type place.function.current)
-    → works ≡ map (fresh_work (outputs_at (Some place) round.source.model))
-    (cut pieces (takers round.source.model place.agent place.function.current f round.iteration pool))
-    → stay ≡ staying round f place pool
+    → works ≡ map (fresh_work (outputs_at (Some place) round.source.model)) (cut pieces agents)
+    → agents ≡ taking round f place core.field
+    → pools ≡ changed_pool place.agent (state_place place.type place.function.current) (staying round f place) core.field.pools
     → (let next : Core = record core {
       statuses = slice_set core.statuses f (Open works);
-      field = record core.field { pools = changed_pool agent from (λ old. stay) core.field.pools };
+      field = record core.field { pools = pools };
     } in next)
     ≡ after round pieces core (event.Open f)
-open_is round pieces f place core works agent from stay pool at agent_is from_is pool_is works_is stay_is =
+open_is round pieces f place core works agents pools at works_are takers_are pools_are =
     let model = round.source.model in
     let outputs : outputs_at (Some place) model ≡ outputs_of model f = ap (λ o. outputs_at o model) (sym at) in
-    let all = works_is
-    ∙ (λ i. map (fresh_work (outputs i)) (cut pieces (takers model place.agent place.function.current f round.iteration (pool_is i)))) in
-    let pools = (λ i. changed_pool (agent_is i) (from_is i) (λ old. (stay_is ∙ ap (staying round f place) pool_is) i) core.field.pools)
-    ∙ changed_pool-to place.agent (state_place place.type place.function.current) (staying round f place) core.field.pools in
-    let next : Core = opened round pieces f (Some place) core in
+    let all = works_are ∙ (λ i. map (fresh_work (outputs i)) (cut pieces (takers_are i))) in
     let made_is : (let made : Core = record core {
       statuses = slice_set core.statuses f (Open works);
-      field = record core.field { pools = changed_pool agent from (λ old. stay) core.field.pools };
-    } in made) ≡ next =
+      field = record core.field { pools = pools };
+    } in made) ≡ opened round pieces f (Some place) core =
     λ i. record {
       statuses = slice_set core.statuses f (Open (all i));
-      field = record { pools = pools i; born = core.field.born; boards = core.field.boards };
+      field = record { pools = pools_are i; born = core.field.born; boards = core.field.boards };
       frozen = core.frozen;
     } in
     made_is ∙ sym (ap (λ o. opened round pieces f o core) at)
@@ -89,41 +120,81 @@ first-one : {X : Type 0} (o : Option X) → first (cons_option o []) ≡ o
 first-one None = refl
 first-one (Some x) = refl
 
-pub agent_is : (round : Round) (pieces f k : ℕ) (place : Place) (core : Core) (work : Work) (memory : List ℤ) (leaving : Leaving) (agent to : ℕ)
+-- lists of messages that join parts join them as what was sent does
+pub parts_sent : (outputs : List ℕ) (sent : List Sent) (own : ℕ → List (List ℤ)) (parts : List (Option (List (List ℤ))))
+    → ((m : ℕ) (rows : List (List ℤ)) → merge rows (own m) ≡ merge rows (messages_of sent m))
+    → with_lists (map own outputs) parts ≡ with_sent outputs sent parts
+parts_sent [] sent own parts same = refl
+parts_sent (m ∷ outputs) sent own [] same = refl
+parts_sent (m ∷ outputs) sent own (part ∷ parts) same =
+    let here = by part in
+    λ i. here i ∷ parts_sent outputs sent own parts same i
+  where
+    by : (part : Option (List (List ℤ)))
+        → option_map (λ rows. merge rows (own m)) part ≡ option_map (λ rows. merge rows (messages_of sent m)) part
+    by None = refl
+    by (Some rows) = ap Some (same m rows)
+
+-- pieces with these outputs have as many
+pub fit_outputs : (outputs : List ℕ) (count : ℕ) (status : kept.Status) → count ≡ length outputs → HasOutputs outputs status
+    → FitOutputs count status
+fit_outputs outputs count is.Waiting long has = tt
+fit_outputs outputs count (is.Open works) long has = λ k d less. ap length (has k d less) ∙ sym long
+fit_outputs outputs count is.Shut long has = tt
+fit_outputs outputs count (is.Faulted fault) long has = tt
+
+-- a list for each output
+pub parts_long : (outputs : List ℕ) (leaving : Leaving) (left : PartedLeaving) → ArePartsOf outputs leaving left
+    → length left.parts.items ≡ length outputs
+parts_long outputs leaving left parted =
+    sym (length-map left.parts.items (λ rows. rows.items))
+    ∙ ap length parted.parts_are
+    ∙ length-map outputs (messages_of leaving.sent.items)
+
+pub agent_is : (round : Round) (pieces f k : ℕ) (place : Place) (core : Core) (work : Work) (memory : List ℤ) (leaving : Leaving) (left : PartedLeaving)
+    (agent to : ℕ)
     → slice_get (functions round.source.model) f ≡ Some place
     → work_of core f k ≡ Some work
     → slice_get work.agents work.ran ≡ Some memory
     → agent ≡ place.agent
     → to ≡ state_place place.type place.function.next
     → AreLeft round.iteration f (outcome_in round f core.field) (memory ∷ []) leaving
+    → ArePartsOf (outputs_of round.source.model f) leaving left
     → (let next : Core = record core {
-      statuses = with_work core f k (added (outputs_of round.source.model f) leaving work);
+      statuses = with_work core f k (added left work);
       field = record core.field {
-        pools = changed_pool agent to (λ pool. merge pool (ascending leaving.survivors.items)) core.field.pools;
-        born = joined (births_of leaving.born.items) core.field.born;
+        pools = changed_pool agent to (λ pool. merge pool (ascending left.survivors.items)) core.field.pools;
+        born = joined (births_of left.born.items) core.field.born;
       };
     } in next)
     ≡ after round pieces core (event.Agent f k)
-agent_is round pieces f k place core work memory leaving agent to at there next agent_same to_same left =
+agent_is round pieces f k place core work memory leaving left agent to at there next agent_same to_same came_of parted =
     let outcome = outcome_in round f core.field memory in
     let outputs = outputs_of round.source.model f in
-    let ran : added outputs leaving work ≡ with_agent round f work memory outcome =
+    let parts : with_lists (map (λ rows. rows.items) left.parts.items) work.parts ≡ with_sent outputs (sent_by outcome) work.parts =
+    ap (λ more. with_lists more work.parts) parted.parts_are
+    ∙ parts_sent outputs leaving.sent.items (messages_of leaving.sent.items) work.parts (λ m rows. refl)
+    ∙ ap (λ sent. with_sent outputs sent work.parts) (came_of.sent ∙ append-nil (sent_by outcome)) in
+    let ran_is : left.ran ≡ 1 = parted.ran_is ∙ came_of.ran in
+    let fault_is : left.fault ≡ fault_by round.iteration f memory outcome =
+    parted.fault_is ∙ came_of.fault ∙ first-one (fault_by round.iteration f memory outcome) in
+    let ran : added left work ≡ with_agent round f work memory outcome =
     λ i. record {
       agents = work.agents;
-      ran = work.ran + left.ran i;
-      parts = with_sent outputs ((left.sent ∙ append-nil (sent_by outcome)) i) work.parts;
-      fault = option_or work.fault ((left.fault ∙ first-one (fault_by round.iteration f memory outcome)) i);
+      ran = work.ran + ran_is i;
+      parts = parts i;
+      fault = option_or work.fault (fault_is i);
     } in
-    let pools : changed_pool agent to (λ pool. merge pool (ascending leaving.survivors.items)) core.field.pools
+    let pools : changed_pool agent to (λ pool. merge pool (ascending left.survivors.items)) core.field.pools
     ≡ changed_pool place.agent (state_place place.type place.function.next) (λ pool. merge pool (ascending (cons_option (kept outcome) []))) core.field.pools =
-    λ i. changed_pool (agent_same i) (to_same i) (λ pool. merge pool (ascending (left.survivors i))) core.field.pools in
-    let born : joined (births_of leaving.born.items) core.field.born ≡ joined (births_of (born_by outcome ++ [])) core.field.born =
-    ap (λ l. joined (births_of l) core.field.born) left.born in
+    λ i. changed_pool (agent_same i) (to_same i) (λ pool. merge pool (ascending ((parted.survivors_are ∙ came_of.survivors) i))) core.field.pools in
+    let born : joined (births_of left.born.items) core.field.born ≡ joined (births_of (born_by outcome ++ [])) core.field.born =
+    ap (λ l. joined (births_of l) core.field.born) (parted.births_are ∙ came_of.born) in
     let made_is : (let made : Core = record core {
-      statuses = with_work core f k (added outputs leaving work);
+      statuses = with_work core f k (added left work);
       field = record core.field {
-        pools = changed_pool agent to (λ pool. merge pool (ascending leaving.survivors.items)) core.field.pools;
-        born = joined (births_of leaving.born.items) core.field.born;
+        pools = changed_pool agent to (λ pool. merge pool (ascending left.survivors.items)) core.field.pools;
+        born = joined (births_of left.born.items) core.field.born;
       };
     } in made) ≡ ran_agent round f k place work (Some memory) core =
     λ i. record {
@@ -154,15 +225,19 @@ reached_on seen events core reached leads = record {
 }
 
 -- these events came, each legal when it did
-pub stands_on : (seen : Seen) (earlier progress : Progress) (counted counts : Counts) (events : List Event) (core : Core)
-    → IsKeptCore seen earlier counted → Leads (round_in seen) seen.pieces seen.core events core → Came seen.source.model core progress counts
-    → IsKeptCore (record seen { core = core_of progress }) progress counts
-stands_on seen earlier progress counted counts events core stands leads came = record {
+pub stands_on : (seen : Seen) (earlier progress : Progress) (counted counts : Counts) (before ranks : Ranks) (events : List Event) (core : Core)
+    → IsKeptCore seen earlier counted before → Leads (round_in seen) seen.pieces seen.core events core → Came seen.source.model core progress counts
+    → AreDealt (choice_at seen.source.model seen.iteration) progress.field.pools
+    → AreRanksOf seen.source.model (core_of progress) ranks
+    → IsKeptCore (record seen { core = core_of progress }) progress counts ranks
+stands_on seen earlier progress counted counts before ranks events core stands leads came dealt ranked = record {
   reached =
       subst (λ (k : Core). IsReached (record seen { core = k })) (sym came.core)
       (reached_on seen events core stands.reached leads);
   numbered = stands.numbered;
   tallies = came.tallies;
+  dealt = dealt;
+  ranked = ranked;
 }
 
 pub one_leads : (round : Round) (pieces : ℕ) (core : Core) (e : Event) → is_legal round.source.model core e ≡ true
@@ -170,13 +245,16 @@ pub one_leads : (round : Round) (pieces : ℕ) (core : Core) (e : Event) → is_
 one_leads round pieces core e legal = record { legal = and_from (is_legal round.source.model core e) true legal refl; left = refl }
 
 -- nothing came
-pub stands_still : (seen : Seen) (earlier progress : Progress) (counted counts : Counts)
-    → IsKeptCore seen earlier counted → Came seen.source.model seen.core progress counts
-    → IsKeptCore (record seen { core = core_of progress }) progress counts
-stands_still seen earlier progress counted counts stands came = record {
+pub stands_still : (seen : Seen) (earlier progress : Progress) (counted counts : Counts) (ranks : Ranks)
+    → IsKeptCore seen earlier counted ranks → Came seen.source.model seen.core progress counts
+    → AreDealt (choice_at seen.source.model seen.iteration) progress.field.pools
+    → IsKeptCore (record seen { core = core_of progress }) progress counts ranks
+stands_still seen earlier progress counted counts ranks stands came dealt = record {
   reached = subst (λ (k : Core). IsReached (record seen { core = k })) (sym came.core) stands.reached;
   numbered = stands.numbered;
   tallies = came.tallies;
+  dealt = dealt;
+  ranked = subst (λ (k : Core). AreRanksOf seen.source.model k ranks) (sym came.core) stands.ranked;
 }
 
 -- ---- how a core is seen

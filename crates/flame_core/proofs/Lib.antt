@@ -1,7 +1,8 @@
 mod InOrders
 mod Openings
 mod Comings
-mod Ranks
+mod LeastRanks
+mod ShutRanks
 mod Finished
 mod Faulting
 mod Counting

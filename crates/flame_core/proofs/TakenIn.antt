@@ -1,9 +1,10 @@
 -- A share that is taken in, as what its piece's Agent events leave.
 use Rattle.std.proofs.Common.{◌≡◌, ℕ, ◌<◌, ◌≤◌, false, List, length, map, Some, refl, sym, ap, ◌∙◌, subst, arith, length-set, ⊎_elim}
-use Rattle.std.specs.Prelude.{ℤ, slice_index_or, slice_set}
-use Rattle.std.specs.List.{flat_map}
+use Rattle.std.specs.Prelude.{ℤ, is_some, slice_index_or, slice_set}
 use Rattle.std.proofs.lemmas.Bool.{cases_lt, false≢true}
+use Rattle.std.proofs.lemmas.List.{length-map}
 use Rattle.std.proofs.lemmas.Option.{same_Some}
+use Rattle.std.proofs.lemmas.Simd.{map-map}
 use Rattle.flame_rows.specs.Bags.{ascending, merge}
 use Rattle.flame_spec.specs.declared.models.Model.{Model}
 use Rattle.flame_spec.specs.declared.outcomes.Outcome.{Outcome}
@@ -23,9 +24,10 @@ use Rattle.flame_world.specs.Meaning.{IsMeaning, outcome_under, part_for}
 use Rattle.flame_world.specs.Settings.{boards_of}
 use Rattle.flame_world.specs.Shares.{piece_of, setting_of}
 use Rattle.flame_world.proofs.NamedBoards.{named_boards_are_enough}
-use Rattle.flame_events.specs.AbsorbedPieces.{agent_events}
+use Rattle.flame_events.specs.AbsorbedPieces.{agent_events, ran_agents, with_agents}
+use Rattle.flame_events.specs.CoreEnds.{is_faulted}
 use Rattle.flame_events.specs.CoreFits.{FitsCore, FitsWork}
-use Rattle.flame_events.specs.CoreStates.{Work, Status, Open, Shut, Faulted, Waiting, Core, is_shut, is_waiting, status_of, work_of, works_of}
+use Rattle.flame_events.specs.CoreStates.{Work, Status, Open, Shut, Faulted, Waiting, Core, fault_of, is_shut, is_waiting, status_of, work_of, works_of}
 use Rattle.flame_events.specs.EventSteps.{replay, with_work}
 use Rattle.flame_events.specs.Histories.{Leads}
 use Rattle.flame_events.specs.LegalEvents.{outputs_of}
@@ -34,7 +36,7 @@ use Rattle.flame_events.proofs.Sound.{opens_with, past_waiting}
 use Rattle.flame_events.proofs.Spots.{get_there}
 use Rattle.flame_route.specs.declared.routes.Route.{Route}
 use Rattle.flame_progress.specs.declared.counts.Counts.{Counts}
-use Rattle.flame_leaving.specs.declared.leavings.Leaving.{Leaving}
+use Rattle.flame_progress.specs.declared.leavings.PartedLeaving.{PartedLeaving}
 use Rattle.flame_progress.specs.declared.progress.Progress.{Progress}
 use Rattle.flame_progress.specs.KeptCores.{core_of, HasOutputsAt}
 use Rattle.flame_progress.specs.KeptWorkEvents.{added}
@@ -44,10 +46,13 @@ use Rattle.flame_progress.proofs.Tallied.{came, counted_kept, status_kept}
 use Rattle.flame_round.specs.declared.rounds.Round as run
 use Rattle.flame_core.specs.CoreCalls.{Absorbed, CanAbsorb}
 use Rattle.flame_core.specs.KeptReady.{InOrder, Ready}
-use Rattle.flame_core.specs.KeptShares.{as_sent, CanTakeIn, IsFed, IsSettingOf}
+use Rattle.flame_core.specs.KeptShares.{CanTakeIn, IsFed, IsSettingOf}
+use Rattle.flame_core.specs.declared.ranks.Ranks.{Ranks}
+use Rattle.flame_core.specs.FunctionRanks.{AreRanksOf}
 use Rattle.flame_round.specs.KeptRounds.{GoesBy, round_of}
 use Rattle.flame_core.specs.SeenCores.{Seen, round_in, when_came}
-use Rattle.flame_core.proofs.SharedPieces.{absorbed_is, in_parts, parts_have}
+use Rattle.flame_core.proofs.SharedPieces.{absorbed_is}
+use Rattle.flame_core.proofs.ShutRanks.{same_ranks}
 use Rattle.flame_meaning.proofs.Eachs.{each_at}
 
 -- ---- what is before the agents
@@ -167,30 +172,63 @@ absorbed_so seen old new share same fits can left =
     subst (λ (s : Seen). Absorbed share s new) same
     (record { can = can; legal = (leads_on seen share fits can).legal; left = left })
 
-pub taken_in : (round : run.Round) (pieces : ℕ) (progress new : Progress) (counts : Counts) (share : Share) (route : Route) (leaving : Leaving)
+-- and its functions are as far by rank as they were
+pub ranks_stay : (seen : Seen) (share : Share) (next : Core) (ranks : Ranks) → FitsCore seen.source.model seen.core → (can : CanAbsorb seen share)
+    → next ≡ replay (round_in seen) seen.pieces seen.core (agent_events (piece_of share).function (piece_of share).number can.work)
+    → AreRanksOf seen.source.model seen.core ranks → AreRanksOf seen.source.model next ranks
+ranks_stay seen share next ranks fits can left ranked =
+    let model = seen.source.model in
+    let core = seen.core in
+    let f = (piece_of share).function in
+    let k = (piece_of share).number in
+    let place = get_there (functions model) f (piece_below model core f k can.work fits can.there) in
+    let is = each_at (FitsWork model f place.0.type) (works_of (status_of core f)) k can.work (fits.works f place.0 place.1) can.there in
+    let same : next ≡ ran_agents (round_in seen) f k place.0 can.work core =
+    left ∙ (agents_run_at_once (round_in seen) seen.pieces f k place.0 can.work core place.1 can.there can.new is.some).1 in
+    let v : Status = Open (slice_set (works_of (status_of core f)) k (with_agents (round_in seen) f can.work core)) in
+    let open_is = opens_with (status_of core f) k can.work can.there in
+    let less = open_within core.statuses f (works_of (status_of core f)) open_is in
+    same_ranks model core next ranks
+    (λ g. ap (λ (c : Core). is_shut (status_of c g)) same ∙ status_kept is_shut core.statuses f v less (sym (ap is_shut open_is)) g)
+    (λ g. ap (λ (c : Core). is_faulted c g) same
+    ∙ status_kept (λ (s : Status). is_some (fault_of s)) core.statuses f v less (sym (ap (λ (s : Status). is_some (fault_of s)) open_is)) g)
+    ranked
+
+-- a share has a part for each output
+pub share_long : (round : run.Round) (core : Core) (share : Share) (rest : Rest) (parts : List Part) → CanTakeIn round core share
+    → IsMeaning (setting_of share) (piece_of share) rest parts
+    → length parts ≡ length (outputs_of round.program.now.model (piece_of share).function)
+share_long round core share rest parts can meant =
+    let p = piece_of share in
+    let setting = setting_of share in
+    ap length meant.parts_are
+    ∙ length-map (outputs_at (place_of setting.source.now p.function) setting.source.now.model)
+    (part_for p (sent_from (outcome_under setting p.function) p.agents))
+    ∙ ap (λ (s : Source). length (outputs_at (place_of s p.function) s.model)) can.setting.source
+
+pub taken_in : (round : run.Round) (pieces : ℕ) (progress new : Progress) (counts : Counts) (share : Share) (route : Route) (left : PartedLeaving)
     (work : Work) (rest : Rest) (parts : List Part)
     → GoesBy round.program.now.model (piece_of share).function route
     → Ready round pieces progress counts
     → CanTakeIn round (core_of progress) share
     → work_of (core_of progress) (piece_of share).function (piece_of share).number ≡ Some work
     → IsMeaning (setting_of share) (piece_of share) rest parts
-    → leaving.ran ≡ length (piece_of share).agents
-    → ascending leaving.survivors.items ≡ rest.survivors
-    → leaving.sent.items ≡ flat_map (λ (part : Part). as_sent part.message part.rows) parts
-    → leaving.born.items ≡ rest.born
-    → leaving.fault ≡ rest.fault
+    → left.ran ≡ length (piece_of share).agents
+    → ascending left.survivors.items ≡ rest.survivors
+    → map (λ rows. rows.items) left.parts.items ≡ map (λ (part : Part). part.rows) parts
+    → left.born.items ≡ rest.born
+    → left.fault ≡ rest.fault
     → (let made : Core = record (core_of progress) {
-      statuses = with_work (core_of progress) (piece_of share).function (piece_of share).number
-          (added (outputs_of round.program.now.model (piece_of share).function) leaving work);
+      statuses = with_work (core_of progress) (piece_of share).function (piece_of share).number (added left work);
       field = record (core_of progress).field {
-        pools = changed_pool route.agent route.to (λ pool. merge pool (ascending leaving.survivors.items)) (core_of progress).field.pools;
-        born = joined (births_of leaving.born.items) (core_of progress).field.born;
+        pools = changed_pool route.agent route.to (λ pool. merge pool (ascending left.survivors.items)) (core_of progress).field.pools;
+        born = joined (births_of left.born.items) (core_of progress).field.born;
       };
     } in core_of new ≡ made)
     → ((g : ℕ) (outputs : List ℕ) → HasOutputsAt progress g outputs → HasOutputsAt new g outputs)
     → Came round.program.now.model
     (replay (round_of round) pieces (core_of progress) (agent_events (piece_of share).function (piece_of share).number work)) new counts
-taken_in round pieces progress new counts share route leaving work rest parts goes ready can there meant ran lives sends bears faults is keeps =
+taken_in round pieces progress new counts share route left work rest parts goes ready can there meant ran lives sends bears faults is keeps =
     let model = round.program.now.model in
     let core = core_of progress in
     let p = piece_of share in
@@ -206,27 +244,27 @@ taken_in round pieces progress new counts share route leaving work rest parts go
     let fresh : work.ran ≡ 0 = ap (λ (w : Work). w.ran) (sym same) ∙ can.new in
     let fits = each_at (FitsWork model f place.type) (works_of (status_of core f)) k work (ready.fits.works f place goes.there) there in
     let law = agents_run_at_once (round_of round) pieces f k place work core goes.there there fresh fits.some in
-    let survive : ascending leaving.survivors.items ≡ survivors run work.agents =
+    let survive : ascending left.survivors.items ≡ survivors run work.agents =
     lives ∙ meant.survivors_are ∙ (λ i. survivors (runs i) (agents i)) in
-    let bear : leaving.born.items ≡ born_from run work.agents = bears ∙ meant.births_are ∙ (λ i. born_from (runs i) (agents i)) in
-    let fault : leaving.fault ≡ least_fault round.iteration f run work.agents =
+    let bear : left.born.items ≡ born_from run work.agents = bears ∙ meant.births_are ∙ (λ i. born_from (runs i) (agents i)) in
+    let fault : left.fault ≡ least_fault round.iteration f run work.agents =
     faults ∙ meant.fault_is ∙ (λ i. least_fault (can.setting.iteration i) f (runs i) (agents i)) in
     let out : outputs_at (place_of setting.source.now f) setting.source.now.model ≡ outputs =
     ap (λ (s : Source). outputs_at (place_of s f) s.model) can.setting.source in
     let parts_are : parts ≡ map (part_for p (sent_from run work.agents)) outputs =
     meant.parts_are ∙ (λ i. map (part_for p (sent_from (runs i) (agents i))) (out i)) in
-    let sent : leaving.sent.items ≡ in_parts p (sent_from run work.agents) outputs =
-    sends ∙ ap (flat_map (λ (part : Part). as_sent part.message part.rows)) parts_are in
+    let sent : map (λ rows. rows.items) left.parts.items ≡ map (λ m. ascending (messages_of (sent_from run work.agents) m)) outputs =
+    sends ∙ ap (map (λ (part : Part). part.rows)) parts_are
+    ∙ map-map (λ (part : Part). part.rows) (part_for p (sent_from run work.agents)) outputs in
     let tallies = ready.tallies in
-    let absorbed = absorbed_is (round_of round) f k place work core leaving route.agent route.to fresh (ran ∙ ap length agents)
-    goes.routed.agent goes.routed.to survive bear fault
-    (λ m among. ap (λ l. messages_of l m) sent ∙ parts_have p (sent_from run work.agents) outputs m (tallies.once f) among) in
-    let v : Status = Open (slice_set (works_of (status_of core f)) k (added outputs leaving work)) in
+    let absorbed = absorbed_is (round_of round) f k place work core left route.agent route.to fresh (ran ∙ ap length agents)
+    goes.routed.agent goes.routed.to survive bear fault sent in
+    let v : Status = Open (slice_set (works_of (status_of core f)) k (added left work)) in
     let made : Core = record core {
-      statuses = with_work core f k (added outputs leaving work);
+      statuses = with_work core f k (added left work);
       field = record core.field {
-        pools = changed_pool route.agent route.to (λ pool. merge pool (ascending leaving.survivors.items)) core.field.pools;
-        born = joined (births_of leaving.born.items) core.field.born;
+        pools = changed_pool route.agent route.to (λ pool. merge pool (ascending left.survivors.items)) core.field.pools;
+        born = joined (births_of left.born.items) core.field.born;
       };
     } in
     let open_is = opens_with (status_of core f) k work there in

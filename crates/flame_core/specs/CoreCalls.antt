@@ -30,7 +30,7 @@ pub record Happened (event : Event) (old new : Seen) : Type 0 where
   pub legal : IsTrue (allows old event)
   pub left : new ≡ when_came (event ∷ []) old
 
--- it takes memory: it copies agents or makes lists longer [own]
+-- it takes memory: it copies an agent's memory, or makes lists or makes them longer [own]
 abbrev pub takes_memory : Event → Bool
 takes_memory (event.Open function) = true
 takes_memory (event.Agent function piece) = true

@@ -8,3 +8,4 @@ pub mod NextAgents
 pub mod KeptReady
 pub mod KeptShares
 pub mod KeptStarts
+pub mod FunctionRanks

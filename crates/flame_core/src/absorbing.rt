@@ -1,33 +1,32 @@
 //! Shares: a piece's work that was done elsewhere.
 
-ghost use Rattle.std.specs.Prelude.{◌≡◌, ◌↔◌, ◌<◌, ◌++◌, [], ℕ, true, false, IfOk, OnOk, OnErr, IsTrue};
+ghost use Rattle.std.specs.Prelude.{◌≡◌, ◌↔◌, ◌<◌, [], ℕ, true, false, IfOk, OnOk, OnErr, IsTrue};
 ghost use Rattle.std.specs.Prelude.{length, map, slice_index_or};
-ghost use Rattle.std.specs.List.{All, flat_map};
+ghost use Rattle.std.specs.List.{All};
 ghost use Rattle.flame_index.specs.FrozenBoards.{shared_messages};
 ghost use Rattle.flame_world.specs.Shares.{piece_of};
 ghost use Rattle.flame_events.specs.CoreFits.{FitsCore};
 ghost use Rattle.flame_events.specs.CoreStates.{Work as Meant, work_of};
 ghost use Rattle.flame_events.specs.AbsorbedPieces.{agent_events};
 ghost use Rattle.flame_events.specs.EventSteps.{replay};
+ghost use Rattle.flame_events.specs.LegalEvents.{outputs_of};
 ghost use Rattle.flame_pieces.specs.KeptWorks.{work_of as kept_work};
 ghost use Rattle.flame_progress.specs.declared.counts.Counts.{Counts as Kept};
 ghost use Rattle.flame_field.specs.KeptBoards.{board_bag, is_board_frozen};
-ghost use Rattle.flame_progress.specs.KeptCores.{core_of};
+ghost use Rattle.flame_progress.specs.KeptCores.{core_of, HasOutputsAt};
 ghost use Rattle.flame_progress.specs.Tallying.{Came};
-ghost use Rattle.flame_core.specs.KeptShares.{as_sent, CanTakeIn, IsFed, IsSettingOf};
-ghost use Rattle.flame_core.specs.KeptReady.{Ready};
+ghost use Rattle.flame_core.specs.KeptShares.{CanTakeIn, IsFed, IsSettingOf};
+ghost use Rattle.flame_core.specs.KeptReady.{AreDealtIn, Ready};
 ghost use Rattle.flame_round.specs.KeptRounds.{GoesBy, round_of};
 
 use crate::starting::same_rows;
 use flame_field::Board;
 use flame_index::Frozen;
-use flame_leaving::Leaving;
 use flame_pieces::Work;
-use flame_progress::Progress;
+use flame_progress::{PartedLeaving, Progress};
 use flame_round::{Round, route_of};
 use flame_route::Route;
 use flame_rows::{NoMemory, Row, Same};
-use flame_spec::Sent;
 use flame_world::{Part, Piece, Setting, Share};
 use std::alloc::Global;
 use std::sync::Arc;
@@ -83,19 +82,20 @@ fn is_setting(
         route.now.inputs }
     ensures { IsTrue result ↔ IsSettingOf round.now (map board_bag boards.now) function setting.now }
 {
-    if !round.program.source().same(setting.source) {
-        return false;
-    }
-    if !round.constants.same(setting.constants) {
-        return false;
-    }
     if round.iteration != setting.iteration {
         return false;
     }
     if round.fuel != setting.fuel {
         return false;
     }
-    same_boards(boards, route.inputs.items(), setting.boards.items())
+    if !round.constants.same(setting.constants) {
+        return false;
+    }
+    if !same_boards(boards, route.inputs.items(), setting.boards.items()) {
+        return false;
+    }
+    // What costs most, and hardly ever differs.
+    round.program.source().same(setting.source)
 }
 
 /// Whether the share can be absorbed.
@@ -119,25 +119,15 @@ pub(crate) fn can_absorb(round: &Round<'_>, progress: &Progress, share: &Share<'
     }
 }
 
-/// Adds the messages of this type.
-fn add_messages(sent: &mut Vec<Sent>, message: u32, rows: Vec<Row>) -> Result<(), NoMemory>
-    ensures { OnOk result (sent.new.items ≡ sent.old.items ++ as_sent message rows.items) }
+/// The messages of these parts, part by part. No message is moved.
+fn lists_of(alloc: Global, parts: Vec<Part>) -> Result<Vec<Vec<Row>>, NoMemory>
+    ensures { IfOk result (λ lists. map (λ rows. rows.items) lists.items ≡ map (λ part. part.rows) parts.items) }
 {
-    for row in rows {
-        sent.push(Sent { message, row })?;
-    }
-    Ok(())
-}
-
-/// The messages of these parts, part by part.
-fn sent_in(alloc: Global, parts: Vec<Part>) -> Result<Vec<Sent>, NoMemory>
-    ensures { IfOk result (λ sent. sent.items ≡ flat_map (λ part. as_sent part.message part.rows) parts.items) }
-{
-    let mut sent = Vec::new(alloc);
+    let mut lists = Vec::new(alloc);
     for part in parts {
-        add_messages(&mut sent, part.message, part.rows.into_rows())?;
+        lists.push(part.rows.into_rows())?;
     }
-    Ok(sent)
+    Ok(lists)
 }
 
 /// The share's piece ran, which can be absorbed.
@@ -149,6 +139,7 @@ pub(crate) fn absorb(
 ) -> Result<(), NoMemory>
     requires can { CanTakeIn round.now (core_of progress.old) share }
     requires fits { FitsCore round.now.program.now.model (core_of progress.old) }
+    requires outputs { (function : ℕ) → HasOutputsAt progress.old function (outputs_of round.now.program.now.model function) }
     ensures ok { OnOk result ((pieces : ℕ) (counts : Kept) (work : Meant)
         → Ready round.now pieces progress.old counts
         → work_of (core_of progress.old) (piece_of share.entry).function (piece_of share.entry).number ≡ Some work
@@ -157,19 +148,21 @@ pub(crate) fn absorb(
     ensures err { OnErr result ((pieces : ℕ) (counts : Kept)
         → Ready round.now pieces progress.old counts
         → Came round.now.program.now.model (core_of progress.old) progress.new counts) }
+    ensures dealt { AreDealtIn round.now progress.old → AreDealtIn round.now progress.new }
 {
     let function = share.piece().function;
     let piece = share.piece().number;
     let ran = share.piece().agents.rows().len();
     let route = route_of(round, function);
     let (rest, parts) = share.split();
-    let leaving = Leaving {
+    let parts = lists_of(alloc, parts.into_items())?;
+    let left = PartedLeaving {
         ran,
         survivors: rest.survivors.into_rows(),
-        sent: sent_in(alloc, parts.into_items())?,
+        parts,
         born: rest.born.into_items(),
         fault: rest.fault,
     };
-    progress.settle(function, piece, route.agent, route.to, leaving)?;
+    progress.settle(alloc, function, piece, route.agent, route.to, left)?;
     Ok(())
 }

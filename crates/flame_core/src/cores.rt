@@ -4,6 +4,7 @@ mod changes;
 mod ends;
 mod reading;
 
+use crate::ranks::Ranks;
 use flame_field::Want;
 use flame_program::Program;
 use flame_progress::{Counts, Progress};
@@ -22,6 +23,7 @@ pub struct Core<'a> {
     pieces: u32,
     progress: Progress,
     counts: Counts,
+    ranks: Ranks,
     wants: Vec<Vec<Want>>,
 }
 
@@ -55,5 +57,5 @@ impl<'a> Model for Core<'a> {
           pieces = c.pieces;
           core = core_of c.progress;
         })
-        c.progress c.counts };
+        c.progress c.counts c.ranks };
 }

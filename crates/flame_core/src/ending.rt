@@ -1,9 +1,9 @@
 //! What an iteration comes to.
 
-ghost use Rattle.std.specs.Prelude.{◌≡◌, ◌<◌, ◌^◌, IfOk, length};
+ghost use Rattle.std.specs.Prelude.{◌≡◌, IfOk};
 ghost use Rattle.flame_spec.specs.ModelOrder.{model_order};
 ghost use Rattle.flame_world.specs.Iterations.{turn_of, unless_faulted};
-ghost use Rattle.flame_events.specs.CoreEnds.{first_fault, is_complete, least_fault_rank};
+ghost use Rattle.flame_events.specs.CoreEnds.{first_fault};
 ghost use Rattle.flame_events.specs.CoreStates.{fault_of};
 ghost use Rattle.flame_pieces.specs.KeptStatuses.{status_of};
 ghost use Rattle.flame_progress.specs.KeptCores.{core_of};
@@ -16,36 +16,6 @@ use flame_rows::{NoMemory, Row};
 use flame_world::{SimFault, Turn};
 use std::alloc::Global;
 use std::mem;
-
-/// The least rank of a function that is faulted.
-pub(crate) fn first_faulted(program: &Program, progress: &Progress) -> Option<u32>
-    requires { length (model_order program.now.model) < 2 ^ 32 }
-    ensures { result ≡ least_fault_rank program.now.model (core_of progress.now) }
-{
-    let mut rank: u32 = 0;
-    for function in program.plan().order.items() {
-        if progress.is_faulted(*function) {
-            return Some(rank);
-        }
-        rank += 1;
-    }
-    None
-}
-
-/// Whether all functions before the first that is faulted are shut, and all where none is.
-pub(crate) fn wanted_are_shut(program: &Program, progress: &Progress) -> bool
-    ensures { result ≡ is_complete program.now.model (core_of progress.now) }
-{
-    for function in program.plan().order.items() {
-        if progress.is_faulted(*function) {
-            return true;
-        }
-        if !progress.is_shut(*function) {
-            return false;
-        }
-    }
-    true
-}
 
 /// The fault of a status, which is waiting then.
 fn taken_fault(status: &mut Status) -> Option<SimFault>

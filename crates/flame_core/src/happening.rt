@@ -10,7 +10,9 @@ ghost use Rattle.flame_events.specs.EventSteps.{after};
 ghost use Rattle.flame_events.specs.LegalEvents.{is_legal};
 ghost use Rattle.flame_progress.specs.KeptCores.{core_of};
 ghost use Rattle.flame_progress.specs.Tallying.{Came};
-ghost use Rattle.flame_core.specs.KeptReady.{Ready};
+ghost use Rattle.flame_core.specs.KeptReady.{AreDealtIn, Ready};
+ghost use Rattle.flame_core.specs.KeptShares.{ArePartsOf};
+ghost use Rattle.flame_spec.specs.Below.{HasNoTwice};
 ghost use Rattle.flame_round.specs.KeptRounds.{FitsRun, round_of};
 ghost use Rattle.flame_core.specs.NextAgents.{HasNext, IsNext};
 ghost use Rattle.flame_core.specs.CoreCalls.{takes_memory};
@@ -19,14 +21,16 @@ use crate::inputs::input_boards;
 use flame_events::Event;
 use flame_index::Frozen;
 use flame_leaving::Leaving;
-use flame_progress::{Counts, Progress, freeze, hand_in, shut, works_of};
-use flame_round::{Round, part, route_of, run_over};
+use flame_pieces::parted;
+use flame_progress::{Counts, PartedLeaving, PieceRooms, Progress, freeze, hand_in, shut};
+use flame_round::{Round, choose, count_takers, leave, route_of, run_over};
 use flame_rows::{NoMemory, Seq};
 use std::alloc::Global;
 use std::slice;
 use std::sync::Arc;
 
-/// The takers of the function leave their state, in pieces.
+/// The takers of the function leave their state, in pieces: first all in the state have chosen and there is room for the
+/// pieces, and then the takers are moved, which takes no memory.
 fn open_function(
     alloc: Global,
     round: &Round<'_>,
@@ -40,13 +44,14 @@ fn open_function(
     ensures ok { OnOk result (Came round.now.program.now.model
         (after (round_of round.now) pieces (core_of progress.old) (kind.Open function)) progress.new counts.now) }
     ensures err { OnErr result (Came round.now.program.now.model (core_of progress.old) progress.new counts.now) }
+    ensures dealt { AreDealtIn round.now progress.new }
 {
     let route = route_of(round, function);
-    let pool = progress.pool(route.agent, route.from).copied()?;
-    let (takers, staying) = part(alloc, round, function, route, pool)?;
-    let bags = takers.cut_into(pieces)?.into_items();
-    let works = works_of(alloc, route.outputs.items(), bags)?;
-    progress.start(function, works, route.agent, route.from, staying);
+    choose(alloc, round, function, route, &mut progress.field.pools)?;
+    let takers = count_takers(route, progress.field.pools.as_slice());
+    let opening = PieceRooms::new(alloc, route.outputs.items(), takers, pieces)?;
+    let takers = leave(alloc, route, &mut progress.field.pools);
+    progress.start(function, opening.fill(takers));
     Ok(())
 }
 
@@ -79,6 +84,28 @@ fn next_leaving(
     run_over(alloc, round, function, slice::from_ref(memory), boards)
 }
 
+/// The same, its messages parted by these outputs of its function, of which none stands twice.
+fn by_outputs(alloc: Global, outputs: &[u32], leaving: Leaving) -> Result<PartedLeaving, NoMemory>
+    requires { HasNoTwice outputs.now }
+    ensures { IfOk result (ArePartsOf outputs.now leaving) }
+{
+    let Leaving {
+        ran,
+        survivors,
+        sent,
+        born,
+        fault,
+    } = leaving;
+    let parts = parted(alloc, outputs, sent)?;
+    Ok(PartedLeaving {
+        ran,
+        survivors,
+        parts,
+        born,
+        fault,
+    })
+}
+
 /// The next agent of the piece runs.
 fn run_next(
     alloc: Global,
@@ -95,11 +122,13 @@ fn run_next(
         (after (round_of round.now) pieces (core_of progress.old) (kind.Agent function piece))
         progress.new counts.now) }
     ensures err { OnErr result (Came round.now.program.now.model (core_of progress.old) progress.new counts.now) }
+    ensures dealt { AreDealtIn round.now progress.new }
 {
     let route = route_of(round, function);
     let boards = input_boards(alloc, round, progress, function)?;
     let leaving = next_leaving(alloc, round, progress, function, piece, &boards)?;
-    progress.settle(function, piece, route.agent, route.to, leaving)?;
+    let left = by_outputs(alloc, route.outputs.items(), leaving)?;
+    progress.settle(alloc, function, piece, route.agent, route.to, left)?;
     Ok(())
 }
 
@@ -118,6 +147,7 @@ pub(crate) fn happen(
         (after (round_of round.now) pieces (core_of progress.old) event) progress.new counts.new) }
     ensures err { OnErr result (Came round.now.program.now.model (core_of progress.old) progress.new counts.new) }
     ensures takes { OnErr result (takes_memory event ≡ true) }
+    ensures dealt { AreDealtIn round.now progress.new }
 {
     match event {
         Event::Open(function) => {

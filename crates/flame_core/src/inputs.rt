@@ -41,6 +41,7 @@ pub(crate) fn input_boards(
         → AreBoardsFor round.now.program.now.model place.function.inputs (map shared_messages boards)) }
     ensures kept { (counts : Kept) → Tallies round.now.program.now.model progress.old counts
         → Came round.now.program.now.model (core_of progress.old) progress.new counts }
+    ensures pools { progress.new.field.pools ≡ progress.old.field.pools }
 {
     let route = route_of(round, function);
     let inputs = route.inputs.items();

@@ -7,6 +7,7 @@ mod ending;
 mod faults;
 mod happening;
 mod inputs;
+mod ranks;
 mod starting;
 
 pub use cores::Core;

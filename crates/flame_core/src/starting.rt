@@ -1,6 +1,6 @@
 //! How a core begins.
 
-ghost use Rattle.std.specs.Prelude.{◌≡◌, ◌↔◌, ℕ, List, false, IfOk, IsTrue, length, replicate};
+ghost use Rattle.std.specs.Prelude.{◌≡◌, ◌↔◌, ℕ, ℤ, List, false, IfOk, IsTrue, length, replicate};
 ghost use Rattle.flame_spec.specs.Before.{before, function_count};
 ghost use Rattle.flame_spec.specs.Below.{is_in};
 ghost use Rattle.flame_spec.specs.Counted.{is_counted};
@@ -8,6 +8,7 @@ ghost use Rattle.flame_world.specs.WorldFits.{FitTypes};
 ghost use Rattle.flame_events.specs.CoreStates.{opening_core};
 ghost use Rattle.flame_events.specs.LegalEvents.{inputs_of, outputs_of};
 ghost use Rattle.flame_pieces.specs.FreeThings.{Tells};
+ghost use Rattle.flame_field.specs.KeptPools.{AreDealt};
 ghost use Rattle.flame_core.specs.KeptStarts.{SameStart};
 ghost use Rattle.flame_progress.specs.KeptCores.{core_of, HasOutputsAt};
 
@@ -118,6 +119,7 @@ pub(crate) fn begun(
     requires { FitTypes program.now.model agents }
     ensures core { IfOk result (λ progress. core_of progress ≡ opening_core program.now.model agents) }
     ensures outputs { IfOk result (λ progress. (function : ℕ) (outputs : List ℕ) → HasOutputsAt progress function outputs) }
+    ensures dealt { IfOk result (λ progress. (choose : ℕ → ℕ → List ℤ → ℕ) → AreDealt choose progress.field.pools) }
 {
     let statuses = all_waiting(alloc, program.functions())?;
     let field = opened(alloc, program, agents)?;

@@ -16,6 +16,7 @@ use crate::cores::Core;
 use crate::faults::StepFault;
 use crate::happening::happen;
 use crate::inputs::input_boards;
+use crate::ranks::Ranks;
 use crate::starting::{bags_copied, begun, counted};
 use flame_events::Event;
 use flame_index::Frozen;
@@ -67,6 +68,7 @@ impl<'a> Core<'a> {
             pieces,
             progress,
             counts,
+            ranks: Ranks::none(),
             wants,
         })
     }
@@ -96,12 +98,14 @@ impl<'a> Core<'a> {
             &mut self.counts,
             event,
         )?;
+        self.ranks.follow(self.program, &self.progress, event);
         Ok(())
     }
 
     /// The piece of the share ran: its Agent events, which are legal one after another, come. `Illegal` exactly where
     /// the share's piece is no piece of an open function, has other agents or an agent that ran, or where the share's
-    /// setting is not that of the core and the function; nothing changes then, nor where no memory was found.
+    /// setting is not that of the core and the function; nothing changes then, nor where no memory was found. The share is
+    /// given up in each case.
     pub fn absorb(&mut self, share: Share<'_>) -> Result<(), StepFault>
         ensures ok { OnOk result (Absorbed share.entry self.old self.new) }
         ensures err { IfErr result (NotAbsorbed share.entry self.old self.new) }
@@ -114,7 +118,7 @@ impl<'a> Core<'a> {
     }
 
     /// The same of a share of which it is known that it can be absorbed: nothing is compared. Nothing changes where no
-    /// memory was found.
+    /// memory was found; the share is given up then too.
     pub fn take_in(&mut self, share: Share<'_>) -> Result<(), NoMemory>
         requires { CanAbsorb self.old share }
         ensures ok { OnOk result (Absorbed share.entry self.old self.new) }

@@ -14,7 +14,6 @@ ghost use Rattle.flame_core.specs.SeenCores.{IsReached};
 
 use crate::absorbing::can_absorb;
 use crate::cores::Core;
-use crate::ending::{first_faulted, wanted_are_shut};
 use crate::starting::Start;
 use flame_events::Event;
 use flame_events::laws::every_order;
@@ -79,7 +78,7 @@ impl<'a> Core<'a> {
     pub fn least_fault(&self) -> Option<u32>
         ensures { result ≡ least_fault_rank self.now.source.model self.now.core }
     {
-        first_faulted(self.program, &self.progress)
+        self.ranks.fault
     }
 
     /// Whether it began so: with an equal program, an equal world, this iteration, this fuel and this many pieces.
@@ -134,6 +133,6 @@ impl<'a> Core<'a> {
     {
         every_order();
         let _source = self.program.source();
-        wanted_are_shut(self.program, &self.progress)
+        self.ranks.is_complete(self.program)
     }
 }

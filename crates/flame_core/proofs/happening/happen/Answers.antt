@@ -5,7 +5,9 @@ use Rattle.flame_events.specs.LegalEvents.{is_legal}
 use Rattle.flame_events.specs.EventSteps.{after}
 use Rattle.flame_progress.specs.KeptCores.{core_of}
 use Rattle.flame_progress.specs.Tallying.{Came}
+use Rattle.flame_round.specs.Choices.{choice_at}
 use Rattle.flame_round.specs.KeptRounds.{round_of}
+use Rattle.flame_field.specs.KeptPools.{AreDealt}
 use Rattle.flame_field.proofs.Written.{on_err}
 use Rattle.flame_core.proofs.Allowed.{can_freeze, can_hand_in, can_shut}
 use Rattle.flame_core.proofs.happening.happen.Goals as goal
@@ -97,7 +99,7 @@ returns-in-Shut-clause-ok c =
     let P : Event → Type 0 = λ e. Came model (after round c.args.pieces core e) c.shut.new.progress c.shut.new.counts in
     let is = c.in-Shut.is in
     subst P (sym is)
-    (c.shut.ensures round c.args.pieces c.requires.ready.tallies (ap (is_legal model core) (sym is) ∙ c.requires.legal))
+    (c.shut.ensures.came round c.args.pieces c.requires.ready.tallies (ap (is_legal model core) (sym is) ∙ c.requires.legal))
 
 pub returns-in-Freeze-clause-ok : goal.returns-in-Freeze-clause-ok
 returns-in-Freeze-clause-ok c =
@@ -107,4 +109,22 @@ returns-in-Freeze-clause-ok c =
     let P : Event → Type 0 = λ e. Came model (after round c.args.pieces core e) c.freeze.new.progress c.freeze.new.counts in
     let is = c.in-Freeze.is in
     subst P (sym is)
-    (c.freeze.ensures round c.args.pieces c.requires.ready.tallies (ap (is_legal model core) (sym is) ∙ c.requires.legal))
+    (c.freeze.ensures.came round c.args.pieces c.requires.ready.tallies (ap (is_legal model core) (sym is) ∙ c.requires.legal))
+
+pub returns-in_err-hand_in-in-HandIn-clause-dealt : goal.returns-in_err-hand_in-in-HandIn-clause-dealt
+returns-in_err-hand_in-in-HandIn-clause-dealt c =
+    subst (AreDealt (choice_at c.args.round.now.program.now.model c.args.round.now.iteration)) (sym c.in_err-hand_in-in-HandIn.ensures.pools)
+    c.requires.ready.dealt
+
+pub returns-in_ok-hand_in-in-HandIn-clause-dealt : goal.returns-in_ok-hand_in-in-HandIn-clause-dealt
+returns-in_ok-hand_in-in-HandIn-clause-dealt c =
+    subst (AreDealt (choice_at c.args.round.now.program.now.model c.args.round.now.iteration)) (sym c.in_ok-hand_in-in-HandIn.ensures.pools)
+    c.requires.ready.dealt
+
+pub returns-in-Shut-clause-dealt : goal.returns-in-Shut-clause-dealt
+returns-in-Shut-clause-dealt c =
+    subst (AreDealt (choice_at c.args.round.now.program.now.model c.args.round.now.iteration)) (sym c.shut.ensures.pools) c.requires.ready.dealt
+
+pub returns-in-Freeze-clause-dealt : goal.returns-in-Freeze-clause-dealt
+returns-in-Freeze-clause-dealt c =
+    subst (AreDealt (choice_at c.args.round.now.program.now.model c.args.round.now.iteration)) (sym c.freeze.ensures.pools) c.requires.ready.dealt

@@ -9,15 +9,20 @@ use Rattle.flame_events.specs.CoreStates.{Status, Open, Core, is_shut, status_of
 use Rattle.flame_events.specs.EventSteps.{with_work}
 use Rattle.flame_events.specs.LegalEvents.{outputs_of}
 use Rattle.flame_events.proofs.Sound.{opens_with}
-use Rattle.flame_progress.specs.KeptCores.{core_of}
+use Rattle.flame_spec.specs.Below.{HasNoTwice}
+use Rattle.flame_progress.specs.KeptCores.{core_of, kept_at}
 use Rattle.flame_progress.specs.KeptWorkEvents.{added, are_left}
 use Rattle.flame_progress.specs.Tallying.{Came}
 use Rattle.flame_field.proofs.Written.{on_err}
 use Rattle.flame_progress.proofs.Known.{open_within}
 use Rattle.flame_progress.proofs.Tallied.{came, counted_kept, status_kept}
 use Rattle.flame_core.specs.NextAgents.{HasNext, IsNext}
+use Rattle.flame_field.specs.KeptPools.{AreDealt}
+use Rattle.flame_round.specs.Choices.{choice_at}
 use Rattle.flame_round.specs.KeptRounds.{round_of}
-use Rattle.flame_core.proofs.Comings.{agent_is}
+use Rattle.flame_core.specs.KeptShares.{ArePartsOf}
+use Rattle.flame_core.proofs.Comings.{agent_is, fit_outputs, parts_long}
+use Rattle.flame_core.proofs.Routed.{outputs_are}
 use Rattle.flame_core.proofs.Nexts.{has_next, left_of_it}
 use Rattle.flame_core.proofs.Running.{next_wide, running_below}
 use Rattle.flame_core.proofs.TakenIn.{began, fed_of}
@@ -64,6 +69,13 @@ next_leaving-requires-clause-fits c = λ memory next.
       wide = c.in_ok-boards.ensures.wide goes.place goes.there c.requires.ready.fits.field.boards;
     }
 
+pub by_outputs-requires : goal.by_outputs-requires
+by_outputs-requires c =
+    let model = c.args.round.now.program.now.model in
+    subst HasNoTwice
+    (sym (c.items.ensures ∙ outputs_are model c.args.function c.route_of-route.result.now c.route_of-route.ensures))
+    (c.requires.ready.tallies.once c.args.function)
+
 pub settle-requires-clause-left : goal.settle-requires-clause-left
 settle-requires-clause-left c =
     let core = core_of c.args.progress.now in
@@ -74,9 +86,9 @@ settle-requires-clause-left c =
     let P : Core → Type 0 = λ k′. IsNext k′ f k next.memory in
     let left = c.in_ok-leaving.ensures core.field.boards next.memory (subst P (sym kept.core) next.is) c.in_ok-boards.ensures.read in
     let work = next.is.work in
-    ap (λ (k′ : Core). are_left c.in_ok-leaving.leaving.ran (work_of k′ f k)) kept.core
-    ∙ ap (are_left c.in_ok-leaving.leaving.ran) next.is.there
-    ∙ ap (λ n. are_left n (Some work)) left.ran
+    ap (λ (k′ : Core). are_left c.in_ok-left.left.ran (work_of k′ f k)) kept.core
+    ∙ ap (are_left c.in_ok-left.left.ran) next.is.there
+    ∙ ap (λ n. are_left n (Some work)) (c.in_ok-left.ensures.ran_is ∙ left.ran)
     ∙ le-leb (work.ran + 1) (length work.agents) (omega (arith, left_of_it core f k next c.requires.legal))
 
 pub settle-requires-clause-known : goal.settle-requires-clause-known
@@ -85,6 +97,16 @@ settle-requires-clause-known c =
     c.requires.ready.tallies c.requires.legal in
     let kept = c.in_ok-boards.ensures.kept c.args.counts.now c.requires.ready.tallies in
     omega (arith, below, kept.tallies.functions)
+
+pub settle-requires-clause-parts : goal.settle-requires-clause-parts
+settle-requires-clause-parts c =
+    let model = c.args.round.now.program.now.model in
+    let f = c.args.function in
+    let kept = c.in_ok-boards.ensures.kept c.args.counts.now c.requires.ready.tallies in
+    let outputs = c.items.ensures ∙ outputs_are model f c.route_of-route.result.now c.route_of-route.ensures in
+    fit_outputs (outputs_of model f) (length c.in_ok-left.left.parts.items) (kept_at c.input_boards.new.progress f)
+    (parts_long c.items.result.now c.in_ok-leaving.leaving c.in_ok-left.left c.in_ok-left.ensures ∙ ap length outputs)
+    (kept.tallies.outputs f)
 
 pub settle-requires-clause-there : goal.settle-requires-clause-there
 settle-requires-clause-there c =
@@ -106,26 +128,28 @@ returns-clause-ok c =
     let route = c.route_of-route.result.now in
     let goes = c.route_of-route.ensures in
     let leaving = c.in_ok-leaving.leaving in
+    let parted = c.in_ok-left.left in
     let kept = c.in_ok-boards.ensures.kept counts c.requires.ready.tallies in
     let same = kept.core in
     let next = has_next core f k c.requires.legal in
     let work = next.is.work in
     let P : Core → Type 0 = λ k′. IsNext k′ f k next.memory in
     let left = c.in_ok-leaving.ensures core.field.boards next.memory (subst P (sym same) next.is) c.in_ok-boards.ensures.read in
-    let outputs = outputs_of model f in
+    let outputs = c.items.ensures ∙ outputs_are model f route goes in
+    let parts : ArePartsOf (outputs_of model f) leaving parted = subst (λ l. ArePartsOf l leaving parted) outputs c.in_ok-left.ensures in
     let made : Core → Core = λ old. record old {
-      statuses = with_work old f k (added outputs leaving work);
+      statuses = with_work old f k (added parted work);
       field = record old.field {
-        pools = changed_pool route.agent route.to (λ pool. merge pool (ascending leaving.survivors.items)) old.field.pools;
-        born = joined (births_of leaving.born.items) old.field.born;
+        pools = changed_pool route.agent route.to (λ pool. merge pool (ascending parted.survivors.items)) old.field.pools;
+        born = joined (births_of parted.born.items) old.field.born;
       };
     } in
     let is : core_of c.settle.new.self ≡ made core =
-    c.in_ok-settle.ensures.ok outputs work (kept.tallies.outputs f) (ap (λ (k′ : Core). work_of k′ f k) same ∙ next.is.there)
+    c.in_ok-settle.ensures.ok work (ap (λ (k′ : Core). work_of k′ f k) same ∙ next.is.there)
     ∙ ap made same in
     let open_is = opens_with (status_of core f) k work next.is.there in
     let less = open_within core.statuses f (works_of (status_of core f)) open_is in
-    let v : Status = Open (slice_set (works_of (status_of core f)) k (added outputs leaving work)) in
+    let v : Status = Open (slice_set (works_of (status_of core f)) k (added parted work)) in
     let all = came model c.input_boards.new.progress c.settle.new.self counts counts (made core) is
     (length-set core.statuses f v ∙ ap (λ (k′ : Core). length k′.statuses) (sym same)) (ap (λ (k′ : Core). length k′.frozen) (sym same))
     (λ g has. c.in_ok-settle.ensures.outputs g (outputs_of model g) has) kept.tallies
@@ -134,8 +158,8 @@ returns-clause-ok c =
     record {
       core =
           all.core
-          ∙ agent_is round c.args.pieces f k goes.place core work next.memory leaving route.agent route.to goes.there next.is.there
-          next.is.next goes.routed.agent goes.routed.to left;
+          ∙ agent_is round c.args.pieces f k goes.place core work next.memory leaving parted route.agent route.to goes.there next.is.there
+          next.is.next goes.routed.agent goes.routed.to left parts;
       tallies = all.tallies;
     }
 
@@ -150,3 +174,30 @@ returns-in_err-settle-clause-err c =
     (ap (λ (k′ : Core). length k′.statuses) (sym kept.core)) (ap (λ (k′ : Core). length k′.frozen) (sym kept.core))
     (λ g has. c.in_err-settle.ensures.outputs g (outputs_of model g) has) kept.tallies c.requires.ready.tallies.counted in
     on_err c.from_residual-in_err-settle.result still
+
+pub returns-in_err-boards-clause-dealt : goal.returns-in_err-boards-clause-dealt
+returns-in_err-boards-clause-dealt c =
+    subst (AreDealt (choice_at c.args.round.now.program.now.model c.args.round.now.iteration)) (sym c.in_err-boards.ensures.pools)
+    c.requires.ready.dealt
+
+pub returns-in_err-leaving-clause-dealt : goal.returns-in_err-leaving-clause-dealt
+returns-in_err-leaving-clause-dealt c =
+    subst (AreDealt (choice_at c.args.round.now.program.now.model c.args.round.now.iteration)) (sym c.in_ok-boards.ensures.pools)
+    c.requires.ready.dealt
+
+pub returns-in_err-left-clause-dealt : goal.returns-in_err-left-clause-dealt
+returns-in_err-left-clause-dealt c =
+    subst (AreDealt (choice_at c.args.round.now.program.now.model c.args.round.now.iteration)) (sym c.in_ok-boards.ensures.pools)
+    c.requires.ready.dealt
+
+pub returns-in_err-settle-clause-dealt : goal.returns-in_err-settle-clause-dealt
+returns-in_err-settle-clause-dealt c =
+    c.in_err-settle.ensures.dealt (choice_at c.args.round.now.program.now.model c.args.round.now.iteration)
+    (subst (AreDealt (choice_at c.args.round.now.program.now.model c.args.round.now.iteration)) (sym c.in_ok-boards.ensures.pools)
+    c.requires.ready.dealt)
+
+pub returns-clause-dealt : goal.returns-clause-dealt
+returns-clause-dealt c =
+    c.in_ok-settle.ensures.dealt (choice_at c.args.round.now.program.now.model c.args.round.now.iteration)
+    (subst (AreDealt (choice_at c.args.round.now.program.now.model c.args.round.now.iteration)) (sym c.in_ok-boards.ensures.pools)
+    c.requires.ready.dealt)

@@ -6,10 +6,12 @@ use Rattle.flame_spec.specs.Functions.{Place, functions}
 use Rattle.flame_index.specs.FrozenBoards.{shared_messages}
 use Rattle.flame_agent.specs.FunctionFits.{AreBoardsFor}
 use Rattle.flame_events.specs.CoreStates.{status_of, works_of}
+use Rattle.flame_field.specs.KeptPools.{AreDealt}
 use Rattle.flame_progress.specs.KeptCores.{core_of}
+use Rattle.flame_round.specs.Choices.{choice_at}
 use Rattle.flame_core.specs.SeenCores.{Seen}
 use Rattle.flame_core.proofs.Inside.{seen_of}
-use Rattle.flame_core.proofs.Comings.{reached_fits}
+use Rattle.flame_core.proofs.Comings.{reached_fits, stands_still}
 use Rattle.flame_core.proofs.InOrders.{reached_in_order}
 use Rattle.flame_core.proofs.TakenIn.{fed_of, has_begun}
 use Rattle.flame_core.proofs.cores.Core.boards.Goals as goal
@@ -38,3 +40,11 @@ returns-clause-wide c =
     → AreBoardsFor s.source.model place.function.inputs (map shared_messages boards)) in
     subst P c.self.view_is
     (IfOk-weaker c.input_boards.result _ _ (λ boards wide place at. wide place at fits) c.input_boards.ensures.wide)
+
+pub invariant_of-self : goal.invariant_of-self
+invariant_of-self c =
+    let inside = c.self.inside in
+    let seen = seen_of inside.program.now inside.world inside.iteration inside.fuel inside.pieces inside.progress in
+    stands_still seen inside.progress c.input_boards.new.progress inside.counts inside.counts inside.ranks c.self.invariant
+    (c.input_boards.ensures.kept inside.counts c.self.invariant.tallies)
+    (subst (AreDealt (choice_at inside.program.now.model inside.iteration)) (sym c.input_boards.ensures.pools) c.self.invariant.dealt)

@@ -9,14 +9,18 @@ use Rattle.flame_spec.specs.Below.{is_in}
 use Rattle.flame_spec.specs.Counted.{is_counted}
 use Rattle.flame_spec.specs.Functions.{functions}
 use Rattle.flame_world.specs.WorldFits.{FitTypes}
+use Rattle.flame_events.specs.CoreEnds.{is_faulted}
 use Rattle.flame_events.specs.CoreStates.{Core, is_shut, is_frozen, status_of, opening_core}
 use Rattle.flame_events.specs.LegalEvents.{inputs_of, outputs_of}
 use Rattle.flame_pieces.specs.KeptStatuses.{status_of as kept_status}
 use Rattle.flame_field.specs.KeptBoards.{is_board_frozen}
+use Rattle.flame_field.specs.KeptPools.{AreDealt}
+use Rattle.flame_round.specs.Choices.{choice_at}
 use Rattle.flame_progress.specs.KeptCores.{core_of}
 use Rattle.flame_progress.proofs.Tallied.{tells_same}
 use Rattle.flame_core.proofs.Counting.{functions_numbered}
-use Rattle.flame_core.proofs.InOrders.{nothing_frozen, nothing_shut}
+use Rattle.flame_core.proofs.InOrders.{nothing_faulted, nothing_frozen, nothing_shut}
+use Rattle.flame_core.proofs.ShutRanks.{nothing_reached}
 use Rattle.flame_orders.proofs.OnceOutputs.{outputs_once}
 use Rattle.flame_core.proofs.cores.Core.new.Goals as goal
 
@@ -42,6 +46,7 @@ invariant_of-result c =
     let frozen : (m : ℕ) → false ≡ is_frozen (core_of progress) m =
     λ m. sym (ap (λ (k : Core). is_frozen k m) is ∙ nothing_frozen model c.args.world.agents m) in
     let counts = c.in_ok-counts.ensures in
+    let fits : SFits w32 c.args.iteration = search rules in
     record {
       reached = record {
         fits = c.requires.fits;
@@ -50,6 +55,11 @@ invariant_of-result c =
         leads = record { legal = refl; left = is };
       };
       numbered = functions_numbered model counted;
+      dealt = subst (λ n. AreDealt (choice_at model n) progress.field.pools) (sym (to_z-of_z w32 c.args.iteration fits))
+          (c.in_ok-progress.ensures.dealt (choice_at model c.args.iteration));
+      ranked = nothing_reached model (core_of progress) c.none.result c.none.ensures.shut c.none.ensures.fault
+          (λ f. sym (shut f))
+          (λ f. ap (λ (k : Core). is_faulted k f) is ∙ nothing_faulted model c.args.world.agents f);
       tallies = record {
         functions =
             sym (length-map progress.statuses.items kept_status)

@@ -1,13 +1,9 @@
--- Functions one after another in model order, up to the first that is faulted.
+-- Model order, and the place of the first that passes a test.
 use Rattle.std.proofs.Common.{◌≡◌, ℕ, zero, suc, ◌+◌, ◌<◌, ◌≤◌, Bool, true, false, cond, List, [], ◌∷◌, ◌++◌, length, get_or, Option, Some, None, ap, ◌∙◌, arith, length-append}
-use Rattle.std.specs.Prelude.{not, ◌&&◌, nat_lt, position}
+use Rattle.std.specs.Prelude.{nat_lt, position}
 use Rattle.std.proofs.lemmas.Bool.{le-ltb, lt-ltb}
 use Rattle.std.proofs.lemmas.List.Sums.{position_or_len_is}
 use Rattle.flame_spec.specs.ModelOrder.{next, order, order_after, with_next}
-use Rattle.flame_events.specs.CoreStates.{Core, is_shut, status_of}
-use Rattle.flame_events.specs.CoreEnds.{is_faulted, unfaulted}
-use Rattle.flame_events.specs.LegalEvents.{are_shut}
-use Rattle.flame_events.proofs.Ends.{unfaulted-cons}
 
 -- model order has no more functions than there are
 order_after-few : (more n : ℕ) (before : ℕ → ℕ → Bool) (taken : List ℕ) → length (order_after more n before taken) ≤ more + length taken
@@ -22,18 +18,7 @@ order_after-few (suc more) n before taken = go (λ all. order_after-few more n b
 pub order_few : (n : ℕ) (before : ℕ → ℕ → Bool) → length (order n before) ≤ n
 order_few n before = omega (arith, order_after-few n n before [])
 
--- ---- are all shut that are wanted
-
-pub wanted_next : (core : Core) (f : ℕ) (fs : List ℕ) → is_faulted core f ≡ false
-    → are_shut core (unfaulted core (f ∷ fs)) ≡ (is_shut (status_of core f) && are_shut core (unfaulted core fs))
-wanted_next core f fs sound =
-    ap (are_shut core) (unfaulted-cons core f fs ∙ ap (λ b. cond (not b) (f ∷ unfaulted core fs) []) sound)
-
-pub wanted_ends : (core : Core) (f : ℕ) (fs : List ℕ) → is_faulted core f ≡ true → are_shut core (unfaulted core (f ∷ fs)) ≡ true
-wanted_ends core f fs faulted =
-    ap (are_shut core) (unfaulted-cons core f fs ∙ ap (λ b. cond (not b) (f ∷ unfaulted core fs) []) faulted)
-
--- ---- the first that is faulted
+-- ---- the first that passes
 
 pub found_rank : (test : ℕ → Bool) (items : List ℕ) (i : ℕ) → i < length items → ((k : ℕ) → k < i → test (get_or items k 0) ≡ false)
     → test (get_or items i 0) ≡ true → position test items ≡ Some i
