@@ -1,0 +1,6 @@
+"""The companion of flame: from a run to a figure. It needs Python 3.9 and its standard library alone.
+
+Nothing that is proved rests on it. The commands are the modules that `commands` names.
+"""
+
+VERSION = "1.0"

@@ -1,0 +1,1 @@
+"""Tests of the companion: python3 -m unittest discover -s companion/tests -t ."""
