@@ -3,4 +3,6 @@
 Nothing that is proved rests on it. The commands are the modules that `commands` names.
 """
 
-VERSION = "1.0"
+import pathlib
+
+VERSION = (pathlib.Path(__file__).resolve().parent.parent / "VERSION").read_text(encoding="utf-8").strip()
