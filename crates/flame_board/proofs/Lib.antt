@@ -1,0 +1,6 @@
+pub mod Weights
+mod Roles
+mod Relays
+mod Handed
+mod EndLists
+mod Turns

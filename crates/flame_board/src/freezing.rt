@@ -1,0 +1,88 @@
+//! All that lanes handed in is taken.
+
+ghost use Rattle.std.specs.Prelude.{◌≡◌, ◌+◌, true, ℕ, ℤ, List, OnOk, length};
+ghost use Rattle.crossbeam_channel.specs.Claims.{view, IsSeatAt};
+ghost use Rattle.crossbeam_channel.specs.Ends.{receives_on};
+ghost use Rattle.flame_rows.specs.Bags.{weigh};
+ghost use Rattle.flame_board.specs.LaneParts.{weigh_parts, weigh_stayed};
+ghost use Rattle.flame_board.specs.SeenLanes.{AreEndsOf, IsEndOf, parts_of, weigh_lanes};
+
+use crate::lanes::{End, Lane};
+use crate::logs::{Log, Relay, Roles, Takes};
+use crossbeam_channel::{Pass, RuledReceiver};
+use flame_rows::{NoMemory, Runs};
+use flame_world::Part;
+use std::sync::Wait;
+
+/// Takes all that was sent. The pass may send, too, so that it knows when all is taken.
+fn take_sent<R: Wait>(
+    rt: &R,
+    receiver: &RuledReceiver<Part, Log, Relay>,
+    mut pass: Pass<Part, Log>,
+    runs: &mut Runs,
+) -> Result<(), NoMemory>
+    requires seat { IsSeatAt (receives_on receiver.now) pass }
+    requires sends { (view pass).sends ≡ true }
+    requires takes { (view pass).takes ≡ true }
+    requires fresh { length (view pass).taken ≡ 0 }
+    ensures { OnOk result ((weight : List ℤ → ℕ)
+        → weigh weight runs.new ≡ weigh weight runs.old + weigh_parts weight (view pass).sent) }
+{
+    for _ in rt.forever() {
+        match receiver.try_recv_as::<Takes, R>(rt, &mut pass) {
+            Ok(part) => runs.add(part.rows)?,
+            Err(_) => return Ok(()),
+        }
+    }
+    unreachable!()
+}
+
+/// Takes what stayed with the lane.
+fn take_stayed(stayed: Vec<Option<Part>>, runs: &mut Runs) -> Result<(), NoMemory>
+    ensures { OnOk result ((weight : List ℤ → ℕ)
+        → weigh weight runs.new ≡ weigh weight runs.old + weigh_stayed weight stayed.items) }
+{
+    for one in stayed {
+        if let Some(part) = one {
+            runs.add(part.rows)?;
+        }
+    }
+    Ok(())
+}
+
+/// Takes all parts of a lane.
+fn take_lane<R: Wait>(rt: &R, end: End, lane: Lane, runs: &mut Runs) -> Result<(), NoMemory>
+    requires { IsEndOf end lane }
+    ensures { OnOk result ((weight : List ℤ → ℕ)
+        → weigh weight runs.new ≡ weigh weight runs.old + weigh_parts weight (parts_of lane)) }
+{
+    let Lane {
+        number: _,
+        dues: _,
+        sender,
+        mut pass,
+        boards,
+        stayed,
+    } = lane;
+    sender.absorb::<Roles>(&mut pass, boards);
+    take_sent(rt, &end.receiver, pass, runs)?;
+    take_stayed(stayed, runs)?;
+    Ok(())
+}
+
+/// Takes all parts of these lanes, of which these are the ends.
+pub(crate) fn take_lanes<R: Wait>(
+    rt: &R,
+    ends: Vec<End>,
+    lanes: Vec<Lane>,
+    runs: &mut Runs,
+) -> Result<(), NoMemory>
+    requires { AreEndsOf ends.items lanes.items }
+    ensures { OnOk result ((weight : List ℤ → ℕ)
+        → weigh weight runs.new ≡ weigh weight runs.old + weigh_lanes weight lanes.items) }
+{
+    for (end, lane) in ends.into_iter().zip(lanes) {
+        take_lane(rt, end, lane, runs)?;
+    }
+    Ok(())
+}
