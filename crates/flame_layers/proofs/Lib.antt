@@ -1,0 +1,9 @@
+pub mod FaultedStops
+pub mod WantedFunctions
+pub mod LayerOpenings
+pub mod OpenedLayers
+pub mod LayerRuns
+pub mod FrozenLayers
+pub mod NextLayers
+pub mod LayerEnds
+pub mod LayerWidths
