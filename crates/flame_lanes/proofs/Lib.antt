@@ -1,0 +1,7 @@
+pub mod Listed
+pub mod Columned
+mod Dealt
+mod GainSums
+mod GainLists
+mod BoardWeights
+mod TaskLists
