@@ -1,0 +1,78 @@
+-- What the parts of a task weigh, by their messages.
+use Rattle.std.proofs.Common.{◌≡◌, ℕ, zero, suc, ◌+◌, ◌≤◌, ◌||◌, Bool, true, false, cond, List, [], ◌∷◌, ◌++◌, map, refl, sym, ap, ◌∙◌, arith}
+use Rattle.std.specs.Prelude.{ℤ, ◌==◌}
+use Rattle.std.specs.List.{All}
+use Rattle.std.proofs.lemmas.Bool.{eqb-true}
+use Rattle.std.proofs.lemmas.List.Sums.{sum_by-cons}
+use Rattle.flame_rows.specs.Bags.{weigh}
+use Rattle.flame_rows.proofs.BagLaws.{weigh-ascending}
+use Rattle.flame_spec.specs.Below.{HasNoTwice, is_in, times}
+use Rattle.flame_spec.specs.declared.outcomes.Sent.{Sent}
+use Rattle.flame_world.specs.declared.pieces.Part.{Part}
+use Rattle.flame_world.specs.declared.pieces.Piece.{Piece}
+use Rattle.flame_world.specs.AgentRuns.{messages_of}
+use Rattle.flame_world.specs.Meaning.{part_for}
+use Rattle.flame_layerrun.specs.LayerWork.{weigh_of_type}
+
+-- one more in a list
+times-cons : (number own : ℕ) (numbers : List ℕ) → times number (own ∷ numbers) ≡ cond (own == number) 1 0 + times number numbers
+times-cons number own numbers = sum_by-cons (λ x. cond (x == number) 1 0) own numbers
+
+none-in : (number : ℕ) (numbers : List ℕ) → times number numbers ≡ 0 → is_in number numbers ≡ false
+none-in number [] none = refl
+none-in number (own ∷ numbers) none =
+    let sum : cond (own == number) 1 0 + times number numbers ≡ 0 = sym (times-cons number own numbers) ∙ none in
+    (elim (own == number) as (λ b. cond b 1 0 + times number numbers ≡ 0 → (b || is_in number numbers) ≡ false) [
+      | true ↦ λ one. absurd (omega (arith, one))
+      | false ↦ λ none_else. none-in number numbers (omega (arith, none_else))
+    ])
+    sum
+
+-- where it stands at the head, and none stands twice, it stands nowhere else
+once-there : (number own : ℕ) (numbers : List ℕ) → HasNoTwice (own ∷ numbers) → (own == number) ≡ true → is_in number numbers ≡ false
+once-there number own numbers once is =
+    let one : ◌≡◌ {A = ℕ} (cond (own == number) 1 0) 1 = ap (λ b. cond b 1 0) is in
+    none-in number numbers (omega (arith, times-cons number own numbers, once number, one))
+
+later-once : (own : ℕ) (numbers : List ℕ) → HasNoTwice (own ∷ numbers) → HasNoTwice numbers
+later-once own numbers once = λ number. omega (arith, times-cons number own numbers, once number)
+
+module _ (piece : Piece) (sent : List Sent) (message : ℕ) (weight : List ℤ → ℕ) where
+  abbrev here : ℕ
+  here = weigh weight (messages_of sent message)
+
+  -- what the part for an output weighs
+  abbrev own : ℕ → ℕ
+  own output = weigh weight (part_for piece sent output).rows
+
+  one-more : (output : ℕ) (b : Bool) (others : ℕ) (there : Bool)
+      → (b ≡ true → own output ≡ here)
+      → others ≡ cond there here 0
+      → (b ≡ true → there ≡ false)
+      → cond b (own output) 0 + others ≡ cond (b || there) here 0
+  one-more output true others there is rest once = omega (arith, is refl, rest ∙ ap (λ t. cond t here 0) (once refl))
+  one-more output false others there is rest once = omega (arith, rest)
+
+  pub weigh-parts : (outputs : List ℕ) → HasNoTwice outputs
+      → weigh_of_type (map (part_for piece sent) outputs) message weight ≡ cond (is_in message outputs) here 0
+  weigh-parts [] once = refl
+  weigh-parts (output ∷ outputs) once =
+      one-more output (output == message) (weigh_of_type (map (part_for piece sent) outputs) message weight)
+      (is_in message outputs)
+      (λ same.
+      weigh-ascending weight (messages_of sent output)
+      ∙ ap (λ n. weigh weight (messages_of sent n)) (eqb-true output message same))
+      (weigh-parts outputs (later-once output outputs once))
+      (once-there message output outputs once)
+
+pub messages-parts : (piece : Piece) (sent : List Sent) (outputs : List ℕ)
+    → map (λ (part : Part). part.message) (map (part_for piece sent) outputs) ≡ outputs
+messages-parts piece sent [] = refl
+messages-parts piece sent (output ∷ outputs) = ap (λ numbers. output ∷ numbers) (messages-parts piece sent outputs)
+
+-- all of the messages are all of the parts'
+pub all-mapped : {X Y : Type 0} (P : Y → Type 0) (f : X → Y) (xs : List X) → All P (map f xs) → All (λ x. P (f x)) xs
+all-mapped P f [] all k d less = absurd (omega (arith, less))
+all-mapped P f (x ∷ xs) all zero d less = all 0 (f d) (omega arith)
+all-mapped P f (x ∷ xs) all (suc k) d less =
+    all-mapped P f xs (λ place other within. all (suc place) other (omega (arith, within))) k d (omega (arith, less))

@@ -1,0 +1,13 @@
+//! Runs iterations by layers: the functions of a layer run side by side, their agents in pieces that workers share.
+#![tactic(auto)]
+
+mod bringing;
+mod iterations;
+mod layers;
+mod openings;
+mod outputs;
+mod runners;
+mod schedules;
+mod working;
+
+pub use runners::Layers;
