@@ -15,7 +15,7 @@ use crate::migrations::carry_migrate;
 use crate::runs::carry_run;
 use crate::texts::{TextOf, carry_text};
 use crate::trials::carry_trial;
-use flame_outside::{Depot, Sink};
+use flame_outside::{Depot, Gate, Sink};
 use flame_report::usage_text;
 use flame_rows::{Fail, NoMemory};
 use flame_words::{Order, Usage, order};
@@ -34,9 +34,10 @@ fn usage_ending(alloc: Global, usage: &Usage) -> Ending
 }
 
 /// Carries out an order, up to its end or to the first device that fails.
-fn carry_order<Rt: Threads + Wait + Sync, D: Depot, S: Sink>(
+fn carry_order<Rt: Threads + Wait + Sync, D: Depot, S: Sink, G: Gate>(
     rt: &Rt,
     alloc: Global,
+    gate: &G,
     order: &Order,
     depot: &mut D,
     out: &mut S,
@@ -52,11 +53,11 @@ fn carry_order<Rt: Threads + Wait + Sync, D: Depot, S: Sink>(
         (outside (D.seen depot.old) (S.seen out.old)) (outside (D.seen depot.new) (S.seen out.new)) }
 {
     match order {
-        Order::Run(order) => carry_run(rt, alloc, order, depot, out),
+        Order::Run(order) => carry_run(rt, alloc, gate, order, depot, out),
         Order::Check(model) => carry_text(alloc, model.as_str(), TextOf::Counts, depot, out),
         Order::Graph(model) => carry_text(alloc, model.as_str(), TextOf::Graph, depot, out),
         Order::Code(model) => carry_text(alloc, model.as_str(), TextOf::Code, depot, out),
-        Order::Trial(order) => carry_trial(rt, alloc, order, out),
+        Order::Trial(order) => carry_trial(rt, alloc, gate, order, out),
         Order::Migrate(model, pop, to) => carry_migrate(
             alloc,
             model.as_str(),
@@ -69,9 +70,10 @@ fn carry_order<Rt: Threads + Wait + Sync, D: Depot, S: Sink>(
 }
 
 /// Carries out what the words order, up to its end or to the first device that fails.
-pub(crate) fn carry<Rt: Threads + Wait + Sync, D: Depot, S: Sink>(
+pub(crate) fn carry<Rt: Threads + Wait + Sync, D: Depot, S: Sink, G: Gate>(
     rt: &Rt,
     alloc: Global,
+    gate: &G,
     words: &[String],
     depot: &mut D,
     out: &mut S,
@@ -83,7 +85,7 @@ pub(crate) fn carry<Rt: Threads + Wait + Sync, D: Depot, S: Sink>(
         (outside (D.seen depot.old) (S.seen out.old)) (outside (D.seen depot.new) (S.seen out.new)) }
 {
     match order(alloc, words) {
-        Ok(order) => carry_order(rt, alloc, &order, depot, out),
+        Ok(order) => carry_order(rt, alloc, gate, &order, depot, out),
         Err(Fail::Fault(usage)) => Carried::before_files(usage_ending(alloc, &usage)),
         Err(Fail::NoMemory) => Carried::before_files(Ending::NoMemory),
     }

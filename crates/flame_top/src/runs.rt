@@ -1,9 +1,10 @@
 //! Runs of a program.
 
-ghost use Rattle.std.specs.Prelude.{◌≡◌, Some, pos, ◌+ℤ◌, ◌≤ℤ◌};
+ghost use Rattle.std.specs.Prelude.{◌≡◌, ◌≤◌, Some, pos, ◌+ℤ◌, ◌≤ℤ◌, IfOk};
 ghost use Rattle.flame_outside.specs.Files.{Files};
 ghost use Rattle.flame_outside.specs.Frames.{OnlyPuts, Grows};
 ghost use Rattle.flame_outside.specs.Scripts.{outside};
+ghost use Rattle.flame_world.specs.Iterations.{iteration as meant};
 ghost use Rattle.flame_world.specs.WorldFits.{FitsModel};
 ghost use Rattle.flame_load.specs.TextReads.{Reader, ReadsTexts};
 ghost use Rattle.flame_top.specs.OrderReports.{version, ordered_run, run_of_source, run_reading};
@@ -13,13 +14,15 @@ ghost use Rattle.flame_top.specs.Standing.{Stands, Carries, IsOfInput, Keeps};
 use crate::ending::{Carried, Ending};
 use crate::inputs::{program_in, start_in};
 use flame_driver::{DriveEnd, Driven, drive, file_name};
-use flame_outside::{Depot, Sink};
+use flame_layerrun::Layers;
+use flame_outside::{Depot, Gate, Sink};
 use flame_popfile::{Format, Start};
 use flame_program::Program;
 use flame_report::sim_text;
 use flame_rows::{NoMemory, Text};
-use flame_runner::PlainRunner;
+use flame_runner::ClosureRunner;
 use flame_words::RunOrder;
+use flame_world::{Turn, World};
 use std::alloc::Global;
 use std::sync::Wait;
 use std::thread::Threads;
@@ -35,11 +38,19 @@ fn version(number: u32) -> Format
     }
 }
 
-/// Runs a program from a start on, as it is ordered. How many workers are ordered, and what they wait for, changes nothing:
-/// the run goes on one thread.
-pub(crate) fn run_from<Rt: Threads + Wait + Sync, D: Depot, S: Sink>(
+/// So many workers, or one.
+fn some(workers: u32) -> u32
+    ensures { 1 ≤ result }
+{
+    workers.max(1)
+}
+
+/// Runs a program from a start on, as it is ordered: by layers, whatever the workers are ordered to wait for. The workers call
+/// the gate just before they run a piece.
+pub(crate) fn run_from<Rt: Threads + Wait + Sync, D: Depot, S: Sink, G: Gate>(
     rt: &Rt,
     alloc: Global,
+    gate: &G,
     program: &Program,
     order: &RunOrder,
     start: Start,
@@ -57,10 +68,18 @@ pub(crate) fn run_from<Rt: Threads + Wait + Sync, D: Depot, S: Sink>(
     ensures grows { Grows (S.seen out.old) (S.seen out.new) }
 {
     let prefix = order.out.as_str();
+    let workers = order.how.workers;
+    let call = |alloc: Global, program: &Program, world: World, iteration: i32, fuel: u32| -> Result<
+        Turn,
+        NoMemory,
+    >
+        requires { FitsModel program.now.model world }
+        ensures { IfOk result (λ turn. turn ≡ meant program.now world iteration fuel) }
+    { Layers::new(gate, some(workers)).iterate(rt, alloc, program, world, iteration, fuel) };
     let Driven { end, files } = drive(
         rt,
         alloc,
-        &mut PlainRunner,
+        &mut ClosureRunner { call },
         program,
         start,
         order.turns,
@@ -96,9 +115,10 @@ fn ending_of(alloc: Global, program: &Program, prefix: &str, end: DriveEnd) -> E
 }
 
 /// `run` of a program: reads the population, and runs.
-fn run_program<Rt: Threads + Wait + Sync, D: Depot, S: Sink>(
+fn run_program<Rt: Threads + Wait + Sync, D: Depot, S: Sink, G: Gate>(
     rt: &Rt,
     alloc: Global,
+    gate: &G,
     program: &Program,
     order: &RunOrder,
     depot: &mut D,
@@ -111,15 +131,16 @@ fn run_program<Rt: Threads + Wait + Sync, D: Depot, S: Sink>(
         (outside (D.seen depot.old) (S.seen out.old)) (outside (D.seen depot.new) (S.seen out.new)) }
 {
     match start_in(alloc, depot, order.pop.as_str(), program, order.turns) {
-        Ok(start) => run_from(rt, alloc, program, order, start, depot, out),
+        Ok(start) => run_from(rt, alloc, gate, program, order, start, depot, out),
         Err(ending) => Carried::before_files(ending),
     }
 }
 
 /// `run`: reads the model, then the population, and runs.
-pub(crate) fn carry_run<Rt: Threads + Wait + Sync, D: Depot, S: Sink>(
+pub(crate) fn carry_run<Rt: Threads + Wait + Sync, D: Depot, S: Sink, G: Gate>(
     rt: &Rt,
     alloc: Global,
+    gate: &G,
     order: &RunOrder,
     depot: &mut D,
     out: &mut S,
@@ -131,7 +152,7 @@ pub(crate) fn carry_run<Rt: Threads + Wait + Sync, D: Depot, S: Sink>(
         (outside (D.seen depot.old) (S.seen out.old)) (outside (D.seen depot.new) (S.seen out.new)) }
 {
     match program_in(alloc, depot, order.model.as_str()) {
-        Ok(program) => run_program(rt, alloc, &program, order, depot, out),
+        Ok(program) => run_program(rt, alloc, gate, &program, order, depot, out),
         Err(ending) => Carried::before_files(ending),
     }
 }

@@ -46,7 +46,8 @@ pub struct Ended {
 ///
 /// W is how many workers there are, 1 to 64; F is how many turns of loops and calls of helpers each call of a
 /// function may take, 0 to 1,000,000,000. Without an option it is `--workers 1`, `--fuel 1000000`, `--sync layers`
-/// and `--format 1`. A run goes on one thread today: `--workers` and `--sync` change nothing, and `gate` is not used.
+/// and `--format 1`. The functions of a layer run side by side, their agents in pieces that the W workers share, who call
+/// `gate` just before they run a piece; where a thread cannot be started, the others do its work. Both ways go by layers today.
 ///
 /// All inputs are read before anything is put or printed: the model file MODEL and those nested in it, at most 64,
 /// then their function files, each of at most 4,194,304 bytes, and then POP, of at most 67,108,864. A run whose last
@@ -63,7 +64,7 @@ pub fn flame<Rt: Threads + Wait + Sync, D: Depot, S: Sink, G: Gate>(
     depot: &mut D,
     out: &mut S,
     err: &mut S,
-    _gate: &G,
+    gate: &G,
 ) -> Ended
     // Where the depot tells its files, with each reader that reads texts as they are read.
     ensures carries { (told : Files) (read : Reader) → (D.seen depot.old).files ≡ Some told → ReadsTexts read
@@ -87,6 +88,6 @@ pub fn flame<Rt: Threads + Wait + Sync, D: Depot, S: Sink, G: Gate>(
     ensures calm_out { IsTrue (S.seen out.old).calm → result.status ≡ 6
         → PutFailed (D.seen depot.old) (D.seen depot.new) }
 {
-    let carried = carry(rt, alloc, words, depot, out);
+    let carried = carry(rt, alloc, gate, words, depot, out);
     tell(alloc, carried, err)
 }

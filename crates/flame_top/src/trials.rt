@@ -21,7 +21,7 @@ use crate::inputs::{program_in, start_in};
 use crate::runs::run_from;
 use crate::texts::print_text;
 use flame_driver::laws::{different_names, iterated_runs, written_stages};
-use flame_outside::{MemDepot, Sink};
+use flame_outside::{Gate, MemDepot, Sink};
 use flame_popfile::Start;
 use flame_program::Program;
 use flame_rows::{Blob, NoMemory, Text};
@@ -118,9 +118,10 @@ fn end_trial<S: Sink>(alloc: Global, ended: Ending, files: &MemDepot, out: &mut 
 }
 
 /// Runs a program as a trial, from a start on. Its files go to a depot of their own.
-fn run_trial<Rt: Threads + Wait + Sync, S: Sink>(
+fn run_trial<Rt: Threads + Wait + Sync, S: Sink, G: Gate>(
     rt: &Rt,
     alloc: Global,
+    gate: &G,
     program: &Program,
     order: &RunOrder,
     start: Start,
@@ -140,15 +141,16 @@ fn run_trial<Rt: Threads + Wait + Sync, S: Sink>(
     iterated_runs();
     written_stages();
     let mut files = calm_depot(alloc);
-    let ran = run_from(rt, alloc, program, order, start, &mut files, out);
+    let ran = run_from(rt, alloc, gate, program, order, start, &mut files, out);
     let Carried { ending, .. } = ran;
     Carried::before_files(end_trial(alloc, ending, &files, out))
 }
 
 /// A trial of a program over inputs that never fail: reads the population, and runs.
-fn start_trial<Rt: Threads + Wait + Sync, S: Sink>(
+fn start_trial<Rt: Threads + Wait + Sync, S: Sink, G: Gate>(
     rt: &Rt,
     alloc: Global,
+    gate: &G,
     program: &Program,
     order: &RunOrder,
     inputs: &mut MemDepot,
@@ -164,15 +166,16 @@ fn start_trial<Rt: Threads + Wait + Sync, S: Sink>(
     ensures read { ¬ IsReadFault result.ending }
 {
     match start_in(alloc, inputs, order.pop.as_str(), program, order.turns) {
-        Ok(start) => run_trial(rt, alloc, program, order, start, out),
+        Ok(start) => run_trial(rt, alloc, gate, program, order, start, out),
         Err(ending) => Carried::before_files(ending),
     }
 }
 
 /// A trial over inputs that never fail: reads the model, then the population, and runs.
-fn trial_over<Rt: Threads + Wait + Sync, S: Sink>(
+fn trial_over<Rt: Threads + Wait + Sync, S: Sink, G: Gate>(
     rt: &Rt,
     alloc: Global,
+    gate: &G,
     order: &RunOrder,
     inputs: &mut MemDepot,
     out: &mut S,
@@ -188,7 +191,7 @@ fn trial_over<Rt: Threads + Wait + Sync, S: Sink>(
     ensures read { ¬ IsReadFault result.ending }
 {
     match program_in(alloc, inputs, order.model.as_str()) {
-        Ok(program) => start_trial(rt, alloc, &program, order, inputs, out),
+        Ok(program) => start_trial(rt, alloc, gate, &program, order, inputs, out),
         Err(ending) => Carried::before_files(ending),
     }
 }
@@ -206,9 +209,10 @@ fn trial_inputs(alloc: Global, order: &TrialOrder) -> Result<(RunOrder, MemDepot
 }
 
 /// `trial`: runs the meadow over files in memory, prints its lines, and then how many bytes its files have together.
-pub(crate) fn carry_trial<Rt: Threads + Wait + Sync, S: Sink>(
+pub(crate) fn carry_trial<Rt: Threads + Wait + Sync, S: Sink, G: Gate>(
     rt: &Rt,
     alloc: Global,
+    gate: &G,
     order: &TrialOrder,
     out: &mut S,
 ) -> Carried
@@ -222,7 +226,7 @@ pub(crate) fn carry_trial<Rt: Threads + Wait + Sync, S: Sink>(
     ensures read { ¬ IsReadFault result.ending }
 {
     match trial_inputs(alloc, order) {
-        Ok((run, mut inputs)) => trial_over(rt, alloc, &run, &mut inputs, out),
+        Ok((run, mut inputs)) => trial_over(rt, alloc, gate, &run, &mut inputs, out),
         Err(NoMemory) => Carried::before_files(Ending::NoMemory),
     }
 }
