@@ -8,8 +8,10 @@ mod faults;
 mod happening;
 mod inputs;
 mod ranks;
+mod recorded;
 mod starting;
 
 pub use cores::Core;
 pub use faults::StepFault;
 pub use flame_events::Event;
+pub use recorded::Recorded;
