@@ -15,4 +15,3 @@ mod DoneJobs
 mod LongerLanes
 mod RunTasks
 mod SentParts
-mod SharedPrograms

@@ -1,3 +1,4 @@
 mod Loops
 mod PartedMessages
 mod RunPieces
+pub mod SharedPrograms

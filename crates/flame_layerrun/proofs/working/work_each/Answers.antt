@@ -26,7 +26,7 @@ use Rattle.flame_lanes.specs.declared.jobs.Done.{Done}
 use Rattle.flame_lanes.specs.declared.jobs.Job.{Job}
 use Rattle.flame_layerrun.specs.LayerTasks.{AreRead}
 use Rattle.flame_layerrun.specs.LayerWork.{IsDone}
-use Rattle.flame_layerrun.proofs.SharedPrograms.{program-sync}
+use Rattle.flame_share.proofs.SharedPrograms.{program-sync}
 use Rattle.flame_layerrun.proofs.working.work_each.Lts
 use Rattle.flame_layerrun.proofs.working.work_each.Goals as goal
 

@@ -49,13 +49,29 @@ condition-sync : IsSync condition.the_row
 condition-sync = as_row_sync condition.the_field (sync-Condition op-field operand-field boxed-sync text-sync (search sendable))
 
 expression-field : IsSync (expression.the_field).row
-expression-field = sync-Expr (search (op-field, sign-field, sign-sync, boxed-sync, seq-sync, text-sync, as_row_sync, sendable) depth 8) (search (op-field, sign-field, sign-sync, boxed-sync, seq-sync, text-sync, as_row_sync, sendable) depth 8) (search (op-field, sign-field, sign-sync, boxed-sync, seq-sync, text-sync, as_row_sync, sendable) depth 8) (search (op-field, sign-field, sign-sync, boxed-sync, seq-sync, text-sync, as_row_sync, sendable) depth 8) (search (op-field, sign-field, sign-sync, boxed-sync, seq-sync, text-sync, as_row_sync, sendable) depth 8) (search (op-field, sign-field, sign-sync, boxed-sync, seq-sync, text-sync, as_row_sync, sendable) depth 8) (search (op-field, sign-field, sign-sync, boxed-sync, seq-sync, text-sync, as_row_sync, sendable) depth 8)
+expression-field =
+    sync-Expr
+    (search (op-field, sign-field, sign-sync, boxed-sync, seq-sync, text-sync, as_row_sync, sendable) depth 8)
+    (search (op-field, sign-field, sign-sync, boxed-sync, seq-sync, text-sync, as_row_sync, sendable) depth 8)
+    (search (op-field, sign-field, sign-sync, boxed-sync, seq-sync, text-sync, as_row_sync, sendable) depth 8)
+    (search (op-field, sign-field, sign-sync, boxed-sync, seq-sync, text-sync, as_row_sync, sendable) depth 8)
+    (search (op-field, sign-field, sign-sync, boxed-sync, seq-sync, text-sync, as_row_sync, sendable) depth 8)
+    (search (op-field, sign-field, sign-sync, boxed-sync, seq-sync, text-sync, as_row_sync, sendable) depth 8)
+    (search (op-field, sign-field, sign-sync, boxed-sync, seq-sync, text-sync, as_row_sync, sendable) depth 8)
 
 expression-sync : IsSync expression.the_row
 expression-sync = as_row_sync expression.the_field expression-field
 
 subscript-field : IsSync (subscript.the_field).row
-subscript-field = sync-Subscript (search (op-field, sign-field, sign-sync, boxed-sync, seq-sync, text-sync, as_row_sync, sendable) depth 8) (search (op-field, sign-field, sign-sync, boxed-sync, seq-sync, text-sync, as_row_sync, sendable) depth 8) (search (op-field, sign-field, sign-sync, boxed-sync, seq-sync, text-sync, as_row_sync, sendable) depth 8) (search (op-field, sign-field, sign-sync, boxed-sync, seq-sync, text-sync, as_row_sync, sendable) depth 8) (search (op-field, sign-field, sign-sync, boxed-sync, seq-sync, text-sync, as_row_sync, sendable) depth 8) (search (op-field, sign-field, sign-sync, boxed-sync, seq-sync, text-sync, as_row_sync, sendable) depth 8) (search (op-field, sign-field, sign-sync, boxed-sync, seq-sync, text-sync, as_row_sync, sendable) depth 8)
+subscript-field =
+    sync-Subscript
+    (search (op-field, sign-field, sign-sync, boxed-sync, seq-sync, text-sync, as_row_sync, sendable) depth 8)
+    (search (op-field, sign-field, sign-sync, boxed-sync, seq-sync, text-sync, as_row_sync, sendable) depth 8)
+    (search (op-field, sign-field, sign-sync, boxed-sync, seq-sync, text-sync, as_row_sync, sendable) depth 8)
+    (search (op-field, sign-field, sign-sync, boxed-sync, seq-sync, text-sync, as_row_sync, sendable) depth 8)
+    (search (op-field, sign-field, sign-sync, boxed-sync, seq-sync, text-sync, as_row_sync, sendable) depth 8)
+    (search (op-field, sign-field, sign-sync, boxed-sync, seq-sync, text-sync, as_row_sync, sendable) depth 8)
+    (search (op-field, sign-field, sign-sync, boxed-sync, seq-sync, text-sync, as_row_sync, sendable) depth 8)
 
 value-field : IsSync (value.the_field).row
 value-field = search (expression-field, expression-sync, seq-sync, text-sync, sendable) depth 12
@@ -70,7 +86,18 @@ item-sync : IsSync item.the_row
 item-sync = search (declared_sync, variants_sync, as_row_sync, value-sync, seq-sync, text-sync, sendable) depth 20
 
 statement-sync : IsSync statement.the_row
-statement-sync = as_row_sync statement.the_field (sync-Stmt (search (item-sync, assign-field, expression-sync, expression-field, boxed-sync, seq-sync, text-sync, sendable) depth 12) (search (item-sync, assign-field, expression-sync, expression-field, boxed-sync, seq-sync, text-sync, sendable) depth 12) (search (item-sync, assign-field, expression-sync, expression-field, boxed-sync, seq-sync, text-sync, sendable) depth 12) (search (item-sync, assign-field, expression-sync, expression-field, boxed-sync, seq-sync, text-sync, sendable) depth 12) (search (item-sync, assign-field, expression-sync, expression-field, boxed-sync, seq-sync, text-sync, sendable) depth 12) (search (item-sync, assign-field, expression-sync, expression-field, boxed-sync, seq-sync, text-sync, sendable) depth 12) (search (item-sync, assign-field, expression-sync, expression-field, boxed-sync, seq-sync, text-sync, sendable) depth 12) (search (item-sync, assign-field, expression-sync, expression-field, boxed-sync, seq-sync, text-sync, sendable) depth 12) (search (item-sync, assign-field, expression-sync, expression-field, boxed-sync, seq-sync, text-sync, sendable) depth 12) (search (item-sync, assign-field, expression-sync, expression-field, boxed-sync, seq-sync, text-sync, sendable) depth 12))
+statement-sync =
+    as_row_sync statement.the_field (sync-Stmt
+    (search (item-sync, assign-field, expression-sync, expression-field, boxed-sync, seq-sync, text-sync, sendable) depth 12)
+    (search (item-sync, assign-field, expression-sync, expression-field, boxed-sync, seq-sync, text-sync, sendable) depth 12)
+    (search (item-sync, assign-field, expression-sync, expression-field, boxed-sync, seq-sync, text-sync, sendable) depth 12)
+    (search (item-sync, assign-field, expression-sync, expression-field, boxed-sync, seq-sync, text-sync, sendable) depth 12)
+    (search (item-sync, assign-field, expression-sync, expression-field, boxed-sync, seq-sync, text-sync, sendable) depth 12)
+    (search (item-sync, assign-field, expression-sync, expression-field, boxed-sync, seq-sync, text-sync, sendable) depth 12)
+    (search (item-sync, assign-field, expression-sync, expression-field, boxed-sync, seq-sync, text-sync, sendable) depth 12)
+    (search (item-sync, assign-field, expression-sync, expression-field, boxed-sync, seq-sync, text-sync, sendable) depth 12)
+    (search (item-sync, assign-field, expression-sync, expression-field, boxed-sync, seq-sync, text-sync, sendable) depth 12)
+    (search (item-sync, assign-field, expression-sync, expression-field, boxed-sync, seq-sync, text-sync, sendable) depth 12))
 
 input-sync : IsSync input.the_row
 input-sync = search (declared_sync, variants_sync, as_row_sync, text-sync, condition-sync, sort-sync, sendable) depth 20
