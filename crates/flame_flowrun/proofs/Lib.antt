@@ -1,0 +1,2 @@
+mod Dueness
+mod SharedDesks

@@ -1,0 +1,6 @@
+-- Each definition's comment ends with its source in brackets:
+-- own: a choice of this project, or a word that a definition is made of
+-- ---- the words that only bodies and proofs use
+pub mod Origins
+pub mod DueJobs
+pub mod FlowRecords
