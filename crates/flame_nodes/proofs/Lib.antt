@@ -1,0 +1,9 @@
+pub mod Totals
+pub mod PartedTakers
+pub mod NodeLists
+pub mod SentParts
+pub mod LeftShares
+pub mod SharedRuns
+pub mod NodeSteps
+pub mod SharedSources
+pub mod SentShares

@@ -1,0 +1,12 @@
+use Rattle.std.proofs.Common.{◌≡◌, ◌++◌, map}
+use Rattle.std.specs.List.{All}
+use Rattle.flame_world.specs.Shares.{piece_of, setting_of}
+use Rattle.flame_nodes.specs.NodeWork.{CanRun, IsUnder}
+use Rattle.flame_nodes.proofs.gathering.share_all.Given as goal
+
+abbrev pub invariant-loop-piece : goal.invariant-loop-piece
+invariant-loop-piece l = record {
+  pieces : map piece_of l.shares.items ++ l.piece-iterator.rest.items ≡ l.fn.pieces.items;
+  settings : All (λ share. IsUnder l.terms (setting_of share)) l.shares.items;
+  fit : All (CanRun l.terms) l.piece-iterator.rest.items;
+}

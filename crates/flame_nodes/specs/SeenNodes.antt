@@ -1,0 +1,11 @@
+-- What is seen of a runner by nodes.
+use Rattle.std.specs.Prelude.{ℕ, List, Option}
+use Rattle.flame_nodes.specs.declared.runners.Nodes.{Nodes}
+
+-- how many nodes [own]
+abbrev pub count_of : {G : Type 0} → Nodes G → ℕ
+count_of runner = runner.nodes
+
+-- the name of the variable by which agents are parted, where one is given [own]
+abbrev pub name_of : {G : Type 0} → Nodes G → Option (List ℕ)
+name_of runner = runner.by
