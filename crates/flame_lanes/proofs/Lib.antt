@@ -5,3 +5,4 @@ mod GainSums
 mod GainLists
 mod BoardWeights
 mod TaskLists
+mod LastRuns

@@ -1,12 +1,12 @@
 -- Messages that are listed, each once.
-use Rattle.std.proofs.Common.{◌≡◌, ℕ, zero, suc, ◌+◌, ◌<◌, Bool, true, false, cond, ltb, get_or, drop, ◌||◌, ◌⊎◌, inl, inr, List, [], ◌∷◌, ◌++◌, length, set, Option, Some, None, refl, sym, ap, ◌∙◌, arith, ⊎_elim}
+use Rattle.std.proofs.Common.{◌≡◌, ℕ, zero, suc, ◌<◌, Bool, true, false, cond, ltb, get_or, ◌||◌, ◌⊎◌, inl, inr, List, [], ◌∷◌, ◌++◌, length, set, Option, Some, None, refl, sym, ap, ◌∙◌, arith, ⊎_elim}
 use Rattle.std.specs.Prelude.{◌==◌, slice_get, IfSome}
 use Rattle.std.specs.Option.{is_some}
 use Rattle.std.proofs.lemmas.Bool.{cases_eq, eq-eqb, lt-ltb, ne_eqb, true≢false}
 use Rattle.std.proofs.lemmas.Option.{same_Some}
-use Rattle.flame_rows.proofs.Lists.{drop-there, list_any-at}
+use Rattle.flame_rows.proofs.Lists.{list_any-at}
 use Rattle.flame_spec.specs.Below.{is_in}
-use Rattle.flame_lanes.specs.ListedMessages.{AreOnce, HavePlaces, with_message, with_messages}
+use Rattle.flame_lanes.specs.ListedMessages.{AreOnce, HavePlaces, with_message}
 
 -- ---- what stands at a place
 

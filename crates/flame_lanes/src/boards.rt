@@ -1,9 +1,10 @@
 //! The boards of a layer.
 
-ghost use Rattle.std.specs.Prelude.{◌≡◌, ◌<◌, ◌+◌, ℕ, ℤ, List, [], IfOk, OnOk, length, map, slice_index_or};
+ghost use Rattle.std.specs.Prelude.{◌≡◌, ◌<◌, ◌+◌, ℕ, ℤ, List, [], IfOk, IsTrue, OnOk, length, map, slice_index_or};
 ghost use Rattle.std.specs.List.{All};
 ghost use Rattle.flame_rows.specs.Bags.{ascending, merge, weigh};
 ghost use Rattle.flame_world.specs.Fields.{changed};
+ghost use Rattle.flame_index.specs.FrozenBoards.{messages_on};
 ghost use Rattle.flame_field.specs.KeptBoards.{board_bag};
 ghost use Rattle.flame_board.specs.SeenBoards.{AreLanesOf, before_of};
 ghost use Rattle.flame_board.specs.SeenLanes.{weigh_lanes};
@@ -11,6 +12,7 @@ ghost use Rattle.flame_lanes.specs.LayerBoards.{AreNewBoards, TakeFrom, weigh_be
 
 use flame_board::{Board, Lane, Layer};
 use flame_field::{self as field, Gathering};
+use flame_index::Frozen;
 use flame_rows::{Bag, NoMemory, Row, Seq};
 use std::alloc::Global;
 use std::mem;
@@ -25,8 +27,19 @@ fn take(alloc: Global, boards: &mut Vec<field::Board>, message: u32) -> Result<B
     mem::replace(&mut boards[message as usize], field::Board::empty(alloc)).into_bag()
 }
 
+/// Whether the board gathers and has no messages yet.
+fn is_new(board: &field::Board) -> bool
+    ensures { IsTrue result → board_bag board.now ≡ [] }
+{
+    match board {
+        field::Board::Gathering(messages) => messages.is_empty(),
+        field::Board::Frozen(_) => false,
+        field::Board::Shared(_) => false,
+    }
+}
+
 /// Messages join their board, which gathers from then on.
-fn put(alloc: Global, board: &mut field::Board, rows: Vec<Row>) -> Result<(), NoMemory>
+fn join(alloc: Global, board: &mut field::Board, rows: Vec<Row>) -> Result<(), NoMemory>
     ensures { OnOk result (board_bag board.new ≡ merge (board_bag board.old) (ascending rows.items)) }
 {
     let mut all = match mem::replace(board, field::Board::empty(alloc)) {
@@ -36,6 +49,18 @@ fn put(alloc: Global, board: &mut field::Board, rows: Vec<Row>) -> Result<(), No
     all.add_all(rows)?;
     *board = field::Board::Gathering(all);
     Ok(())
+}
+
+/// The messages of a frozen board join a board of the field. Where that has none yet the frozen one takes its place as it
+/// stands, so that nobody has to look whether its messages are in order.
+fn put(alloc: Global, board: &mut field::Board, frozen: Frozen) -> Result<(), NoMemory>
+    ensures { OnOk result (board_bag board.new ≡ merge (board_bag board.old) (ascending (messages_on frozen))) }
+{
+    if is_new(board) {
+        *board = field::Board::Frozen(frozen);
+        return Ok(());
+    }
+    join(alloc, board, frozen.into_bag().into_rows())
 }
 
 /// A board of the layer for each of these messages, with what its board in the field has, and the lanes to it.
@@ -78,7 +103,7 @@ fn freeze_into<R: Wait>(
         ≡ weigh weight (board_bag into.old) + (weigh weight (before_of board) + weigh_lanes weight column.items)) }
 {
     let frozen = board.freeze(rt, Seq::of(column))?;
-    put(alloc, into, frozen.into_bag().into_rows())?;
+    put(alloc, into, frozen)?;
     Ok(())
 }
 

@@ -46,6 +46,19 @@ fn lesser(one: Option<SimFault>, two: Option<SimFault>) -> Option<SimFault>
     }
 }
 
+/// Adds rows behind others. Where there are none yet their list is taken as it stands.
+fn add_rows(all: &mut Vec<Row>, rows: Vec<Row>) -> Result<(), NoMemory>
+    ensures { OnOk result (all.new.items ≡ all.old.items ++ rows.items) }
+{
+    if all.is_empty() {
+        *all = rows;
+        return Ok(());
+    }
+    let mut rows = rows;
+    all.append(&mut rows)?;
+    Ok(())
+}
+
 impl Gain {
     /// What nobody leaves.
     fn nothing(alloc: Global) -> Gain
@@ -66,9 +79,9 @@ impl Gain {
             → IsGain iteration function run (agents ++ more) self.new) }
     {
         parts_make_the_whole();
-        let mut survivors = rest.survivors.into_rows();
+        let survivors = rest.survivors.into_rows();
         let mut born = rest.born.into_items();
-        self.survivors.append(&mut survivors)?;
+        add_rows(&mut self.survivors, survivors)?;
         self.born.append(&mut born)?;
         self.fault = lesser(self.fault.take(), rest.fault);
         Ok(())

@@ -1,13 +1,11 @@
 //! The agents of the functions of a layer, in pieces.
 
-ghost use Rattle.std.specs.Prelude.{◌≡◌, ◌++◌, ◌≤◌, IfOk, OnOk, drop, take};
-ghost use Rattle.std.specs.Vec.Iter.{into_iter_items};
+ghost use Rattle.std.specs.Prelude.{◌≡◌, ◌++◌, ◌≤◌, IfOk, OnOk};
 ghost use Rattle.flame_rows.specs.Cuts.{cut};
 ghost use Rattle.flame_lanes.specs.LaneTasks.{tasks_of};
 
 use flame_rows::{NoMemory, Row, Seq, number};
 use std::alloc::Global;
-use std::vec::IntoIter;
 
 /// Some of the agents that take a function of a layer, which one worker runs.
 #[derive(Debug, Drop)]
@@ -22,23 +20,9 @@ pub struct Task {
     pub agents: Seq<Row>,
 }
 
-/// The next rows, at most so many.
-fn next_run(alloc: Global, rest: &mut IntoIter<Row>, most: usize) -> Result<Vec<Row>, NoMemory>
-    ensures run { IfOk result (λ run. run.items ≡ take most (into_iter_items rest.old)) }
-    ensures rest { OnOk result (into_iter_items rest.new ≡ drop most (into_iter_items rest.old)) }
-{
-    let mut run = Vec::new(alloc);
-    for _row in 0..most {
-        match rest.next() {
-            Some(row) => run.push(row)?,
-            None => return Ok(run),
-        }
-    }
-    Ok(run)
-}
-
 /// The rows in at most so many runs, in the order in which they stand: all as long as an equal share is, rounded up, but the
-/// last, which may be shorter. Where there are no rows there is no run.
+/// last, which may be shorter. Where there are no rows there is no run. The last run is cut off first, so that each row is moved
+/// once at most, and those of the first run stay where they are.
 fn cut_rows(alloc: Global, rows: Vec<Row>, pieces: u32) -> Result<Vec<Seq<Row>>, NoMemory>
     requires { 1 ≤ pieces }
     ensures { IfOk result (λ runs. runs.items ≡ cut pieces rows.items) }
@@ -48,14 +32,14 @@ fn cut_rows(alloc: Global, rows: Vec<Row>, pieces: u32) -> Result<Vec<Seq<Row>>,
         return Ok(runs);
     };
     let size = others / (pieces as usize) + 1;
-    let mut rest = rows.into_iter();
-    for _piece in 0..pieces {
-        let run = next_run(alloc, &mut rest, size)?;
-        if run.is_empty() {
-            return Ok(runs);
-        }
+    let mut rest = rows;
+    while rest.len() > size {
+        let at = (rest.len() - 1) / size * size;
+        let run = rest.split_off(at)?;
         runs.push(Seq::of(run))?;
     }
+    runs.push(Seq::of(rest))?;
+    runs.reverse();
     Ok(runs)
 }
 

@@ -1,8 +1,13 @@
-use Rattle.std.proofs.Common.{◌≡◌, ◌-◌, ◌++◌}
-use Rattle.std.specs.Vec.Iter.{into_iter_items}
-use Rattle.flame_rows.specs.Cuts.{runs, cut}
+use Rattle.std.proofs.Common.{◌≡◌, ◌++◌, ◌≤◌, ◌*◌, ◌<◌, length, reverse}
+use Rattle.flame_rows.specs.Cuts.{cut, runs}
 use Rattle.flame_lanes.proofs.tasks.cut_rows.Given as goal
 
-abbrev pub invariant-loop-piece : goal.invariant-loop-piece
-invariant-loop-piece l =
-    l.runs.items ++ runs (l.pieces - l._piece) l.size (into_iter_items l.rest) ≡ cut l.fn.pieces l.fn.rows.items
+abbrev pub invariant-loop-rest : goal.invariant-loop-rest
+invariant-loop-rest l = record {
+  whole : runs l.pieces l.size l.rest.items ++ reverse l.runs.items ≡ cut l.pieces l.fn.rows.items;
+  some : 0 < length l.rest.items;
+  few : length l.rest.items ≤ l.pieces * l.size;
+}
+
+abbrev pub decreases-loop-rest : goal.decreases-loop-rest
+decreases-loop-rest l = length l.rest.items
