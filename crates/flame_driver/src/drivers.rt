@@ -58,7 +58,8 @@ pub struct Driven {
 
 /// Runs so many iterations of a program from a start on, by the runner, up to the first that faults (FLAME User
 /// Manual). After each it puts its file, whose name is the prefix, the number of the iteration and `.json`, in this
-/// format, and then writes its line. `fuel` is that of each call of a function.
+/// format, and then writes its line. `fuel` is that of each call of a function. The text of a file is written by so many
+/// workers, of which the caller is one, where it is long; the files are the same whatever their number.
 ///
 /// The runner has to be ready, as it is again at the end. The world of the start has to fit the program's model: a
 /// value for each constant, and for each agent type agents as wide as it declares. The last iteration may have at most
@@ -73,6 +74,7 @@ pub fn drive<Rt: Threads + Wait + Sync, R: Runner, D: Depot, S: Sink>(
     fuel: u32,
     format: Format,
     prefix: &str,
+    workers: u32,
     depot: &mut D,
     out: &mut S,
 ) -> Driven
@@ -95,6 +97,7 @@ pub fn drive<Rt: Threads + Wait + Sync, R: Runner, D: Depot, S: Sink>(
         fuel,
         format,
         prefix,
+        workers,
     };
     let mut start = start;
     for done in 0..turns {

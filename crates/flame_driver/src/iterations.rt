@@ -63,7 +63,7 @@ pub(crate) fn iterate_once<Rt: Threads + Wait + Sync, R: Runner, D: Depot, S: Si
             files: 0,
         }),
         Ok(Turn::Done(world, boards)) => {
-            match write_stage(alloc, plan, itno, &world, &boards, depot, out) {
+            match write_stage(rt, alloc, plan, itno, &world, &boards, depot, out) {
                 Ok(()) => Ok(Start { itno, world }),
                 Err(driven) => Err(driven),
             }

@@ -14,4 +14,6 @@ pub(crate) struct Plan<'a> {
     pub format: Format,
     /// What the names of the files begin with.
     pub prefix: &'a str,
+    /// How many workers write the text of a file.
+    pub workers: u32,
 }

@@ -14,12 +14,14 @@ use crate::drivers::{DriveEnd, Driven};
 use crate::names::file_name;
 use crate::plans::Plan;
 use flame_outside::{Depot, PutFail, Sink, WriteFail};
-use flame_popfile::{line, text};
+use flame_popfile::{line, text_by};
 use flame_world::{Boards, World};
 use std::alloc::Global;
+use std::thread::Threads;
 
 /// Puts the file of an iteration.
-fn put_file<D: Depot>(
+fn put_file<Rt: Threads + Sync, D: Depot>(
+    rt: &Rt,
     alloc: Global,
     plan: &Plan<'_>,
     itno: i32,
@@ -34,7 +36,16 @@ fn put_file<D: Depot>(
     ensures puts { OnlyPuts (D.seen depot.old) (D.seen depot.new) }
 {
     let name = file_name(alloc, plan.prefix, itno)?;
-    let text = text(alloc, plan.program, plan.format, itno, world, boards)?;
+    let text = text_by(
+        rt,
+        alloc,
+        plan.workers,
+        plan.program,
+        plan.format,
+        itno,
+        world,
+        boards,
+    )?;
     match depot.put(name.as_str(), text.bytes()) {
         Ok(()) => Ok(()),
         Err(PutFail::Failed) => Err(DriveEnd::FileFault(itno)),
@@ -63,7 +74,8 @@ fn print_line<S: Sink>(
 }
 
 /// Writes an iteration that is done: its file, and then its line. Where it stops, `files` is 1 where its file was put.
-pub(crate) fn write_stage<D: Depot, S: Sink>(
+pub(crate) fn write_stage<Rt: Threads + Sync, D: Depot, S: Sink>(
+    rt: &Rt,
     alloc: Global,
     plan: &Plan<'_>,
     itno: i32,
@@ -82,7 +94,7 @@ pub(crate) fn write_stage<D: Depot, S: Sink>(
     ensures puts { OnlyPuts (D.seen depot.old) (D.seen depot.new) }
     ensures grows { Grows (S.seen out.old) (S.seen out.new) }
 {
-    if let Err(end) = put_file(alloc, plan, itno, world, boards, depot) {
+    if let Err(end) = put_file(rt, alloc, plan, itno, world, boards, depot) {
         return Err(Driven { end, files: 0 });
     }
     if let Err(end) = print_line(alloc, itno, world, boards, out) {

@@ -1,10 +1,10 @@
 -- Texts with commas between them, one text more.
 use Rattle.std.proofs.Common.{◌≡◌, ℕ, ◌+◌, ◌<◌, List, [], ◌∷◌, ◌++◌, Bool, true, false, ◌||◌, length, drop, get_or, map, refl, ap, sym, ◌∙◌}
-use Rattle.std.proofs.Common.{◌≤◌, ◌⊎◌, append_assoc, append-nil, inl, inr, ap₂, take, take_all}
+use Rattle.std.proofs.Common.{◌≤◌, ◌⊎◌, append_assoc, append-nil, inl, inr, ap₂}
 use Rattle.std.specs.Prelude.{ℤ, pos}
 use Rattle.std.specs.Fmt.{signed_decimal}
 use Rattle.std.specs.List.{zip, flat_map}
-use Rattle.std.proofs.lemmas.List.{at_drop_more, drop_all, get_or_default, take_more}
+use Rattle.std.proofs.lemmas.List.{at_drop_more, drop_all, get_or_default}
 use Rattle.flame_popfile.specs.RowTexts.{with_commas, comma}
 use Rattle.flame_popfile.specs.CommaTexts.{comma_where, behind, has_some}
 
@@ -146,21 +146,6 @@ behind-append more (x ∷ xs) ys =
 pub has_some-map : {X Y : Type 0} (f : X → Y) (xs : List X) → has_some (map f xs) ≡ has_some xs
 has_some-map f [] = refl
 has_some-map f (x ∷ xs) = refl
-
--- there are some where one more was taken
-pub has_some-more :
-    {X : Type 0} (before : Bool) (xs : List X) (i : ℕ) (x : X)
-    → i < length xs → true ≡ (before || has_some (take (i + 1) xs))
-has_some-more before xs i x h =
-    sym (ap (λ l. before || has_some l) (take_more xs i x h) ∙ ap (λ b. before || b) (pushed (take i xs) (get_or xs i x)) ∙ or_true before)
-  where
-    pushed : {Y : Type 0} (ys : List Y) (y : Y) → has_some (ys ++ y ∷ []) ≡ true
-    pushed [] y = refl
-    pushed (z ∷ ys) y = refl
-
-    or_true : (b : Bool) → b || true ≡ true
-    or_true true = refl
-    or_true false = refl
 
 -- the texts of a pair's list were written, and those of the pairs behind it are left
 pub lists_more :

@@ -1,4 +1,5 @@
 pub mod CommaLists
+pub mod SharedTexts
 pub mod Dealing
 pub mod TakenNames
 pub mod KeyTables

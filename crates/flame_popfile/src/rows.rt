@@ -7,7 +7,9 @@ ghost use Rattle.flame_popfile.specs.RowTexts.{numbers_text, row_text, named_tex
 ghost use Rattle.flame_popfile.specs.RowTexts.{with_commas, constant_texts, agent_text, agent_texts};
 ghost use Rattle.flame_popfile.specs.CommaTexts.{behind, name_text, has_some};
 
+use crate::forms::Form;
 use crate::pieces::{push_comma, push_number, push_str};
+use crate::writers::Writer;
 use flame_rows::{Bag, NoMemory, Row, Text};
 use flame_spec::{AgentType, Variable};
 
@@ -126,7 +128,11 @@ pub(crate) fn push_object(
 }
 
 /// Adds an agent of this type.
-fn push_agent(bytes: &mut Vec<u8>, agent: &AgentType, row: &[i32]) -> Result<(), NoMemory>
+pub(crate) fn push_agent(
+    bytes: &mut Vec<u8>,
+    agent: &AgentType,
+    row: &[i32],
+) -> Result<(), NoMemory>
     ensures { OnOk result (bytes.new.items ≡ bytes.old.items ++ agent_text agent.now row.now) }
 {
     push_str(bytes, "{\"name\":\"")?;
@@ -137,38 +143,48 @@ fn push_agent(bytes: &mut Vec<u8>, agent: &AgentType, row: &[i32]) -> Result<(),
     Ok(())
 }
 
+/// Whether there are rows.
+fn has_rows(rows: &[Row]) -> bool
+    ensures { result ≡ has_some rows.now }
+{
+    match rows {
+        [] => false,
+        _ => true,
+    }
+}
+
 /// Adds the agents of this type, behind others where there are more before; tells whether there are some now.
-fn push_agents(
+fn push_agents<W: Writer>(
+    writer: &W,
     bytes: &mut Vec<u8>,
     agent: &AgentType,
     rows: &[Row],
     before: bool,
 ) -> Result<bool, NoMemory>
+    requires { W.ready writer.now }
     ensures text { OnOk result
         (bytes.new.items ≡ bytes.old.items ++ behind before (map (agent_text agent.now) rows.now)) }
     ensures more { IfOk result (λ more. more ≡ (before || has_some rows.now)) }
 {
-    let mut more = before;
-    for row in rows {
-        push_comma(bytes, more)?;
-        push_agent(bytes, agent, row.values())?;
-        more = true;
-    }
-    Ok(more)
+    writer.push_rows(bytes, Form::Agent(agent), rows, before)?;
+    let some = has_rows(rows);
+    Ok(before || some)
 }
 
 /// Adds the agents of these types, type by type.
-pub(crate) fn push_all_agents(
+pub(crate) fn push_all_agents<W: Writer>(
+    writer: &W,
     bytes: &mut Vec<u8>,
     agents: &[AgentType],
     bags: &[Bag],
 ) -> Result<(), NoMemory>
+    requires { W.ready writer.now }
     ensures { OnOk result
         (bytes.new.items ≡ bytes.old.items ++ with_commas (agent_texts agents.now bags.now)) }
 {
     let mut more = false;
     for (agent, bag) in agents.iter().zip(bags.iter()) {
-        let some = push_agents(bytes, agent, bag.rows(), more)?;
+        let some = push_agents(writer, bytes, agent, bag.rows(), more)?;
         more = some;
     }
     Ok(())

@@ -9,12 +9,14 @@ use crate::boards::{push_boards, push_message_bags, push_type_bags};
 use crate::formats::Format;
 use crate::pieces::{push_number, push_str};
 use crate::rows::{push_all_agents, push_constants, push_numbers};
+use crate::writers::Writer;
 use flame_rows::NoMemory;
 use flame_spec::Model;
 use flame_world::{Boards, World};
 
 /// Adds the text of an iteration in a version.
-pub(crate) fn push_text(
+pub(crate) fn push_text<W: Writer>(
+    writer: &W,
     bytes: &mut Vec<u8>,
     model: &Model,
     format: Format,
@@ -22,13 +24,14 @@ pub(crate) fn push_text(
     world: &World,
     boards: &Boards,
 ) -> Result<(), NoMemory>
+    requires { W.ready writer.now }
     ensures { OnOk result
         (bytes.new.items ≡ bytes.old.items ++ text model.now format itno world.now boards.now) }
 {
     push_head(bytes, model, format, itno, world)?;
-    push_agents(bytes, model, format, world)?;
+    push_agents(writer, bytes, model, format, world)?;
     push_str(bytes, "],\"boards\":[")?;
-    push_messages(bytes, model, format, boards)?;
+    push_messages(writer, bytes, model, format, boards)?;
     push_str(bytes, "]}}\n")?;
     Ok(())
 }
@@ -85,37 +88,41 @@ fn push_head_two(
 }
 
 /// Adds the agents.
-fn push_agents(
+fn push_agents<W: Writer>(
+    writer: &W,
     bytes: &mut Vec<u8>,
     model: &Model,
     format: Format,
     world: &World,
 ) -> Result<(), NoMemory>
+    requires { W.ready writer.now }
     ensures { OnOk result (bytes.new.items
         ≡ bytes.old.items ++ with_commas (all_agent_texts format model.now.agents world.now.agents)) }
 {
     let agents = model.agents.items();
     let bags = world.agents.items();
     match format {
-        Format::One => push_all_agents(bytes, agents, bags),
-        Format::Two => push_type_bags(bytes, agents, bags),
+        Format::One => push_all_agents(writer, bytes, agents, bags),
+        Format::Two => push_type_bags(writer, bytes, agents, bags),
     }
 }
 
 /// Adds the boards.
-fn push_messages(
+fn push_messages<W: Writer>(
+    writer: &W,
     bytes: &mut Vec<u8>,
     model: &Model,
     format: Format,
     boards: &Boards,
 ) -> Result<(), NoMemory>
+    requires { W.ready writer.now }
     ensures { OnOk result (bytes.new.items
         ≡ bytes.old.items ++ with_commas (all_board_texts format model.now.messages boards.now.boards)) }
 {
     let messages = model.messages.items();
     let bags = boards.boards.items();
     match format {
-        Format::One => push_boards(bytes, messages, bags),
-        Format::Two => push_message_bags(bytes, messages, bags),
+        Format::One => push_boards(writer, bytes, messages, bags),
+        Format::Two => push_message_bags(writer, bytes, messages, bags),
     }
 }

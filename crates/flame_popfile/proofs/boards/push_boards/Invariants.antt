@@ -7,7 +7,7 @@ use Rattle.flame_popfile.specs.CommaTexts.{behind}
 use Rattle.flame_popfile.proofs.boards.push_boards.Given as goal
 
 abbrev pub invariant-loop-message : goal.invariant-loop-message
-invariant-loop-message l =
+invariant-loop-message g l =
     l.bytes.items
     ++ behind l.more
     (board_texts (iter_rest (zip_first l.message-iterator)) (iter_rest (zip_second l.message-iterator)))

@@ -10,7 +10,7 @@ abbrev text_of : List ℕ × List (List ℤ) → List ℕ
 text_of (name, bag) = bag_text name bag
 
 pub loop-message-preserved : goal.loop-message-preserved
-loop-message-preserved c =
+loop-message-preserved g c =
     pairs_more text_of _ _ _ c.loop-message.more _ _ _ _ c.in-Some.message.now.name c.in-Some.bag.now
     (ap (map (λ (x : MessageType). x.name)) c.in-Some.ensures.steps.0) c.in-Some.ensures.steps.1 c.in_ok-push_comma.ensures
     (c.in_ok-push_bag.ensures
@@ -18,7 +18,7 @@ loop-message-preserved c =
     ∙ c.loop-message.invariant
 
 pub returns : goal.returns
-returns c =
+returns g c =
     pairs_all (map text_of) c.args.bytes.now.items c.loop-message.bytes.items c.loop-message.more _ _
     (bag_texts (map (λ (x : MessageType). x.name) c.args.messages.now) c.args.bags.now) refl
     (mapped_ended (λ (x : MessageType). x.name) _ _

@@ -8,7 +8,7 @@ use Rattle.flame_popfile.specs.CommaTexts.{behind}
 use Rattle.flame_popfile.proofs.boards.push_message_bags.Given as goal
 
 abbrev pub invariant-loop-message : goal.invariant-loop-message
-invariant-loop-message l =
+invariant-loop-message g l =
     l.bytes.items
     ++ behind l.more
     (bag_texts (map (λ (message : MessageType). message.name) (iter_rest (zip_first l.message-iterator)))

@@ -10,7 +10,7 @@ abbrev text_of : List ℕ × List (List ℤ) → List ℕ
 text_of (name, bag) = bag_text name bag
 
 pub loop-agent-preserved : goal.loop-agent-preserved
-loop-agent-preserved c =
+loop-agent-preserved g c =
     pairs_more text_of _ _ _ c.loop-agent.more _ _ _ _ c.in-Some.agent.now.name c.in-Some.bag.now
     (ap (map (λ (x : AgentType). x.name)) c.in-Some.ensures.steps.0) c.in-Some.ensures.steps.1 c.in_ok-push_comma.ensures
     (c.in_ok-push_bag.ensures
@@ -18,7 +18,7 @@ loop-agent-preserved c =
     ∙ c.loop-agent.invariant
 
 pub returns : goal.returns
-returns c =
+returns g c =
     pairs_all (map text_of) c.args.bytes.now.items c.loop-agent.bytes.items c.loop-agent.more _ _
     (bag_texts (map (λ (x : AgentType). x.name) c.args.agents.now) c.args.bags.now) refl
     (mapped_ended (λ (x : AgentType). x.name) _ _

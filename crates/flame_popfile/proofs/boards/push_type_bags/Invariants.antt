@@ -8,7 +8,7 @@ use Rattle.flame_popfile.specs.CommaTexts.{behind}
 use Rattle.flame_popfile.proofs.boards.push_type_bags.Given as goal
 
 abbrev pub invariant-loop-agent : goal.invariant-loop-agent
-invariant-loop-agent l =
+invariant-loop-agent g l =
     l.bytes.items
     ++ behind l.more
     (bag_texts (map (λ (type : AgentType). type.name) (iter_rest (zip_first l.agent-iterator)))

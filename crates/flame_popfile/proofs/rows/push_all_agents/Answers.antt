@@ -1,4 +1,4 @@
-use Rattle.std.proofs.Common.{List, ◌++◌, ◌||◌, ◌∙◌, map, refl, ap, ap₂, ℕ}
+use Rattle.std.proofs.Common.{List, ◌++◌, ◌||◌, ◌∙◌, map, refl, ap, ℕ}
 use Rattle.std.specs.Prelude.{ℤ}
 use Rattle.std.specs.List.{flat_map}
 use Rattle.flame_spec.specs.declared.models.AgentType.{AgentType}
@@ -12,7 +12,7 @@ abbrev texts_of : AgentType × List (List ℤ) → List (List ℕ)
 texts_of (type, bag) = map (agent_text type) bag
 
 pub loop-agent-preserved : goal.loop-agent-preserved
-loop-agent-preserved c =
+loop-agent-preserved g c =
     let type = c.in-Some.agent.now in
     lists_more texts_of _ _ c.loop-agent.more _ (has_some c.in-Some.bag.now) _ _ _ _ type c.in-Some.bag.now
     c.in-Some.ensures.steps.0 c.in-Some.ensures.steps.1
@@ -23,7 +23,7 @@ loop-agent-preserved c =
     ∙ c.loop-agent.invariant
 
 pub returns : goal.returns
-returns c =
+returns g c =
     pairs_all (flat_map texts_of) c.args.bytes.now.items c.loop-agent.bytes.items c.loop-agent.more _ _
     (agent_texts c.args.agents.now c.args.bags.now) refl
     (either_empty_from_Zip c.loop-agent.agent-iterator c.next.new.self _ c.in-None.is c.next.ensures.steps)

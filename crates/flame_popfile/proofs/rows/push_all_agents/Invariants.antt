@@ -7,7 +7,7 @@ use Rattle.flame_popfile.specs.CommaTexts.{behind}
 use Rattle.flame_popfile.proofs.rows.push_all_agents.Given as goal
 
 abbrev pub invariant-loop-agent : goal.invariant-loop-agent
-invariant-loop-agent l =
+invariant-loop-agent g l =
     l.bytes.items
     ++ behind l.more
     (agent_texts (iter_rest (zip_first l.agent-iterator)) (iter_rest (zip_second l.agent-iterator)))

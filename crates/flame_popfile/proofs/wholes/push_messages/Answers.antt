@@ -1,5 +1,5 @@
 -- The lists are those of the model and of the boards.
-use Rattle.std.proofs.Common.{◌≡◌, ◌++◌, ◌∙◌, map, sym, ap, ap₂}
+use Rattle.std.proofs.Common.{◌++◌, ◌∙◌, map, sym, ap, ap₂}
 use Rattle.std.proofs.lemmas.Result.{on_ok_weaker}
 use Rattle.flame_spec.specs.declared.models.MessageType.{MessageType}
 use Rattle.flame_popfile.specs.declared.formats.Format.{Format}
@@ -8,7 +8,7 @@ use Rattle.flame_popfile.specs.IterationTexts.{all_board_texts}
 use Rattle.flame_popfile.proofs.wholes.push_messages.Goals as goal
 
 pub returns-in-One : goal.returns-in-One
-returns-in-One c =
+returns-in-One g c =
     on_ok_weaker c.push_boards.result
     (λ e.
     e
@@ -21,7 +21,7 @@ returns-in-One c =
     c.push_boards.ensures
 
 pub returns-in-Two : goal.returns-in-Two
-returns-in-Two c =
+returns-in-Two g c =
     on_ok_weaker c.push_message_bags.result
     (λ e.
     e

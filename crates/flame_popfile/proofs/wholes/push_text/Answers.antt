@@ -6,7 +6,7 @@ use Rattle.flame_popfile.proofs.Chains.{chain_five}
 use Rattle.flame_popfile.proofs.wholes.push_text.Goals as goal
 
 pub returns : goal.returns
-returns c =
+returns g c =
     chain_five _ _ _ _ _ _ _ _ _ _ _
     (c.in_ok-push_head.ensures
     ∙ ap
