@@ -10,10 +10,15 @@ fn print_how(out: &mut String, how: &How) -> Result<(), AllocError> {
     let way = match how.way {
         Way::Layers => "layers",
         Way::Flow => "flow",
+        Way::Nodes => "nodes",
     };
     writeln!(out, "workers={}", how.workers)?;
     writeln!(out, "fuel={}", how.fuel)?;
-    writeln!(out, "way={way}")
+    writeln!(out, "way={way}")?;
+    if let Some(by) = &how.by {
+        writeln!(out, "by={by}")?;
+    }
+    Ok(())
 }
 
 fn print_run(out: &mut String, run: &RunOrder) -> Result<(), AllocError> {

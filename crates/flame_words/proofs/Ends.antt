@@ -35,7 +35,7 @@ pub record Stops (command : Command) (all : List (List ℕ)) : Type 0 where
   pub number : ℕ
   pub first : slice_get (faults_behind command [] (roles all)) 0 ≡ Some usage
   pub named : word_number usage ≡ Some number
-  pub early : number ≤ 14
+  pub early : number ≤ 16
 
 ends_from :
     (command : Command) (all : List (List ℕ)) (rest : List (List ℕ)) (seen : Seen) (number : ℕ)
@@ -69,7 +69,7 @@ first_is_early :
     (faults more : List Usage) (order : Order) (usage : Usage) (number : ℕ)
     → slice_get faults 0 ≡ Some usage
     → word_number usage ≡ Some number
-    → number ≤ 14
+    → number ≤ 16
     → IsErrAnd (first_or (faults ++ more) order) (λ fault. IsSomeAnd (word_number fault) (λ number. number ≤ 30))
 first_is_early [] more order usage number first named early = cc
 first_is_early (fault ∷ faults) more order usage number first named early =

@@ -33,7 +33,7 @@ read_to_end all seen number f =
       givens_suit = f.givens_suit;
     }
 
-table_size : (command : Command) → length (places command) + 2 * length (options command) ≤ 12
+table_size : (command : Command) → length (places command) + 2 * length (options command) ≤ 14
 table_size Run = omega arith
 table_size Check = omega arith
 table_size Graph = omega arith
@@ -45,7 +45,7 @@ table_size Migrate = omega arith
 pub few_read :
     (all : List (List ℕ)) (seen : Seen) (number : ℕ) (rest : List (List ℕ))
     → Follows all seen number rest
-    → number ≤ 13
+    → number ≤ 15
 few_read all seen number rest f =
     let parts = length-roles f.earlier in
     let words = words_suit-length (places seen.command) seen.words f.words_suit_places in

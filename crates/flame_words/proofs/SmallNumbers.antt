@@ -11,7 +11,7 @@ use Rattle.flame_words.specs.declared.table.Command.TheVariants.{Run, Trial}
 use Rattle.flame_words.specs.declared.table.Place.{Place}
 use Rattle.flame_words.specs.declared.table.Place.TheVariants.{Turns, Seed, Size, TrialTurns}
 use Rattle.flame_words.specs.declared.table.Flag.{Flag}
-use Rattle.flame_words.specs.declared.table.Flag.TheVariants.{Workers, Fuel, Sync, Format}
+use Rattle.flame_words.specs.declared.table.Flag.TheVariants.{Workers, Fuel, Sync, By, Format}
 use Rattle.flame_words.specs.declared.table.Takes.TheVariants.{Number}
 use Rattle.flame_words.specs.CommandTable.{places, place_takes, flag_of, flag_name, flag_takes}
 use Rattle.flame_words.specs.WordValues.{is_number, number_value}
@@ -88,6 +88,7 @@ default_suits : (flag : Flag) → suits (flag_takes flag) (word_of [] flag) ≡ 
 default_suits Workers = refl
 default_suits Fuel = refl
 default_suits Sync = refl
+default_suits By = refl
 default_suits Format = refl
 
 -- an option of the command has a value that it can have

@@ -1,5 +1,5 @@
 -- The table of commands: how each is spelled, its positional words in order, and its options.
-use Rattle.std.specs.Prelude.{ℕ, List, [], ◌∷◌, codes, Bool, Option, Some}
+use Rattle.std.specs.Prelude.{ℕ, List, [], ◌∷◌, codes, Bool, Option, Some, None}
 use Rattle.std.specs.List.{find, list_any}
 use Rattle.std.specs.Str.{bytes_eq}
 use Rattle.flame_words.specs.declared.table.Command.{Command}
@@ -7,7 +7,7 @@ use Rattle.flame_words.specs.declared.table.Command.TheVariants.{Run, Check, Gra
 use Rattle.flame_words.specs.declared.table.Place.{Place}
 use Rattle.flame_words.specs.declared.table.Place.TheVariants.{Model, Population, Out, Turns, Seed, Size, TrialTurns}
 use Rattle.flame_words.specs.declared.table.Flag.{Flag}
-use Rattle.flame_words.specs.declared.table.Flag.TheVariants.{Workers, Fuel, Sync, Format}
+use Rattle.flame_words.specs.declared.table.Flag.TheVariants.{Workers, Fuel, Sync, By, Format}
 use Rattle.flame_words.specs.declared.table.Choice.{Choice}
 use Rattle.flame_words.specs.declared.table.Choice.TheVariants.{Ways, Formats}
 use Rattle.flame_words.specs.declared.table.Takes.{Takes}
@@ -37,11 +37,11 @@ places Migrate = Model ∷ Population ∷ Out ∷ []
 
 -- the options of a command [own]
 abbrev pub options : Command → List Flag
-options Run = Workers ∷ Fuel ∷ Sync ∷ Format ∷ []
+options Run = Workers ∷ Fuel ∷ Sync ∷ By ∷ Format ∷ []
 options Check = []
 options Graph = []
 options Code = []
-options Trial = Workers ∷ Fuel ∷ Sync ∷ []
+options Trial = Workers ∷ Fuel ∷ Sync ∷ By ∷ []
 options Migrate = []
 
 -- what a positional word is called where it is missing [own]
@@ -69,6 +69,7 @@ abbrev pub flag_name : Flag → List ℕ
 flag_name Workers = codes "--workers"
 flag_name Fuel = codes "--fuel"
 flag_name Sync = codes "--sync"
+flag_name By = codes "--by"
 flag_name Format = codes "--format"
 
 -- what an option's value is taken as [own]
@@ -76,6 +77,7 @@ abbrev pub flag_takes : Flag → Takes
 flag_takes Workers = Number 1 64
 flag_takes Fuel = Number 0 1000000000
 flag_takes Sync = OneOf Ways
+flag_takes By = Text
 flag_takes Format = OneOf Formats
 
 -- the value that an option has where none is given, if it has one [own]
@@ -83,11 +85,12 @@ abbrev pub default : Flag → Option (List ℕ)
 default Workers = Some (codes "1")
 default Fuel = Some (codes "1000000")
 default Sync = Some (codes "layers")
+default By = None
 default Format = Some (codes "1")
 
 -- the words of which one is taken [own]
 abbrev pub choices : Choice → List (List ℕ)
-choices Ways = codes "layers" ∷ codes "flow" ∷ []
+choices Ways = codes "layers" ∷ codes "flow" ∷ codes "nodes" ∷ []
 choices Formats = codes "1" ∷ codes "2" ∷ []
 
 -- the command that is spelled so [own]

@@ -11,7 +11,7 @@ use Rattle.flame_words.specs.declared.table.Command.{Command}
 use Rattle.flame_words.specs.declared.table.Command.TheVariants.{Run as run, Check as check, Graph as graph}
 use Rattle.flame_words.specs.declared.table.Command.TheVariants.{Code as code, Trial as trial, Migrate as migrate}
 use Rattle.flame_words.specs.declared.table.Flag.{Flag}
-use Rattle.flame_words.specs.declared.table.Flag.TheVariants.{Workers, Fuel, Sync, Format}
+use Rattle.flame_words.specs.declared.table.Flag.TheVariants.{Workers, Fuel, Sync, By, Format}
 use Rattle.flame_words.specs.CommandTable.{flag_name, default}
 use Rattle.flame_words.specs.WordValues.{number_value, way_of, format_of}
 use Rattle.flame_words.specs.WordRoles.{Given}
@@ -34,6 +34,7 @@ how_of givens = record {
   workers = number_value (word_of givens Workers);
   fuel = number_value (word_of givens Fuel);
   way = way_of (word_of givens Sync);
+  by = value_of givens By;
 }
 
 -- the positional word of this number, from 0; in a line without faults none that is asked for is absent [own]

@@ -5,7 +5,7 @@ use Rattle.std.specs.List.{list_all}
 use Rattle.std.specs.Char.{is_ascii_digit, digit_value}
 use Rattle.std.specs.Str.{bytes_eq}
 use Rattle.flame_words.specs.declared.orders.Way.{Way}
-use Rattle.flame_words.specs.declared.orders.Way.TheVariants.{Layers, Flow}
+use Rattle.flame_words.specs.declared.orders.Way.TheVariants.{Layers, Flow, Nodes}
 use Rattle.flame_words.specs.declared.table.Takes.{Takes}
 use Rattle.flame_words.specs.declared.table.Takes.TheVariants.{Text, Number, OneOf}
 use Rattle.flame_words.specs.declared.faults.Usage.{Usage}
@@ -27,7 +27,8 @@ number_value digits = value_behind 0 digits
 
 -- the way that a word names; a word that names none has a fault [own]
 abbrev pub way_of : List ℕ → Way
-way_of word = if bytes_eq word (codes "flow") then Flow else Layers
+way_of word =
+    if bytes_eq word (codes "flow") then Flow else if bytes_eq word (codes "nodes") then Nodes else Layers
 
 -- the format of files that a word names; a word that names none has a fault [own]
 abbrev pub format_of : List ℕ → ℕ

@@ -1,7 +1,7 @@
 //! Making the order of the words that were read.
 
 ghost use Rattle.std.specs.Prelude.{◌≡◌, ◌<◌, ◌≤◌, length, IfOk};
-ghost use Rattle.flame_words.specs.GivenOrders.{how_of, word_at, run_of, trial_of, order_from};
+ghost use Rattle.flame_words.specs.GivenOrders.{how_of, word_at, value_of, run_of, trial_of, order_from};
 ghost use Rattle.flame_words.specs.WordValues.{number_value};
 ghost use Rattle.flame_words.specs.TakenWords.{IsSmallNumber, NumbersSuit};
 ghost use Rattle.flame_words.specs.WordSteps.{seen_of, IsComplete};
@@ -24,7 +24,7 @@ pub(crate) fn order_from(alloc: Global, reading: &Reading<'_>) -> Result<Order, 
         Command::Check => Ok(Order::Check(text_at(alloc, reading, 0)?)),
         Command::Graph => Ok(Order::Graph(text_at(alloc, reading, 0)?)),
         Command::Code => Ok(Order::Code(text_at(alloc, reading, 0)?)),
-        Command::Trial => Ok(Order::Trial(trial_of(reading))),
+        Command::Trial => Ok(Order::Trial(trial_of(alloc, reading)?)),
         Command::Migrate => migrate_of(alloc, reading),
     }
 }
@@ -40,21 +40,21 @@ fn run_of(alloc: Global, reading: &Reading<'_>) -> Result<RunOrder, NoMemory>
         out: text_at(alloc, reading, 2)?,
         turns: number_at(reading, 3),
         format: format_of(reading.word_of(Flag::Format)),
-        how: how_of(reading),
+        how: how_of(alloc, reading)?,
     })
 }
 
-fn trial_of(reading: &Reading<'_>) -> TrialOrder
+fn trial_of(alloc: Global, reading: &Reading<'_>) -> Result<TrialOrder, NoMemory>
     requires complete { IsComplete (seen_of reading.now) }
     requires command { reading.now.command ≡ Command.Trial }
-    ensures { result ≡ trial_of (seen_of reading.now).words (seen_of reading.now).givens }
+    ensures { IfOk result (λ trial. trial ≡ trial_of (seen_of reading.now).words (seen_of reading.now).givens) }
 {
-    TrialOrder {
+    Ok(TrialOrder {
         seed: number_at(reading, 0),
         size: number_at(reading, 1),
         turns: number_at(reading, 2),
-        how: how_of(reading),
-    }
+        how: how_of(alloc, reading)?,
+    })
 }
 
 fn migrate_of(alloc: Global, reading: &Reading<'_>) -> Result<Order, NoMemory>
@@ -71,14 +71,25 @@ fn migrate_of(alloc: Global, reading: &Reading<'_>) -> Result<Order, NoMemory>
 }
 
 /// How the options say that iterations are run.
-fn how_of(reading: &Reading<'_>) -> How
+fn how_of(alloc: Global, reading: &Reading<'_>) -> Result<How, NoMemory>
     requires { NumbersSuit (seen_of reading.now).givens }
-    ensures { result ≡ how_of (seen_of reading.now).givens }
+    ensures { IfOk result (λ how. how ≡ how_of (seen_of reading.now).givens) }
 {
-    How {
+    Ok(How {
         workers: number(reading.word_of(Flag::Workers)),
         fuel: number(reading.word_of(Flag::Fuel)),
         way: way_of(reading.word_of(Flag::Sync)),
+        by: text_of(alloc, reading, Flag::By)?,
+    })
+}
+
+/// The value of the option as a text, if it has one.
+fn text_of(alloc: Global, reading: &Reading<'_>, option: Flag) -> Result<Option<Text>, NoMemory>
+    ensures { IfOk result (λ text. text ≡ value_of (seen_of reading.now).givens option) }
+{
+    match reading.value(option) {
+        Some(word) => Ok(Some(Text::of(alloc, word)?)),
+        None => Ok(None),
     }
 }
 

@@ -57,15 +57,19 @@ pub struct How {
     pub workers: u32,
     /// How many turns of loops and calls of helpers each call of a transition function may take, 0 to 1,000,000,000.
     pub fuel: u32,
-    /// What the workers wait for.
+    /// How the workers share the work.
     pub way: Way,
+    /// By nodes: the name of the variable by which agents are parted; none where they are dealt out in turn.
+    pub by: Option<Text>,
 }
 
-/// What workers wait for before they begin a function.
+/// How workers share the work, and what they wait for before they begin a function.
 #[derive(Clone, Copy, Debug, PartialEq, Eq)]
 pub enum Way {
-    /// For the whole layer before.
+    /// They wait for the whole layer before.
     Layers,
-    /// For what the function itself needs.
+    /// They wait for what the function itself needs.
     Flow,
+    /// Each is a node with a part of the agents of its own; functions run one after another.
+    Nodes,
 }

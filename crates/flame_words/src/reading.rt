@@ -126,7 +126,7 @@ impl<'a> Reading<'a> {
 
     /// The value of the option: the one that was given, or else its default, if it has one.
     #[tactic(auto, using(crate::proofs::Lists::find_mapped))]
-    fn value(&self, option: Flag) -> Option<&'a str>
+    pub fn value(&self, option: Flag) -> Option<&'a str>
         ensures { option_map (λ word. word.now) result ≡ value_of (seen_of self.now).givens option }
     {
         match self.setting(option) {

@@ -37,6 +37,7 @@ pub(crate) enum Flag {
     Workers,
     Fuel,
     Sync,
+    By,
     Format,
 }
 
@@ -109,11 +110,17 @@ impl Command {
         ensures { result.now ≡ options self }
     {
         match self {
-            Command::Run => &[Flag::Workers, Flag::Fuel, Flag::Sync, Flag::Format],
+            Command::Run => &[
+                Flag::Workers,
+                Flag::Fuel,
+                Flag::Sync,
+                Flag::By,
+                Flag::Format,
+            ],
             Command::Check => &[],
             Command::Graph => &[],
             Command::Code => &[],
-            Command::Trial => &[Flag::Workers, Flag::Fuel, Flag::Sync],
+            Command::Trial => &[Flag::Workers, Flag::Fuel, Flag::Sync, Flag::By],
             Command::Migrate => &[],
         }
     }
@@ -167,6 +174,7 @@ impl Flag {
             Flag::Workers => "--workers",
             Flag::Fuel => "--fuel",
             Flag::Sync => "--sync",
+            Flag::By => "--by",
             Flag::Format => "--format",
         }
     }
@@ -179,6 +187,7 @@ impl Flag {
             Flag::Workers => Takes::Number(1, 64),
             Flag::Fuel => Takes::Number(0, 1_000_000_000),
             Flag::Sync => Takes::OneOf(Choice::Ways),
+            Flag::By => Takes::Text,
             Flag::Format => Takes::OneOf(Choice::Formats),
         }
     }
@@ -191,6 +200,7 @@ impl Flag {
             Flag::Workers => Some("1"),
             Flag::Fuel => Some("1000000"),
             Flag::Sync => Some("layers"),
+            Flag::By => None,
             Flag::Format => Some("1"),
         }
     }
@@ -202,7 +212,7 @@ impl Choice {
         ensures { result ≡ is_among self word.now }
     {
         match self {
-            Choice::Ways => word == "layers" || word == "flow",
+            Choice::Ways => word == "layers" || word == "flow" || word == "nodes",
             Choice::Formats => word == "1" || word == "2",
         }
     }

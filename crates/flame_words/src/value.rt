@@ -78,6 +78,8 @@ pub(crate) fn way_of(word: &str) -> Way
 {
     if word == "flow" {
         Way::Flow
+    } else if word == "nodes" {
+        Way::Nodes
     } else {
         Way::Layers
     }
