@@ -52,8 +52,8 @@ start_read told source turns name = in_lines (start_line name) (starting told so
 abbrev pub version : ℕ → Format
 version number = if number == 2 then Two else One
 
--- the run of a source from a start on, as it is ordered; how many workers there are, and what they wait for, is nothing to it
--- [FLAME User Manual]
+-- the run of a source from a start on, as it is ordered; how many workers there are, and how they share the work, is nothing
+-- to it [FLAME User Manual]
 abbrev pub ordered_run : RunOrder → Source → Start → Report
 ordered_run order source start =
     run_report

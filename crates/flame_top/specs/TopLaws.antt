@@ -1,5 +1,5 @@
 -- What holds of all reports, and of what is carried out of them. [own]
-use Rattle.std.specs.Prelude.{◌≡◌, ◌≢◌, ◌≤◌, ◌⊎◌, ℕ, List, [], ◌++◌, codes, take, length, slice_get, Some, Ok, String}
+use Rattle.std.specs.Prelude.{◌≡◌, ◌≢◌, ◌≤◌, ◌⊎◌, ℕ, List, [], ◌++◌, codes, take, length, slice_get, Option, Some, Ok, String}
 use Rattle.std.specs.declared.alloc.Global.{Global}
 use Rattle.flame_outside.specs.Files.{Files, told_at}
 use Rattle.flame_outside.specs.Devices.{SeenSink}
@@ -62,19 +62,19 @@ pub record CallsCarryOut : Type 0 where
 
 -- ---- workers
 
--- so many workers, which go this way, with the same fuel
-abbrev pub how_by : ℕ → Way → How → How
-how_by workers way how = record how { workers = workers; way = way }
+-- so many workers, which go this way and part agents by this variable, with the same fuel
+abbrev pub how_by : ℕ → Way → Option (List ℕ) → How → How
+how_by workers way variable how = record how { workers = workers; way = way; by = variable }
 
--- orders that differ in workers and way alone have one report
+-- orders that differ in workers, way and variable alone have one report
 pub record OneReportForAllWays : Type 0 where
   pub run :
-      (read : Reader) (told : Files) (order : RunOrder) (workers : ℕ) (way : Way)
-      → order_reading read told (Run (record order { how = how_by workers way order.how }))
+      (read : Reader) (told : Files) (order : RunOrder) (workers : ℕ) (way : Way) (variable : Option (List ℕ))
+      → order_reading read told (Run (record order { how = how_by workers way variable order.how }))
       ≡ order_reading read told (Run order)
   pub trial :
-      (read : Reader) (told : Files) (order : TrialOrder) (workers : ℕ) (way : Way)
-      → order_reading read told (Trial (record order { how = how_by workers way order.how }))
+      (read : Reader) (told : Files) (order : TrialOrder) (workers : ℕ) (way : Way) (variable : Option (List ℕ))
+      → order_reading read told (Trial (record order { how = how_by workers way variable order.how }))
       ≡ order_reading read told (Trial order)
 
 -- ---- statuses and trials

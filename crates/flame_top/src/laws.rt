@@ -16,7 +16,7 @@ pub fn carried_reports()
     told_scripts();
 }
 
-/// Orders that differ in the number of workers and in what they wait for have one report.
+/// Orders that differ in the number of workers and in how they share the work have one report.
 pub fn one_report_for_all_ways()
     ensures { OneReportForAllWays }
 {}

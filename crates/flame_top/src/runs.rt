@@ -14,14 +14,16 @@ ghost use Rattle.flame_top.specs.Standing.{Stands, Carries, IsOfInput, Keeps};
 use crate::ending::{Carried, Ending};
 use crate::inputs::{program_in, start_in};
 use flame_driver::{DriveEnd, Driven, drive, file_name};
+use flame_flowrun::FlowRunner;
 use flame_layerrun::Layers;
+use flame_nodes::Nodes;
 use flame_outside::{Depot, Gate, Sink};
 use flame_popfile::{Format, Start};
 use flame_program::Program;
 use flame_report::sim_text;
-use flame_rows::{NoMemory, Text};
+use flame_rows::{Copied, NoMemory, Text};
 use flame_runner::ClosureRunner;
-use flame_words::RunOrder;
+use flame_words::{How, RunOrder, Way};
 use flame_world::{Turn, World};
 use std::alloc::Global;
 use std::sync::Wait;
@@ -45,8 +47,35 @@ fn some(workers: u32) -> u32
     workers.max(1)
 }
 
-/// Runs a program from a start on, as it is ordered: by layers, whatever the workers are ordered to wait for. The workers call
-/// the gate just before they run a piece.
+/// The iteration of this number of a world, by workers who share the work as it is ordered.
+fn iterate<Rt: Threads + Wait + Sync, G: Gate>(
+    rt: &Rt,
+    alloc: Global,
+    gate: &G,
+    how: &How,
+    program: &Program,
+    world: World,
+    iteration: i32,
+    fuel: u32,
+) -> Result<Turn, NoMemory>
+    requires { FitsModel program.now.model world }
+    ensures { IfOk result (λ turn. turn ≡ meant program.now world iteration fuel) }
+{
+    let workers = some(how.workers);
+    match how.way {
+        Way::Layers => Layers::new(gate, workers).iterate(
+            rt, alloc, program, world, iteration, fuel,
+        ),
+        Way::Flow => FlowRunner::new(gate, workers).iterate(
+            rt, alloc, program, world, iteration, fuel,
+        ),
+        Way::Nodes => Nodes::new(gate, workers, how.by.copy(alloc)?).iterate(
+            rt, alloc, program, world, iteration, fuel,
+        ),
+    }
+}
+
+/// Runs a program from a start on, as it is ordered. The workers call the gate just before they run a piece.
 pub(crate) fn run_from<Rt: Threads + Wait + Sync, D: Depot, S: Sink, G: Gate>(
     rt: &Rt,
     alloc: Global,
@@ -68,14 +97,14 @@ pub(crate) fn run_from<Rt: Threads + Wait + Sync, D: Depot, S: Sink, G: Gate>(
     ensures grows { Grows (S.seen out.old) (S.seen out.new) }
 {
     let prefix = order.out.as_str();
-    let workers = order.how.workers;
+    let how = &order.how;
     let call = |alloc: Global, program: &Program, world: World, iteration: i32, fuel: u32| -> Result<
         Turn,
         NoMemory,
     >
         requires { FitsModel program.now.model world }
         ensures { IfOk result (λ turn. turn ≡ meant program.now world iteration fuel) }
-    { Layers::new(gate, some(workers)).iterate(rt, alloc, program, world, iteration, fuel) };
+    { iterate(rt, alloc, gate, how, program, world, iteration, fuel) };
     let Driven { end, files } = drive(
         rt,
         alloc,
@@ -86,6 +115,7 @@ pub(crate) fn run_from<Rt: Threads + Wait + Sync, D: Depot, S: Sink, G: Gate>(
         order.how.fuel,
         version(order.format),
         prefix,
+        some(how.workers),
         depot,
         out,
     );

@@ -30,24 +30,27 @@ pub struct Ended {
 /// Carries out a command line: the words behind the program's name. Options stand anywhere behind the command, each
 /// at most once. Names are those of files of `depot`.
 ///
-/// - `run MODEL POP OUT N [--workers W] [--fuel F] [--sync layers|flow] [--format 1|2]` runs N iterations, 0 to
-///   1,000,000, of the model on the population. After each it puts the file whose name is OUT, the iteration's number
-///   and `.json`, in that format, and then prints `iteration I agents A messages M`. It goes on up to the first
-///   iteration that faults.
+/// - `run MODEL POP OUT N [--workers W] [--fuel F] [--sync layers|flow|nodes] [--by VARIABLE] [--format 1|2]` runs N
+///   iterations, 0 to 1,000,000, of the model on the population. After each it puts the file whose name is OUT, the
+///   iteration's number and `.json`, in that format, and then prints `iteration I agents A messages M`. It goes on up to
+///   the first iteration that faults.
 /// - `check MODEL` prints `accepted agents A functions F messages M`.
 /// - `graph MODEL` prints the functions in their order, and which stands before which.
 /// - `code MODEL` prints the code of the functions and of the helpers.
-/// - `trial SEED SIZE N [--workers W] [--fuel F] [--sync layers|flow]` runs N iterations, 0 to 20, of the meadow, a
-///   model that the program carries, on SIZE agents, 0 to 10,000, which SEED, 0 to 4,294,967,295, draws. Its files
-///   are in memory, and `depot` is left as it is. It prints the lines of the run and, where no iteration faults,
-///   `bytes T`: how many bytes its files have together.
+/// - `trial SEED SIZE N [--workers W] [--fuel F] [--sync layers|flow|nodes] [--by VARIABLE]` runs N iterations, 0 to 20,
+///   of the meadow, a model that the program carries, on SIZE agents, 0 to 10,000, which SEED, 0 to 4,294,967,295,
+///   draws. Its files are in memory, and `depot` is left as it is. It prints the lines of the run and, where no iteration
+///   faults, `bytes T`: how many bytes its files have together.
 /// - `migrate MODEL POP OUT` puts the population as the file OUT, in format 2 and with empty boards, and then prints
 ///   `migrated agents A`.
 ///
 /// W is how many workers there are, 1 to 64; F is how many turns of loops and calls of helpers each call of a
 /// function may take, 0 to 1,000,000,000. Without an option it is `--workers 1`, `--fuel 1000000`, `--sync layers`
-/// and `--format 1`. The functions of a layer run side by side, their agents in pieces that the W workers share, who call
-/// `gate` just before they run a piece; where a thread cannot be started, the others do its work. Both ways go by layers today.
+/// and `--format 1`. The agents of functions run in pieces that the W workers share, who call `gate` just before they run a
+/// piece; where a thread cannot be started, the others do its work. By `layers` the functions of a layer run side by side,
+/// and the layers one after another; by `flow` a function runs as soon as all that stand before it are done; by `nodes`
+/// functions run one after another, each worker with a part of the agents of its own: dealt out in turn or, where their type
+/// has a variable VARIABLE that is no array, in ranges of it.
 ///
 /// All inputs are read before anything is put or printed: the model file MODEL and those nested in it, at most 64,
 /// then their function files, each of at most 4,194,304 bytes, and then POP, of at most 67,108,864. A run whose last

@@ -24,7 +24,7 @@ use flame_driver::laws::{different_names, iterated_runs, written_stages};
 use flame_outside::{Gate, MemDepot, Sink};
 use flame_popfile::Start;
 use flame_program::Program;
-use flame_rows::{Blob, NoMemory, Text};
+use flame_rows::{Blob, Copied, NoMemory, Text};
 use flame_trial::{meadow_model, meadow_population, meadow_source};
 use flame_words::{How, RunOrder, TrialOrder};
 use itoa::Buffer;
@@ -78,6 +78,7 @@ fn meadow_order(alloc: Global, order: &TrialOrder) -> Result<RunOrder, NoMemory>
             workers: order.how.workers,
             fuel: order.how.fuel,
             way: order.how.way,
+            by: order.how.by.copy(alloc)?,
         },
     })
 }
