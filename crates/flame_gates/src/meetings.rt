@@ -1,31 +1,27 @@
 //! Two workers who meet at a gate.
 
-use flame_outside::{Gate, MemDepot, MemSink};
+use crate::runs::{Given, TURNS, is_carried_out};
+use flame_outside::Gate;
 use flame_rows::NoMemory;
-use flame_top::flame;
 use std::alloc::Global;
 use std::sync::{Mutex, Wait};
 use std::test::Fail;
 use std::thread;
 use std::thread::Threads;
 
-/// How often a call looks for the other one before it goes on alone.
-const TURNS: u32 = 10_000_000;
-
-/// A type with one function.
-const MODEL: &str = concat!(
-    r#"{"xmodel":{"environment":{"functionFiles":["f.c"]},"agents":[{"name":"A","#,
-    r#""memory":[{"type":"int","name":"x"}],"#,
-    r#""functions":[{"name":"f","currentState":"s","nextState":"e"}]}]}}"#,
-);
-
-const SOURCE: &str = "int f() { X++; return 0; }";
-
-/// Two agents.
-const POPULATION: &str = concat!(
-    r#"{"states":{"itno":0,"agents":[{"name":"A","memory":{"x":1}},"#,
-    r#"{"name":"A","memory":{"x":2}}]}}"#,
-);
+/// A type with one function, and two agents.
+const GIVEN: Given = Given {
+    model: concat!(
+        r#"{"xmodel":{"environment":{"functionFiles":["f.c"]},"agents":[{"name":"A","#,
+        r#""memory":[{"type":"int","name":"x"}],"#,
+        r#""functions":[{"name":"f","currentState":"s","nextState":"e"}]}]}}"#,
+    ),
+    source: "int f() { X++; return 0; }",
+    population: concat!(
+        r#"{"states":{"itno":0,"agents":[{"name":"A","memory":{"x":1}},"#,
+        r#"{"name":"A","memory":{"x":2}}]}}"#,
+    ),
+};
 
 /// The calls so far, by their pieces.
 #[derive(Clone, Copy, Debug, PartialEq, Eq)]
@@ -92,59 +88,15 @@ impl Gate for Meeting {
     }
 }
 
-/// The files of the run.
-fn files(alloc: Global) -> Result<MemDepot, NoMemory> {
-    let mut depot = MemDepot::new(alloc, Vec::new(alloc));
-    depot.set("m.json", MODEL.as_bytes())?;
-    depot.set("f.c", SOURCE.as_bytes())?;
-    depot.set("p.json", POPULATION.as_bytes())?;
-    Ok(depot)
-}
-
-/// The words of a run of one iteration with two workers, who wait as this says.
-fn words(alloc: Global, way: &str) -> Result<Vec<String>, NoMemory> {
-    let mut words = Vec::new(alloc);
-    for word in [
-        "run",
-        "m.json",
-        "p.json",
-        "o",
-        "1",
-        "--workers",
-        "2",
-        "--sync",
-        way,
-    ] {
-        words.push(String::from_str(alloc, word)?)?;
-    }
-    Ok(words)
-}
-
-/// The calls of the gate in such a run; none where it was not carried out.
+/// The calls of the gate in a run by this way; none where it was not carried out.
 fn calls_of<Rt: Threads + Wait + Sync>(
     rt: &Rt,
     alloc: Global,
     way: &str,
 ) -> Result<Option<Calls>, NoMemory> {
-    let words = words(alloc, way)?;
-    let mut depot = files(alloc)?;
-    let mut out = MemSink::new(alloc, Vec::new(alloc));
-    let mut err = MemSink::new(alloc, Vec::new(alloc));
     let gate = Meeting::new();
-    let ended = flame(
-        rt,
-        alloc,
-        words.as_slice(),
-        &mut depot,
-        &mut out,
-        &mut err,
-        &gate,
-    );
-    Ok(if ended.status == 0 {
-        Some(gate.calls(rt))
-    } else {
-        None
-    })
+    let carried = is_carried_out(rt, alloc, &GIVEN, way, &gate)?;
+    Ok(if carried { Some(gate.calls(rt)) } else { None })
 }
 
 /// Each piece was entered once, no other was, and none waited in vain.
@@ -158,5 +110,17 @@ const MET: Calls = Calls {
 #[test]
 fn workers_of_a_layer_meet(rt: HostRuntime) -> Result<(), Fail> {
     assert!(rt; calls_of(&rt, rt.alloc(), "layers")? == Some(MET));
+    Ok(())
+}
+
+#[test]
+fn workers_of_a_flow_meet(rt: HostRuntime) -> Result<(), Fail> {
+    assert!(rt; calls_of(&rt, rt.alloc(), "flow")? == Some(MET));
+    Ok(())
+}
+
+#[test]
+fn nodes_meet(rt: HostRuntime) -> Result<(), Fail> {
+    assert!(rt; calls_of(&rt, rt.alloc(), "nodes")? == Some(MET));
     Ok(())
 }
