@@ -66,7 +66,7 @@ impl<'a> Beginning<'a> {
     }
 
     /// Whether the core began so.
-    fn is_of(&self, core: &Core<'_>) -> bool {
+    pub(crate) fn is_of(&self, core: &Core<'_>) -> bool {
         let terms = self.terms;
         core.starts_from(
             self.program,
@@ -77,18 +77,14 @@ impl<'a> Beginning<'a> {
         )
     }
 
-    /// Whether the core began so, but for what these words change; none where they change no part.
-    pub(crate) fn began(
+    /// The same but for what these words change; none where they change no part.
+    pub(crate) fn asked(
         &self,
         alloc: Global,
-        core: &Core<'_>,
         words: &str,
-    ) -> Result<Option<bool>, NoMemory> {
-        let Some(change) = change_in(alloc, words)? else {
-            return Ok(None);
-        };
-        match self.copied(alloc)?.changed(change) {
-            Some(other) => Ok(Some(other.is_of(core))),
+    ) -> Result<Option<Beginning<'a>>, NoMemory> {
+        match change_in(alloc, words)? {
+            Some(change) => Ok(self.copied(alloc)?.changed(change)),
             None => Ok(None),
         }
     }

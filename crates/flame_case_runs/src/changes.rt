@@ -27,9 +27,23 @@ pub(crate) enum Change {
 }
 
 /// The number that begins these words, and those behind it.
-pub(crate) fn number_first(words: &str) -> Option<(u32, &str)> {
+fn number_first(words: &str) -> Option<(u32, &str)> {
     let (number, rest) = words.split_once(' ').unwrap_or((words, ""));
     Some((number.parse::<u32>().ok()?, rest))
+}
+
+/// The numbers of a function and of a piece of it that begin these words, and the change behind them; none where they are others.
+pub(crate) fn share_in(alloc: Global, words: &str) -> Result<Option<(u32, u32, Change)>, NoMemory> {
+    let Some((function, rest)) = number_first(words) else {
+        return Ok(None);
+    };
+    let Some((piece, rest)) = number_first(rest) else {
+        return Ok(None);
+    };
+    match change_in(alloc, rest)? {
+        Some(change) => Ok(Some((function, piece, change))),
+        None => Ok(None),
+    }
 }
 
 /// The rows between brackets, as `[1, 2] [3, 4]`.

@@ -15,28 +15,24 @@
 //!
 //! Then comes what the iteration comes to, where the core is complete.
 
-ghost use Rattle.std.specs.Prelude.{◌≤◌, IsTrue};
-ghost use Rattle.flame_spec.specs.WellFormed.{is_well_formed};
+ghost use Rattle.std.specs.Prelude.{◌≤◌};
 ghost use Rattle.flame_world.specs.WorldFits.{FitsModel};
 
 use crate::absorbs::absorbed;
 use crate::beginnings::Beginning;
 use crate::events::event_in;
-use crate::fitting::fits;
-use crate::terms::{Terms, terms_in, world_copied};
-use crate::worlds::{print_turn, world_in};
+use crate::terms::{Terms, world_copied};
+use crate::worlds::print_turn;
 use flame_case_files::Case;
-use flame_case_programs::{Sourced, program_of, source_in};
 use flame_core::{Core, StepFault};
 use flame_events::Event;
 use flame_program::Program;
 use flame_rows::{NoMemory, Row};
-use flame_spec::Source;
 use flame_world::World;
 use std::alloc::{AllocError, Global};
 
 /// What is answered to a line that says nothing.
-const NO_ANSWER: &str = "no event and no question";
+pub(crate) const NO_ANSWER: &str = "no event and no question";
 
 /// Whether the event came, where it was found to be allowed or not.
 fn came(happened: bool, allowed: bool) -> &'static str {
@@ -59,7 +55,7 @@ fn stepped(core: &mut Core<'_>, event: Event) -> Result<&'static str, NoMemory> 
 }
 
 /// Adds the rows, each behind a space.
-fn print_rows(out: &mut String, rows: &[Row]) -> Result<(), AllocError> {
+pub(crate) fn print_rows(out: &mut String, rows: &[Row]) -> Result<(), AllocError> {
     for row in rows {
         write!(out, " {:?}", row.values())?;
     }
@@ -139,7 +135,7 @@ fn print_told(out: &mut String, core: &mut Core<'_>, question: &str) -> Result<(
 }
 
 /// The words behind the question what the core starts from; none where it is another.
-fn words_behind(question: &str) -> Option<&str> {
+pub(crate) fn words_behind(question: &str) -> Option<&str> {
     let words = question.strip_prefix("starts from")?;
     if words.is_empty() {
         return Some(words);
@@ -148,7 +144,7 @@ fn words_behind(question: &str) -> Option<&str> {
 }
 
 /// How it is told whether the core began so; none is no question.
-fn truth(began: Option<bool>) -> &'static str {
+pub(crate) fn truth(began: Option<bool>) -> &'static str {
     match began {
         Some(true) => "true",
         Some(false) => "false",
@@ -179,7 +175,8 @@ fn print_answer(
     } else if let Some(words) = line.strip_prefix("absorb ") {
         out.push_str(absorption(absorbed(alloc, core, begun, words)?))?;
     } else if let Some(words) = words_behind(line) {
-        out.push_str(truth(begun.began(alloc, core, words)?))?;
+        let asked = begun.asked(alloc, words)?;
+        out.push_str(truth(asked.map(|other| other.is_of(core))))?;
     } else {
         print_told(out, core, line)?;
     }
@@ -196,7 +193,7 @@ pub(crate) fn print_finish(out: &mut String, core: Core<'_>) -> Result<(), NoMem
 }
 
 /// The answers to the lines of events.
-fn told(
+pub(crate) fn core_told(
     alloc: Global,
     case: &Case,
     program: &Program,
@@ -225,39 +222,4 @@ fn told(
     }
     print_finish(&mut out, core)?;
     Ok(out)
-}
-
-/// The same of the world that the case gives, where it fits.
-fn fitted(alloc: Global, case: &Case, program: &Program) -> Result<String, NoMemory> {
-    let model = &program.source().model;
-    let world = world_in(alloc, case, model)?;
-    let terms = terms_in(case);
-    if terms.pieces == 0 {
-        return Ok(String::from_str(alloc, "no pieces\n")?);
-    }
-    if fits(model, &world)? {
-        return told(alloc, case, program, world, terms);
-    }
-    Ok(String::from_str(alloc, "the world does not fit\n")?)
-}
-
-/// The same of a source, where it is accepted.
-fn answered(alloc: Global, case: &Case, source: Source) -> Result<String, NoMemory>
-    requires formed { IsTrue (is_well_formed source.model) }
-{
-    match program_of(alloc, source)? {
-        Some(program) => fitted(alloc, case, &program),
-        None => Ok(String::from_str(alloc, "not accepted\n")?),
-    }
-}
-
-/// The answer to a case of the kind `core`.
-pub fn answer_core(alloc: Global, case: &Case) -> Result<String, AllocError> {
-    match source_in(alloc, case)? {
-        Sourced::Told(told) => Ok(told),
-        Sourced::Source(source) => match answered(alloc, case, source) {
-            Ok(out) => Ok(out),
-            Err(NoMemory) => Err(AllocError),
-        },
-    }
 }

@@ -37,15 +37,21 @@ pub(crate) fn event_in(line: &str) -> Option<Event> {
     Some(Event::Freeze(rest.parse::<u32>().ok()?))
 }
 
+/// Adds the words of the event.
+pub(crate) fn print_words(out: &mut String, event: Event) -> Result<(), AllocError> {
+    match event {
+        Event::Open(function) => write!(out, "open {function}"),
+        Event::Agent(function, piece) => write!(out, "agent {function} {piece}"),
+        Event::HandIn(function, piece, message) => {
+            write!(out, "hand in {function} {piece} {message}")
+        }
+        Event::Shut(function) => write!(out, "shut {function}"),
+        Event::Freeze(message) => write!(out, "freeze {message}"),
+    }
+}
+
 /// Adds the line of the event.
 pub(crate) fn print_event(out: &mut String, event: Event) -> Result<(), AllocError> {
-    match event {
-        Event::Open(function) => writeln!(out, "open {function}"),
-        Event::Agent(function, piece) => writeln!(out, "agent {function} {piece}"),
-        Event::HandIn(function, piece, message) => {
-            writeln!(out, "hand in {function} {piece} {message}")
-        }
-        Event::Shut(function) => writeln!(out, "shut {function}"),
-        Event::Freeze(message) => writeln!(out, "freeze {message}"),
-    }
+    print_words(out, event)?;
+    writeln!(out, "")
 }

@@ -2,19 +2,22 @@
 #![tactic(auto)]
 
 mod absorbs;
+mod answering;
 mod beginnings;
 mod changes;
 mod cores;
 mod events;
 mod fitting;
+mod flows;
 mod iterations;
+mod makings;
 mod orders;
 mod paths;
 mod shares;
 mod terms;
 mod worlds;
 
-pub use cores::answer_core;
+pub use answering::{answer_core, answer_flow};
 pub use fitting::fits;
 pub use iterations::answer_iteration;
 pub use orders::answer_orders;

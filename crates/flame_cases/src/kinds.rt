@@ -10,7 +10,7 @@ use flame_case_models::{
 };
 use flame_case_populations::answer_population;
 use flame_case_programs::{answer_code, answer_graph, answer_outcome};
-use flame_case_runs::{answer_core, answer_iteration, answer_orders};
+use flame_case_runs::{answer_core, answer_flow, answer_iteration, answer_orders};
 use flame_case_texts::{answer_expression, answer_order, answer_tokens, answer_trees};
 use flame_case_views::{answer_choices, answer_conditions, answer_indexes, answer_views};
 use std::alloc::{AllocError, Global};
@@ -46,6 +46,8 @@ pub(crate) enum Kind {
     Iteration,
     /// The calls of `flame_core::Core`
     Core,
+    /// The calls of `flame_flow::Flow`
+    Flow,
     /// The same, in many orders, beside `flame_runner::iterate`
     Orders,
     /// `flame_popfile::population`, and `flame_popfile::text` and `flame_popfile::line` of what it gives
@@ -88,6 +90,7 @@ pub(crate) fn kind_of(file: &str) -> Option<Kind> {
         "graph" => Some(Kind::Graph),
         "iteration" => Some(Kind::Iteration),
         "core" => Some(Kind::Core),
+        "flow" => Some(Kind::Flow),
         "orders" => Some(Kind::Orders),
         "population" => Some(Kind::Population),
         "machine" => Some(Kind::Machine),
@@ -125,6 +128,7 @@ pub(crate) fn answer(
         Kind::Graph => answer_graph(alloc, case),
         Kind::Iteration => answer_iteration(rt, alloc, case),
         Kind::Core => answer_core(alloc, case),
+        Kind::Flow => answer_flow(alloc, case),
         Kind::Orders => answer_orders(alloc, case),
         Kind::Population => answer_population(alloc, case),
         Kind::Machine => answer_machine(alloc, case),
