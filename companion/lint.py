@@ -213,6 +213,7 @@ def check_variables(warnings, model, sources, given):
                 told = "is neither read nor set by a function"
             elif given is None:
                 told = "is set by no function: it keeps what the population gives"
+                told += " or a birth" if is_born(model, bodies, agent) else ""
             elif variable.name not in given.get(agent.name, ()) and not is_born(model, bodies, agent):
                 told = "is set by no function, and the population leaves it out: it is always 0"
             else:

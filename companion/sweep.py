@@ -43,7 +43,7 @@ TAKEN = ("run", "repetition", "status", "line", "iteration")
 def add_arguments(parser):
     parser.add_argument("sweep", metavar="SWEEP.json")
     parser.add_argument("--at-once", metavar="N", type=int, default=os.cpu_count() or 1, help="so many runs at once")
-    parser.add_argument("--flame", metavar="PROGRAM", default=os.environ.get("FLAME"), help="the program; ./flame beside flamekit without it")
+    parser.add_argument("--flame", metavar="PROGRAM", default=os.environ.get("FLAME"), help="the program; without it that which FLAME names, or ./flame beside flamekit")
     parser.add_argument("--list", action="store_true", help="print the runs and their values, and run nothing")
 
 
@@ -144,7 +144,7 @@ class Sweep:
         own = self.value.get("options", {})
         if not isinstance(own, dict):
             wanted("options", "an object")
-        known(own, ("fuel", "workers", "sync", "format"), "options")
+        known(own, ("fuel", "workers", "sync", "by", "format"), "options")
         return [word for key, value in own.items() for word in (f"--{key}", str(value))]
 
     def table(self):

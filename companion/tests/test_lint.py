@@ -81,6 +81,9 @@ class Lint(FolderTest):
         ])
         self.write("p.json", {"states": {"environment": {"cells": 1}, "agents": [{"name": "Fox", "memory": {"home": 1}}]}})
         self.assertEqual(self.texts("p.json"), ["Fox.age is neither read nor set by a function"])
+        self.write("fox.c", C.replace("return 0", "DEN += HOME; add_Fox_agent(DEN, 1, HOME); return 0"))
+        self.assertIn("Fox.home is set by no function: it keeps what the population gives or a birth", self.texts())
+        self.write("fox.c", C.replace("return 0", "DEN += HOME; return 0"))
         self.write("p.json", {"states": {"environment": {"cells": 1}, "agents": [{"name": "Fox", "memory": {}}]}})
         self.assertIn("Fox.home is set by no function, and the population leaves it out: it is always 0", self.texts("p.json"))
 
