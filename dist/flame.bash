@@ -6,13 +6,13 @@ _flame() {
         return
     fi
     case ${COMP_WORDS[1]} in
-    run) options="--workers --fuel --sync --format" ;;
-    trial) options="--workers --fuel --sync" ;;
+    run) options="--workers --fuel --sync --by --format" ;;
+    trial) options="--workers --fuel --sync --by" ;;
     esac
     case " $options " in
     *" $before "*)
         case $before in
-        --sync) mapfile -t COMPREPLY < <(compgen -W "layers flow" -- "$word") ;;
+        --sync) mapfile -t COMPREPLY < <(compgen -W "layers flow nodes" -- "$word") ;;
         --format) mapfile -t COMPREPLY < <(compgen -W "1 2" -- "$word") ;;
         esac
         return
