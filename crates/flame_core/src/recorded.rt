@@ -9,6 +9,6 @@ use flame_world::Turn;
 pub struct Recorded {
     /// What it came to.
     pub turn: Turn,
-    /// The events, each legal when it came.
+    /// The events, in their order.
     pub events: Seq<Event>,
 }

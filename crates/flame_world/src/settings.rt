@@ -66,10 +66,10 @@ impl Setting<'_> {
     pub fn same(&self, other: &Setting<'_>) -> bool
         ensures { IsTrue result ↔ SameSetting self.now other.now }
     {
-        self.source.same(other.source)
+        self.iteration == other.iteration
+            && self.fuel == other.fuel
             && self.constants.same(other.constants)
             && same_boards(self.boards.items(), other.boards.items())
-            && self.iteration == other.iteration
-            && self.fuel == other.fuel
+            && self.source.same(other.source)
     }
 }

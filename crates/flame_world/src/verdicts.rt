@@ -1,8 +1,5 @@
 //! Verdicts on traces.
 
-ghost use Rattle.std.specs.Prelude.{◌≡◌};
-ghost use Rattle.flame_world.specs.Verdicts.{is_yes, refused_line};
-
 /// What is found of a trace: a text that is to tell one iteration of a world, first which it is, then its events, a
 /// line each, and then its end. Lines are numbered from 1, and the verdict comes from the first one that settles it.
 #[derive(Clone, Copy, Debug)]
@@ -10,7 +7,7 @@ pub enum Verdict {
     /// It tells the iteration: so many events, each legal after those before it, after which the iteration is complete,
     /// and its end is what they lead to.
     Yes(u32),
-    /// This line has not the form that a trace has there, lacks its line feed, is missing, or stands behind the end.
+    /// This line has not the form that a trace has there, lacks its line feed, is missing, or stands behind a fault.
     Form(u32),
     /// This line, which is the first, tells another iteration than the one that comes next in the world.
     OtherStart(u32),
@@ -18,29 +15,6 @@ pub enum Verdict {
     Illegal(u32),
     /// The end stands in this line, and the iteration is not complete there.
     Incomplete(u32),
-    /// The end in this line, or the text of the world that begins in it, is not that to which the events lead.
+    /// The end in this line, or what stands behind `done` from this line on, is not that to which the events lead.
     OtherEnd(u32),
-}
-
-impl Verdict {
-    /// Whether the trace tells the iteration.
-    pub fn is_yes(&self) -> bool
-        ensures { result ≡ is_yes self.now }
-    {
-        matches!(self, Verdict::Yes(_))
-    }
-
-    /// The line for which a trace is refused, from 1.
-    pub fn line(&self) -> Option<u32>
-        ensures { result ≡ refused_line self.now }
-    {
-        match self {
-            Verdict::Yes(_) => None,
-            Verdict::Form(line) => Some(*line),
-            Verdict::OtherStart(line) => Some(*line),
-            Verdict::Illegal(line) => Some(*line),
-            Verdict::Incomplete(line) => Some(*line),
-            Verdict::OtherEnd(line) => Some(*line),
-        }
-    }
 }
