@@ -1,9 +1,11 @@
 pub mod Totals
+pub mod DealtTakers
 pub mod PartedTakers
 pub mod NodeLists
 pub mod SentParts
 pub mod LeftShares
 pub mod SharedRuns
+pub mod FirstShares
 pub mod NodeSteps
 pub mod SharedSources
 pub mod SentShares

@@ -9,7 +9,7 @@ use Rattle.std.proofs.lemmas.List.{length-map, drop-drop, take-append-drop, drop
 use Rattle.std.proofs.lemmas.List.FromFn.{length-map-range_with_len}
 use Rattle.std.proofs.lemmas.List.Sums.{sum_by-cons}
 use Rattle.flame_rows.specs.Bags.{ascending, merge_all, weigh}
-use Rattle.flame_rows.specs.Parted.{parts_by, whose}
+use Rattle.flame_rows.specs.Parted.{whose}
 use Rattle.flame_rows.specs.Sorted.{sorted_by}
 use Rattle.flame_rows.proofs.BagLaws.{weigh-append, weigh-ascending}
 use Rattle.flame_rows.proofs.Merging.{same_bag}
@@ -18,6 +18,7 @@ use Rattle.flame_nodes.specs.declared.partings.Parting.{Parting}
 use Rattle.flame_nodes.specs.declared.partings.Parting.TheVariants.{Rounds, Ranges}
 use Rattle.flame_nodes.specs.Partings.{parted, range_order, ranges, rounds, run_at}
 use Rattle.flame_nodes.specs.PartingLaws.{EachGoesToOneNode, HasABagForEach}
+use Rattle.flame_nodes.proofs.DealtTakers.{dealt-rounds}
 use Rattle.flame_nodes.proofs.Totals.{Rows, Weight, total, total-add, total-none, total-one, total-same, weigh-bags}
 
 -- ---- by rounds
@@ -44,7 +45,8 @@ placed-weigh weight count node below from (row ∷ rows) =
 
 rounds-weigh : (weight : Weight) (nodes : ℕ) (takers : Rows) → 1 ≤ nodes → weigh weight (flat_map (λ bag. bag) (rounds nodes takers)) ≡ weigh weight takers
 rounds-weigh weight nodes takers some =
-    weigh-bags weight (λ number. whose (λ choice. choice == number) takers (map (λ place. place % nodes) (range_with_len 0 (length takers)))) 0 nodes
+    ap (λ (bags : List Rows). weigh weight (flat_map (λ bag. bag) bags)) (sym (dealt-rounds nodes takers))
+    ∙ weigh-bags weight (λ number. whose (λ choice. choice == number) takers (map (λ place. place % nodes) (range_with_len 0 (length takers)))) 0 nodes
     ∙ placed-weigh weight nodes (λ place. place % nodes) (λ place. mod_below place nodes some) 0 takers
 
 -- ---- by ranges
@@ -113,5 +115,5 @@ each_goes_to_one parting nodes takers some =
     same_bag (flat_map (λ bag. bag) (parted parting nodes takers)) takers (λ weight. parted-weigh weight parting nodes takers some)
 
 pub has_a_bag : HasABagForEach
-has_a_bag Rounds nodes takers = length-map-range_with_len (λ number. whose (λ choice. choice == number) takers (map (λ place. place % nodes) (range_with_len 0 (length takers)))) 0 nodes
+has_a_bag Rounds nodes takers = length-map-range_with_len _ 0 nodes
 has_a_bag (Ranges column) nodes takers = length-map-range_with_len _ 0 nodes

@@ -1,12 +1,11 @@
 -- How the takers of a function are parted among nodes: a bag for each node.
-use Rattle.std.specs.Prelude.{ℕ, ◌*◌, ◌%◌, ℤ, List, length, map, take, drop}
-use Rattle.std.specs.List.{range_with_len}
+use Rattle.std.specs.Prelude.{ℕ, ◌*◌, ◌%◌, ◌==◌, ℤ, List, [], length, map, take, drop, slice_index_or}
+use Rattle.std.specs.List.{filter, range_with_len}
 use Rattle.std.specs.declared.cmp.Ordering.{Ordering}
 use Rattle.std.specs.Int.{div_ceil}
 use Rattle.std.specs.Ordering.{then_cmp}
 use Rattle.flame_rows.specs.Bags.{ascending}
 use Rattle.flame_rows.specs.Order.{row_order}
-use Rattle.flame_rows.specs.Parted.{parts_by}
 use Rattle.flame_rows.specs.Sorted.{sorted_by}
 use Rattle.flame_spec.specs.Views.{column_order}
 use Rattle.flame_nodes.specs.declared.partings.Parting.{Parting}
@@ -14,9 +13,15 @@ use Rattle.flame_nodes.specs.declared.partings.Parting.TheVariants.{Rounds, Rang
 
 -- ---- by rounds
 
--- for each node the takers that are its own, where that in place j is the own of node j mod nodes [own]
+-- the rows in these places [own]
+abbrev pub rows_at : List (List ℤ) → List ℕ → List (List ℤ)
+rows_at rows places = map (λ place. slice_index_or rows place []) places
+
+-- for each node the takers in the places that leave its number when they are divided by the number of nodes [own]
 abbrev pub rounds : ℕ → List (List ℤ) → List (List (List ℤ))
-rounds nodes takers = parts_by nodes takers (map (λ place. place % nodes) (range_with_len 0 (length takers)))
+rounds nodes takers =
+    map (λ node. rows_at takers (filter (λ place. (place % nodes) == node) (range_with_len 0 (length takers))))
+    (range_with_len 0 nodes)
 
 -- ---- by ranges of a column
 

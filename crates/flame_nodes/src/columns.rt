@@ -1,7 +1,7 @@
 //! By what the agents of a type are parted.
 
-ghost use Rattle.std.specs.Prelude.{◌≡◌, IfOk};
-ghost use Rattle.flame_nodes.specs.NodePartings.{parting_by, parting_for, single_column};
+ghost use Rattle.std.specs.Prelude.{◌≡◌, IfOk, Some};
+ghost use Rattle.flame_nodes.specs.NodePartings.{parting_by, parting_for, single_column, single_found};
 ghost use Rattle.std.specs.Prelude.{slice_get};
 
 use crate::partings::Parting;
@@ -9,22 +9,29 @@ use flame_program::Program;
 use flame_rows::{NoMemory, Text};
 use flame_spec::Variable;
 
-/// The column of the single variable of this name, where there is one. NoMemory where 32 bits cannot number the columns.
+/// The column of the variable that was found in it, where that is a single one.
+fn found_column(variable: &Variable, column: u128) -> Result<Option<u32>, NoMemory>
+    ensures { IfOk result (λ found. found ≡ single_found (Some (column, variable.now))) }
+{
+    if variable.length.is_some() {
+        return Ok(None);
+    }
+    match u32::try_from(column) {
+        Ok(column) => Ok(Some(column)),
+        Err(_) => Err(NoMemory),
+    }
+}
+
+/// The column of the single variable of this name, where there is one. NoMemory where 32 bits do not number it.
 fn single_column(variables: &[Variable], name: &Text) -> Result<Option<u32>, NoMemory>
     ensures { IfOk result (λ column. column ≡ single_column variables.now name.now) }
 {
-    let mut column = 0u32;
+    let mut column: u128 = 0;
     for variable in variables {
         if variable.name.as_str() == name.as_str() {
-            return Ok(match variable.length {
-                Some(_) => None,
-                None => Some(column),
-            });
+            return found_column(variable, column);
         }
-        match column.checked_add(variable.width()) {
-            Some(next) => column = next,
-            None => return Err(NoMemory),
-        }
+        column += u128::from(variable.width());
     }
     Ok(None)
 }
@@ -43,7 +50,7 @@ fn parting_by(by: &Option<Text>, memory: &[Variable]) -> Result<Parting, NoMemor
 }
 
 /// How the agents of the type of this number are parted: by the ranges of the column of its single variable of the name, where a
-/// name is given and the type has one, and else by rounds. NoMemory where 32 bits cannot number the columns.
+/// name is given and the type has one, and else by rounds. NoMemory where 32 bits do not number that column.
 pub(crate) fn parting_of(
     by: &Option<Text>,
     program: &Program,

@@ -1,19 +1,18 @@
 //! Shares gathered from what arrived.
 
-ghost use Rattle.std.specs.Prelude.{◌≡◌, ◌↔◌, IfOk, IfSome, IsTrue, map};
+ghost use Rattle.std.specs.Prelude.{◌≡◌, ◌↔◌, IfOk, IfSome, IsTrue, MatchOption, map};
 ghost use Rattle.std.specs.List.{All};
 ghost use Rattle.flame_index.specs.FrozenBoards.{shared_messages};
 ghost use Rattle.flame_share.specs.PieceFits.{FitsPiece};
-ghost use Rattle.flame_world.specs.Settings.{SameSetting};
 ghost use Rattle.flame_world.specs.Shares.{piece_of, setting_of};
-ghost use Rattle.flame_nodes.specs.GatheredShares.{IsSetting};
-ghost use Rattle.flame_nodes.specs.NodeWork.{CanRun, IsUnder};
+ghost use Rattle.flame_nodes.specs.GatheredShares.{DifferInNumber, IsFirstThatFits, IsSetting, IsShareOf};
+ghost use Rattle.flame_nodes.specs.NodeWork.{CanRun, FindsFirst, IsFirstPlace, IsOf, IsUnder, KeepsOthers};
 
 use crate::terms::{Terms, run_under, setting_under};
 use flame_index::Frozen;
 use flame_program::Program;
 use flame_rows::{NoMemory, Row, Same, Seq};
-use flame_world::{Piece, Setting, Share};
+use flame_world::{Piece, Share};
 use std::alloc::Global;
 use std::sync::Arc;
 
@@ -24,28 +23,40 @@ fn same_piece(one: &Piece, two: &Piece) -> bool
     one.number == two.number && one.function == two.function && one.agents.same(&two.agents)
 }
 
-/// Whether the share is that of the piece under the setting.
-fn is_of(share: &Share<'_>, setting: &Setting<'_>, piece: &Piece) -> bool
-    ensures piece { IsTrue result → piece_of share.now ≡ piece.now }
-    ensures setting { IsTrue result → SameSetting (setting_of share.now) setting.now }
+/// Whether the share is that of the piece under these terms.
+fn is_of(share: &Share<'_>, terms: Terms<'_>, piece: &Piece) -> bool
+    ensures { IsTrue result ↔ IsOf terms.entry piece.now share.now }
 {
-    same_piece(share.piece(), piece) && share.setting().same(setting)
+    same_piece(share.piece(), piece) && share.setting().same(&setting_under(terms))
 }
 
-/// Takes the first of these shares that is that of the piece under the setting.
-fn take<'a>(arrived: &mut Vec<Share<'a>>, setting: &Setting<'_>, piece: &Piece) -> Option<Share<'a>>
-    ensures piece { IfSome result (λ share. piece_of share ≡ piece.now) }
-    ensures setting { IfSome result (λ share. SameSetting (setting_of share) setting.now) }
+/// The place of the first of these shares that is that of the piece under these terms.
+fn place_of(arrived: &[Share<'_>], terms: Terms<'_>, piece: &Piece) -> Option<usize>
+    ensures { MatchOption result
+        (All (λ share. IsOf terms.entry piece.now share → ⊥) arrived.now)
+        (IsFirstPlace (IsOf terms.entry piece.now) arrived.now) }
 {
     for place in 0..arrived.len() {
-        if is_of(&arrived[place], setting, piece) {
-            return Some(arrived.remove(place));
+        if is_of(&arrived[place], terms, piece) {
+            return Some(place);
         }
     }
     None
 }
 
-/// The share of a piece: that which arrived, or else the piece is run here.
+/// Takes the first of these shares that is that of the piece under these terms.
+fn take<'a>(arrived: &mut Vec<Share<'a>>, terms: Terms<'_>, piece: &Piece) -> Option<Share<'a>>
+    ensures own { IfSome result (λ share. IsOf terms.entry piece.now share) }
+    ensures first { FindsFirst (IsOf terms.entry piece.now) arrived.old.items result }
+    ensures others { KeepsOthers (IsOf terms.entry) piece.now arrived.old.items arrived.new.items }
+{
+    match place_of(arrived.as_slice(), terms, piece) {
+        Some(place) => Some(arrived.remove(place)),
+        None => None,
+    }
+}
+
+/// The share of a piece: the first that arrived, or else the piece is run here.
 fn share_of<'a>(
     alloc: Global,
     terms: Terms<'a>,
@@ -55,9 +66,10 @@ fn share_of<'a>(
     requires { CanRun terms piece }
     ensures piece { IfOk result (λ share. piece_of share ≡ piece) }
     ensures setting { IfOk result (λ share. IsUnder terms.entry (setting_of share)) }
+    ensures first { IfOk result (IsFirstThatFits (IsOf terms.entry piece) arrived.old.items) }
+    ensures others { KeepsOthers (IsOf terms.entry) piece arrived.old.items arrived.new.items }
 {
-    let setting = setting_under(terms);
-    match take(arrived, &setting, &piece) {
+    match take(arrived, terms, &piece) {
         Some(share) => Ok(share),
         None => run_under(alloc, terms, piece),
     }
@@ -73,11 +85,13 @@ fn share_all<'a>(
     requires { All (CanRun terms) pieces.items }
     ensures pieces { IfOk result (λ shares. map piece_of shares.items ≡ pieces.items) }
     ensures settings { IfOk result (λ shares. All (λ share. IsUnder terms.entry (setting_of share)) shares.items) }
+    ensures first { IfOk result (λ shares. DifferInNumber pieces.items
+        → All (λ share. IsFirstThatFits (IsOf terms.entry (piece_of share)) arrived.entry.items share) shares.items) }
 {
-    let mut arrived = arrived;
+    let mut left = arrived;
     let mut shares = Vec::new(alloc);
     for piece in pieces {
-        shares.push(share_of(alloc, terms, &mut arrived, piece)?)?;
+        shares.push(share_of(alloc, terms, &mut left, piece)?)?;
     }
     Ok(shares)
 }
@@ -86,7 +100,8 @@ fn share_all<'a>(
 /// constants, these boards of the function's inputs in their order, this iteration and this fuel. Of the shares that arrived
 /// the first of each piece is kept, with the same number, function and agents, whose setting is that one
 /// (`Setting::same`); all others are dropped, further shares of a piece and shares of other pieces, functions, iterations or
-/// boards alike. A piece whose share is not among them is run here. There is a board for each input, and memories, constants
+/// boards alike. Where two pieces are one and the same, the second share of it is that of the second. A piece whose share is
+/// not among them is run here. There is a board for each input, and memories, constants
 /// and messages are as wide as the model declares. It takes pieces times shares looks at numbers at most. NoMemory where
 /// memory is not found, and where 32 bits cannot number the function's inputs.
 pub fn gather<'a>(
@@ -104,6 +119,10 @@ pub fn gather<'a>(
     ensures settings { IfOk result (λ shares.
         All (λ share. IsSetting program.now constants.now (map shared_messages boards.now) iteration fuel (setting_of share))
         shares) }
+    ensures first { IfOk result (λ shares. DifferInNumber pieces
+        → All (λ share. IsFirstThatFits
+        (IsShareOf program.now constants.now (map shared_messages boards.now) iteration fuel (piece_of share))
+        arrived.entry share) shares) }
 {
     let terms = Terms {
         program,

@@ -50,7 +50,9 @@ fn add_part(sent: &mut Vec<Sent>, part: Part) -> Result<(), NoMemory>
     ensures { OnOk result (sent.new.items ≡ sent.old.items ++ sent_in part) }
 {
     let Part { message, rows, .. } = part;
-    for row in rows.into_rows() {
+    let rows = rows.into_rows();
+    sent.reserve(rows.len())?;
+    for row in rows {
         sent.push(Sent { message, row })?;
     }
     Ok(())

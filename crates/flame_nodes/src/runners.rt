@@ -25,13 +25,16 @@ pub struct Nodes<'g, G: Gate> {
 }
 
 impl<'g, G: Gate> Nodes<'g, G> {
-    ghost use Rattle.flame_nodes.specs.SeenNodes.{count_of, name_of};
+    ghost use Rattle.flame_nodes.specs.SeenNodes.{count_of, gate_of, name_of};
 
-    /// A runner with so many nodes, one at least, of which the caller is one. They call the gate just before they run a piece.
+    /// A runner with so many nodes, one at least, of which the caller is one. They call the gate just before they run a piece. A
+    /// piece whose thread cannot be started is run by the caller without a call, one whose share does not arrive without a further
+    /// one.
     /// Where the name of a variable is given, agents of a type that has a single variable of this name are parted by the ranges
     /// of its column, and those of every other type by rounds, as all are where none is given (`Parting`).
     pub fn new(gate: &'g G, nodes: u32, by: Option<Text>) -> Nodes<'g, G>
         requires { 1 ≤ nodes }
+        ensures gate { gate_of result ≡ gate.now }
         ensures nodes { count_of result ≡ nodes }
         ensures by { name_of result ≡ by }
     {

@@ -68,8 +68,8 @@ fn copy_of(piece: &Piece) -> Result<Piece, NoMemory>
     })
 }
 
-/// The share of the piece.
-fn share_of<'a>(alloc: Global, terms: Terms<'a>, piece: &Piece) -> Result<Share<'a>, NoMemory>
+/// The share of the node's piece.
+fn own_share<'a>(alloc: Global, terms: Terms<'a>, piece: &Piece) -> Result<Share<'a>, NoMemory>
     requires { CanRun terms piece.now }
 {
     let own = copy_of(piece)?;
@@ -87,7 +87,7 @@ fn work<G: Gate, R: Threads + Wait + Sync>(rt: &R, node: Node<'_, '_, G>)
         piece,
     } = node;
     floor.gate.enter(rt, piece.function, piece.number);
-    if let Ok(share) = share_of(floor.alloc, floor.terms, piece) {
+    if let Ok(share) = own_share(floor.alloc, floor.terms, piece) {
         let _sent = floor
             .to
             .end
@@ -145,27 +145,29 @@ fn work_all<G: Gate, R: Threads + Wait + Sync>(rt: &R, nodes: Vec<Node<'_, '_, G
     );
 }
 
-/// The shares that came, at most so many. It does not wait for one.
+/// The shares that came, at most so many, up to one for which no memory is found. It does not wait for one.
 fn received<'a, R: Wait>(
     rt: &R,
     alloc: Global,
     receiver: &Receiver<'a>,
     pass: &mut Pass<Share<'a>, ()>,
     most: usize,
-) -> Result<Vec<Share<'a>>, NoMemory>
+) -> Vec<Share<'a>>
     requires { IsSeatAt (receives_on receiver.now) pass.old }
 {
     let mut shares = Vec::new(alloc);
     for _share in 0..most {
-        match receiver.try_recv_as::<Free, R>(rt, pass) {
-            Ok(share) => shares.push(share)?,
-            Err(_) => return Ok(shares),
+        let Ok(share) = receiver.try_recv_as::<Free, R>(rt, pass) else {
+            return shares;
+        };
+        if shares.push(share).is_err() {
+            return shares;
         }
     }
-    Ok(shares)
+    shares
 }
 
-/// The shares of these pieces, of which there is one at least, that come from nodes.
+/// The shares of these pieces, of which there is one at least, that come from nodes. After NoMemory no node has worked.
 fn sent<'a, G: Gate, R: Threads + Wait + Sync>(
     rt: &R,
     alloc: Global,
@@ -189,11 +191,11 @@ fn sent<'a, G: Gate, R: Threads + Wait + Sync>(
     };
     let nodes = nodes_for(&floor, pieces, &mut pass)?;
     work_all(rt, nodes);
-    received(rt, alloc, &receiver, &mut pass, pieces.len())
+    Ok(received(rt, alloc, &receiver, &mut pass, pieces.len()))
 }
 
-/// The shares of these pieces that nodes send, none where memory is not found. Where there is one piece alone, the caller is its
-/// node, and runs it when it gathers.
+/// The shares of these pieces that nodes send, each of which calls the gate. Where there is one piece alone, and where memory for
+/// the nodes is not found, none comes: the caller calls the gate for each piece, and runs it when it gathers.
 fn arrivals<'a, G: Gate, R: Threads + Wait + Sync>(
     rt: &R,
     alloc: Global,
@@ -207,7 +209,6 @@ fn arrivals<'a, G: Gate, R: Threads + Wait + Sync>(
         if let Ok(shares) = sent(rt, alloc, gate, terms, pieces) {
             return shares;
         }
-        return Vec::new(alloc);
     }
     for piece in pieces {
         gate.enter(rt, piece.function, piece.number);
