@@ -317,6 +317,13 @@ def population(found, model):
     return shown
 
 
+def trace(found, model):
+    name, kind, line = found.groups()
+    shown = Shown("trace", kind)
+    shown.show_line(name, read_text(name), int(line))
+    return shown
+
+
 def fault(found, model):
     iteration, kind, function, cause, line, memory = found.groups()
     shown = Shown("fault", cause)
@@ -358,6 +365,7 @@ LINES = (
     (r"cycle: (.+)", cycle),
     (r"states: (\w+): (.+)", start_states),
     (rf"population: {NAME}: (/\S*|): (\w+)", population),
+    (rf"trace: {NAME}: (\w+) at line ([0-9]+)", trace),
     (r"fault: iteration ([0-9]+): (\w+)\.(\w+): (\w+) at line ([0-9]+): memory(.*)", fault),
     (r"no memory|read fault: .+|write fault: .+", outside),
 )
@@ -374,6 +382,7 @@ SECTIONS = {
     "check": "The meaning of function files:",
     "order": "The order of functions:",
     "population": "Populations:",
+    "trace": "Traces:",
     "fault": "Faults of a run:",
     "outside": "Memory, files and the system:",
 }

@@ -63,6 +63,12 @@ class Shown(FolderTest):
         output = self.explained("population: p.json: /states/agents/0/memory/den: Shape")
         self.assertEqual(self.marked(output), [("p.json:2:36", '"much"')])
 
+    def test_traces(self):
+        self.write("t", "trace iteration 1 pieces 1 fuel 1000000\nopen 0\nshut 0\n")
+        self.assertEqual(self.marked(self.explained("trace: t: Illegal at line 3")), [("t:3:1", "shut 0")])
+        told = self.good("explain", "trace: t: Form at line 4")
+        self.assertIn("Form: a line lacks its LF, or the end is missing: the line that is missing is told.", told.lines)
+
     def test_a_name_that_is_not_known(self):
         self.write("p.json", '{"states": {"agents": [\n {"name": "Fox", "memory": {"dne": 4}}]}}')
         output = self.explained("population: p.json: /states/agents/0/memory/dne: UnknownVariable")

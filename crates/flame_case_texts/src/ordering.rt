@@ -3,7 +3,7 @@
 
 use flame_case_files::Case;
 use flame_rows::Fail;
-use flame_words::{How, Order, RunOrder, TrialOrder, Usage, Way, order};
+use flame_words::{How, Order, RunOrder, TraceOrder, TrialOrder, Usage, Way, order};
 use std::alloc::{AllocError, Global};
 
 fn print_how(out: &mut String, how: &How) -> Result<(), AllocError> {
@@ -37,6 +37,15 @@ fn print_trial(out: &mut String, trial: &TrialOrder) -> Result<(), AllocError> {
     print_how(out, &trial.how)
 }
 
+fn print_trace(out: &mut String, trace: &TraceOrder) -> Result<(), AllocError> {
+    writeln!(out, "trace\nmodel={}\npop={}", trace.model, trace.pop)?;
+    writeln!(
+        out,
+        "out={}\nworkers={}\nfuel={}",
+        trace.out, trace.workers, trace.fuel
+    )
+}
+
 fn print_order(out: &mut String, order: &Order) -> Result<(), AllocError> {
     match order {
         Order::Run(run) => print_run(out, run),
@@ -46,6 +55,10 @@ fn print_order(out: &mut String, order: &Order) -> Result<(), AllocError> {
         Order::Trial(trial) => print_trial(out, trial),
         Order::Migrate(model, pop, written) => {
             writeln!(out, "migrate\nmodel={model}\npop={pop}\nout={written}")
+        }
+        Order::Trace(trace) => print_trace(out, trace),
+        Order::Replay(model, pop, traced) => {
+            writeln!(out, "replay\nmodel={model}\npop={pop}\ntrace={traced}")
         }
     }
 }

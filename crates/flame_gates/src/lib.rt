@@ -1,9 +1,12 @@
-//! Tests of gates: that workers are at work at once, and what they wait for, which no clause says. It has no code.
+//! Tests of gates: that workers are at work at once, and what they wait for, which no clause says; and that traces are replayed.
+//! It has no code.
 #![tactic(auto)]
 
 #[cfg(test)]
 mod meetings;
 #[cfg(test)]
 mod overtaking;
+#[cfg(test)]
+mod retelling;
 #[cfg(test)]
 mod runs;

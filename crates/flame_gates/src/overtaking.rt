@@ -1,6 +1,6 @@
 //! A function of a later layer that runs while one of an earlier layer does.
 
-use crate::runs::{Given, TURNS, is_carried_out};
+use crate::runs::{Given, TURNS, is_carried_out, trace_of};
 use flame_outside::Gate;
 use flame_rows::NoMemory;
 use std::alloc::Global;
@@ -121,5 +121,26 @@ const OVERTOOK: Calls = Calls {
 #[test]
 fn a_flow_waits_for_no_layer(rt: HostRuntime) -> Result<(), Fail> {
     assert!(rt; calls_of(&rt, rt.alloc())? == Some(OVERTOOK));
+    Ok(())
+}
+
+/// Whether the first text stands in the trace before the second.
+fn stand_so(trace: &str, first: &str, second: &str) -> bool {
+    match (trace.find(first), trace.find(second)) {
+        (Some(first), Some(second)) => first < second,
+        _ => false,
+    }
+}
+
+/// Whether the trace of an iteration has b shut before the agent of a has run, and none waited in vain.
+fn is_traced_so<Rt: Threads + Wait + Sync>(rt: &Rt, alloc: Global) -> Result<bool, NoMemory> {
+    let gate = Overtaking::new();
+    let trace = trace_of(rt, alloc, &GIVEN, &gate)?;
+    Ok(gate.calls(rt) == OVERTOOK && stand_so(trace.as_str(), "\nshut 1\n", "\nagent 0 0\n"))
+}
+
+#[test]
+fn a_trace_tells_what_overtook(rt: HostRuntime) -> Result<(), Fail> {
+    assert!(rt; is_traced_so(&rt, rt.alloc())?);
     Ok(())
 }

@@ -18,6 +18,9 @@ use Rattle.flame_lex.specs.LexFaults.{offset_of, name_of as name_of_lex}
 use Rattle.flame_expr.specs.declared.faults.ParseFault.{ParseFault}
 use Rattle.flame_expr.specs.ParseFaults.{token_of, name_of as name_of_parse}
 use Rattle.flame_world.specs.declared.faults.SimFault.{SimFault}
+use Rattle.flame_world.specs.declared.verdicts.Verdict.{Verdict}
+use Rattle.flame_world.specs.declared.verdicts.Verdict.TheVariants.{Yes, Form, OtherStart, Illegal, Incomplete}
+use Rattle.flame_world.specs.declared.verdicts.Verdict.TheVariants.{OtherEnd}
 use Rattle.flame_depend.specs.declared.faults.DependFault.{DependFault}
 use Rattle.flame_depend.specs.declared.faults.DependFault.TheVariants.{Cycle, Starts}
 use Rattle.flame_ops.specs.CauseNames.{name_of_cause}
@@ -170,3 +173,18 @@ sim_line model fault =
     ++ codes " at line " ++ decimal fault.line
     ++ codes ": memory" ++ memory_text (memory_of model fault.function) fault.memory
     ++ codes "\n"
+
+-- ---- traces
+
+-- KIND at line L, of a verdict that refuses a trace; Yes has no line [own]
+abbrev pub verdict_part : Verdict → List ℕ
+verdict_part (Yes events) = []
+verdict_part (Form line) = codes "Form" ++ codes " at line " ++ decimal line
+verdict_part (OtherStart line) = codes "OtherStart" ++ codes " at line " ++ decimal line
+verdict_part (Illegal line) = codes "Illegal" ++ codes " at line " ++ decimal line
+verdict_part (Incomplete line) = codes "Incomplete" ++ codes " at line " ++ decimal line
+verdict_part (OtherEnd line) = codes "OtherEnd" ++ codes " at line " ++ decimal line
+
+-- trace: FILE: KIND at line L, of a trace that is refused [own]
+abbrev pub trace_line : List ℕ → Verdict → List ℕ
+trace_line file verdict = codes "trace: " ++ file ++ codes ": " ++ verdict_part verdict ++ codes "\n"

@@ -12,6 +12,7 @@ mod models;
 mod named;
 mod populations;
 mod sources;
+mod traces;
 mod words;
 
 pub use codes::code_text;
@@ -21,4 +22,5 @@ pub use graphs::graph_text;
 pub use models::{name_text, nest_text, shape_text};
 pub use populations::{line_text, pop_text};
 pub use sources::{check_text, lex_text, parse_text};
+pub use traces::trace_fault_text;
 pub use words::{file_text, usage_text};

@@ -1,15 +1,25 @@
 -- From what stands when an order ends to what a call carries out.
 use Rattle.std.proofs.Common.{◌≡◌, ℕ, ◌≤◌, ◌⊎◌, inl, inr, List, sym, ◌∙◌, subst, arith}
+use Rattle.std.specs.Prelude.{Result, Ok, Err}
+use Rattle.flame_outside.specs.Files.{Files}
 use Rattle.flame_outside.specs.Devices.{SeenSink}
 use Rattle.flame_outside.specs.Scripts.{Act, puts, prints, Outside}
-use Rattle.flame_load.specs.InputReads.{Reading}
+use Rattle.flame_words.specs.declared.orders.Order.{Order}
+use Rattle.flame_words.specs.declared.orders.Order.TheVariants.{Run, Check, Graph, Code, Trial, Migrate, Trace, Replay}
+use Rattle.flame_words.specs.declared.faults.Usage.{Usage}
+use Rattle.flame_load.specs.InputReads.{Reading, known}
+use Rattle.flame_load.specs.TextReads.{Reader}
 use Rattle.flame_top.specs.declared.ending.Ending.{Ending}
 use Rattle.flame_top.specs.declared.ending.Ending.TheVariants.{Done, RefusedWords, Refused, Faulted}
 use Rattle.flame_top.specs.declared.ending.Ending.TheVariants.{ReadFault, FileFault, OutputFault, NoMemory}
 use Rattle.flame_top.specs.EndingLines.{status_of, line_of}
 use Rattle.flame_top.specs.Reports.{Report, report_in}
-use Rattle.flame_top.specs.CallAnswers.{Tells, IsWhole, FailsToRead, FailsToWrite, NothingFailed, CarriesOut}
+use Rattle.flame_top.specs.CallAnswers.{Tells, IsWhole, FailsToRead, FailsToWrite, NothingFailed, CarriesOut, CarriesOutWords}
+use Rattle.flame_top.specs.CallAnswers.{CarriesOutTrial}
 use Rattle.flame_top.specs.Standing.{IsReported, Ends, IsWholeEnding, Blames, Stands, ReachesInput, Carries, IsCaused}
+use Rattle.flame_top.specs.OrderReports.{ordered, trial_report}
+use Rattle.flame_top.specs.Ordering.{CarriesTrial}
+use Rattle.flame_top.specs.TraceAnswers.{CarriesWords}
 use Rattle.flame_top.specs.Telling.{Answers}
 
 -- ---- the whole report
@@ -135,7 +145,7 @@ module _ (status : ℕ) (err err' : SeenSink) where
 -- ---- a call
 
 -- an order that ends so, and is told so, is carried out
-pub carries_out :
+carries_out :
     (reading : Reading (List ℕ) Report) (ending : Ending) (files status : ℕ) (old new : Outside) (err err' : SeenSink)
     → Carries reading ending files old new
     → IsCaused ending old new
@@ -152,3 +162,35 @@ carries_out reading ending files status old new err err' carries caused answers 
       read_fault = fails_to_read status err err' ending reading.inputs carries.reached answers;
       write_fault = fails_to_write status err err' ending report.acts s.done old new s.blames answers;
     }
+
+-- the same of words
+pub carries_out_words :
+    (read : Reader) (told : Files) (words : Result Order Usage) (ending : Ending) (files status : ℕ)
+    (old new : Outside) (err err' : SeenSink)
+    → CarriesWords read told words ending files old new
+    → IsCaused ending old new
+    → Answers ending status err err'
+    → CarriesOutWords read told words status files old new err err'
+carries_out_words read told words ending files status old new err err' c caused answers = record {
+  trace = c.trace;
+  tells = c.tells;
+  carries = carries_out (ordered read told words c.trace) ending files status old new err err' c.carries caused answers;
+}
+
+-- the same of a trial
+pub carries_out_trial :
+    (read : Reader) (words : Result Order Usage) (ending : Ending) (files status : ℕ) (old new : Outside) (err err' : SeenSink)
+    → CarriesTrial read words ending files old new
+    → IsCaused ending old new
+    → Answers ending status err err'
+    → CarriesOutTrial read words status files old new err err'
+carries_out_trial read (Ok (Trial order)) ending files status old new err err' c caused answers =
+    carries_out (known (trial_report read order)) ending files status old new err err' c caused answers
+carries_out_trial read (Ok (Run order)) ending files status old new err err' c caused answers = tt
+carries_out_trial read (Ok (Check model)) ending files status old new err err' c caused answers = tt
+carries_out_trial read (Ok (Graph model)) ending files status old new err err' c caused answers = tt
+carries_out_trial read (Ok (Code model)) ending files status old new err err' c caused answers = tt
+carries_out_trial read (Ok (Migrate model pop to)) ending files status old new err err' c caused answers = tt
+carries_out_trial read (Ok (Trace order)) ending files status old new err err' c caused answers = tt
+carries_out_trial read (Ok (Replay model pop name)) ending files status old new err err' c caused answers = tt
+carries_out_trial read (Err usage) ending files status old new err err' c caused answers = tt

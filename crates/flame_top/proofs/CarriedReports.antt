@@ -80,9 +80,9 @@ module _ (whole_told : WholeIsTold) (first_told : FirstIsTold) (scripts : WholeS
 
   pub calls_carry_out : CallsCarryOut
   calls_carry_out = record {
-    whole = λ read words told status files old new err err' c calm not_for_memory.
-        whole_report (reading read words told) status files old new err err'
-        (statuses_are_few read words told) c calm not_for_memory;
-    first = λ read words told status files old new err err' c.
-        first_of_report (reading read words told) status files old new err err' c;
+    whole = λ read words told trace status files old new err err' c calm not_for_memory.
+        whole_report (reading read words told trace) status files old new err err'
+        (statuses_are_few read words told trace) c calm not_for_memory;
+    first = λ read words told trace status files old new err err' c.
+        first_of_report (reading read words told trace) status files old new err err' c;
   }

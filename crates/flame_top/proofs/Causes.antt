@@ -14,7 +14,7 @@ use Rattle.flame_top.specs.declared.ending.Ending.TheVariants.{ReadFault, FileFa
 use Rattle.flame_top.specs.EndingLines.{status_of, line_of}
 use Rattle.flame_top.specs.CallAnswers.{AreRefused, Tells, TellsALine, TellsUsage, LeavesAll, WritesNothing, no_memory_text, HasCause, TellsStatus, Leaves}
 use Rattle.flame_top.specs.InputAnswers.{IsReadFault}
-use Rattle.flame_top.specs.Standing.{IsCaused, RefusesWords, IsOfInput}
+use Rattle.flame_top.specs.Standing.{IsCaused, RefusesWords, IsFaulted, IsOfInput}
 use Rattle.flame_top.specs.Ordering.{IsUnordered, KeepsOrder}
 use Rattle.flame_top.specs.Telling.{Answers}
 use Rattle.flame_top.proofs.ToldLines.{tells_a_line}
@@ -38,6 +38,10 @@ input_by_one ending is = absurd (omega (arith, is))
 words_by_two : (ending : Ending) → status_of ending ≡ 2 → RefusesWords ending
 words_by_two (RefusedWords line) is = tt
 words_by_two ending is = absurd (omega (arith, is))
+
+fault_by_three : (ending : Ending) → status_of ending ≡ 3 → IsFaulted ending
+fault_by_three (Faulted line) is = tt
+fault_by_three ending is = absurd (omega (arith, is))
 
 input_by_five : (ending : Ending) → status_of ending ≡ 5 → IsOfInput ending
 input_by_five (ReadFault name) is = tt
@@ -151,6 +155,7 @@ module _ (words : Result Order Usage) (ending : Ending) (files status : ℕ) (ol
     few = few answers;
     faulty = λ is. keeps.ordered (words_by_two ending (ends_as 2 (λ same. omega (arith, same)) is));
     refused = refused answers;
+    fault = λ is. keeps.faulted (fault_by_three ending (ends_as 3 (λ same. omega (arith, same)) is));
     read = λ is. caused_by_five ending old new (ends_as 5 (λ same. omega (arith, same)) is) keeps.caused;
     trial = λ trial is. (keeps.trial trial).read (read_by_five ending (ends_as 5 (λ same. omega (arith, same)) is));
     write = λ is. caused_by_six ending old new (ends_as 6 (λ same. omega (arith, same)) is) keeps.caused;

@@ -30,6 +30,10 @@ module _
   held_fits =
       subst (λ (held : Start). FitsModel model held.world) (sym is.held) (law model turns is.value named is.faultless).fits
 
+  pub held_is_first : pos 0 ≤ℤ start.itno
+  held_is_first =
+      subst (λ (held : Start). pos 0 ≤ℤ held.itno) (sym is.held) (law model turns is.value named is.faultless).number.first
+
   pub held_leaves_room : (start.itno +ℤ pos turns) ≤ℤ pos 2147483647
   held_leaves_room =
       subst (λ (held : Start). (held.itno +ℤ pos turns) ≤ℤ pos 2147483647) (sym is.held)

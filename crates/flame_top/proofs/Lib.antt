@@ -13,6 +13,11 @@ pub mod LeftFiles
 pub mod FileRestarts
 pub mod ReportedLines
 mod ToldLines
+mod FaultlessEndings
+mod TraceEndings
+mod ReplayEndings
+mod SomeTraces
+mod TracedIterations
 mod CarriedCalls
 mod Causes
 mod OrderedWords

@@ -7,8 +7,9 @@ use Rattle.flame_spec.specs.declared.faults.CheckFault.{CheckFault}
 use Rattle.flame_depend.specs.declared.faults.DependFault.{DependFault}
 use Rattle.flame_depend.specs.declared.faults.DependFault.TheVariants.{Cycle, Starts}
 use Rattle.flame_world.specs.declared.faults.SimFault.{SimFault}
+use Rattle.flame_world.specs.declared.verdicts.Verdict.{Verdict}
 use Rattle.flame_popfile.specs.declared.faults.PopFault.{PopFault}
-use Rattle.flame_report.specs.FaultLines.{usage_line, file_line, name_line, check_line, depend_line, sim_line}
+use Rattle.flame_report.specs.FaultLines.{usage_line, file_line, name_line, check_line, depend_line, sim_line, trace_line}
 use Rattle.flame_report.specs.PopulationLines.{population_line}
 use Rattle.flame_top.specs.Standing.{IsLine}
 
@@ -46,3 +47,6 @@ population_is_line file fault = begun_is_line (codes "population: ") _ (ended_is
 
 pub sim_is_line : (model : Model) (fault : SimFault) → IsLine (sim_line model fault)
 sim_is_line model fault = begun_is_line (codes "fault: iteration ") _ (ended_is_line _)
+
+pub trace_is_line : (name : List ℕ) (verdict : Verdict) → IsLine (trace_line name verdict)
+trace_is_line name verdict = begun_is_line (codes "trace: ") _ (ended_is_line _)

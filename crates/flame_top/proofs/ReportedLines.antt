@@ -3,8 +3,9 @@ use Rattle.std.proofs.Common.{◌≡◌, ◌≢◌, ℕ, zero, suc, Bool, true, 
 use Rattle.std.specs.Prelude.{codes, nat_le}
 use Rattle.flame_outside.specs.Files.{Files}
 use Rattle.flame_words.specs.declared.orders.Order.{Order}
-use Rattle.flame_words.specs.declared.orders.Order.TheVariants.{Run, Check, Graph, Code, Trial, Migrate}
+use Rattle.flame_words.specs.declared.orders.Order.TheVariants.{Run, Check, Graph, Code, Trial, Migrate, Trace, Replay}
 use Rattle.flame_words.specs.declared.orders.RunOrder.{RunOrder}
+use Rattle.flame_words.specs.declared.orders.TraceOrder.{TraceOrder}
 use Rattle.flame_words.specs.declared.faults.Usage.{Usage}
 use Rattle.flame_words.specs.CommandLines.{order_of}
 use Rattle.flame_spec.specs.declared.models.Model.{Model}
@@ -15,6 +16,8 @@ use Rattle.flame_spec.specs.KnownNames.{is_among}
 use Rattle.flame_spec.specs.Lists.{first}
 use Rattle.flame_spec.specs.NameFaults.{name_faults}
 use Rattle.flame_world.specs.declared.faults.SimFault.{SimFault}
+use Rattle.flame_world.specs.declared.verdicts.Verdict.{Verdict}
+use Rattle.flame_world.specs.declared.verdicts.Verdict.TheVariants.{Yes, Form, OtherStart, Illegal, Incomplete, OtherEnd}
 use Rattle.flame_popfile.specs.declared.starts.Start.{Start}
 use Rattle.flame_popfile.specs.PopulationFaults.{population_faults}
 use Rattle.flame_popfile.specs.PopulationStarts.{start_of}
@@ -34,13 +37,16 @@ use Rattle.flame_load.specs.FunctionFileReads.{spelled_in, unit_in, units_in}
 use Rattle.flame_load.specs.LoadedSources.{depend_fault, checked_source, planned_source, sound_source, source_of, loading}
 use Rattle.flame_load.specs.StartReads.{of_file, of_population, population_limit, start_in, starting}
 use Rattle.flame_load.specs.TextReads.{Reader}
+use Rattle.flame_trace.specs.TraceVerdicts.{verdict}
 use Rattle.flame_driver.specs.Runs.{run}
 use Rattle.flame_top.specs.RefusalLines.{load_line, start_line, answer_told, file_fault_line}
 use Rattle.flame_top.specs.Reports.{Report, refusal, carried_out, printing, fault_text, fault_status, report_or, report_in}
+use Rattle.flame_top.specs.TraceReports.{Traced, events_line, trace_limit, next_turn, fault_of, traced_with, traced, replayed}
+use Rattle.flame_top.specs.OrderReports.{trace_read, trace_source, trace_reading, replay_start, replay_source, replay_reading}
 use Rattle.flame_top.specs.OrderReports.{source_read, start_read, ordered_run, run_reading, accepted_line, text_reading, migrated, migrate_source, migrate_reading, meadow_files, meadow_order, trial_of, order_reading, ordered, reading}
 use Rattle.flame_top.specs.Standing.{IsLine}
 use Rattle.flame_top.specs.TopLaws.{LinesAreTold}
-use Rattle.flame_top.proofs.ReportLines.{usage_is_line, file_is_line, check_is_line, depend_is_line, population_is_line, sim_is_line}
+use Rattle.flame_top.proofs.ReportLines.{usage_is_line, file_is_line, check_is_line, depend_is_line, population_is_line, sim_is_line, trace_is_line}
 use Rattle.flame_top.proofs.RefusedInputs.{files_is_line}
 
 -- ---- refusals
@@ -227,6 +233,14 @@ start_read_told told source turns name =
     (start_of source.model value)
     (population_is_line name)))
 
+-- ---- traces
+
+trace_read_told : (told : Files) (name : List ℕ) → RefusedBy IsLine (trace_read told name).answer
+trace_read_told told name =
+    refused_line (file_fault_line name) (input (λ (fault : FileFault). fault) name (file_in told trace_limit name)).answer
+    (refused_input (λ fault. IsLine (file_fault_line name fault)) (λ (fault : FileFault). fault) name
+    (file_in told trace_limit name) (fault_told name))
+
 -- ---- reports
 
 -- the report has a line exactly where its status is not 0
@@ -276,6 +290,19 @@ run_lined : (order : RunOrder) (source : Source) (start : Start) → HasItsLine 
 run_lined order source start =
     fault_lined (ordered_run order source start) source.model (run source order.how.fuel order.turns start).fault refl refl
 
+traced_lined : (model : Model) (out : List ℕ) (trace : Traced) (fault : Option SimFault) → HasItsLine (traced_with model out trace fault)
+traced_lined model out trace None = quiet_report (traced_with model out trace None) refl refl
+traced_lined model out trace (Some fault) =
+    line_report (traced_with model out trace (Some fault)) (λ same. omega (arith, same)) (sim_is_line model fault)
+
+replayed_lined : (name : List ℕ) (found : Verdict) → IsLined (replayed name found).answer
+replayed_lined name (Yes events) = quiet_report (carried_out (printing (events_line (codes "replayed") events))) refl refl
+replayed_lined name (Form line) = trace_is_line name (Form line)
+replayed_lined name (OtherStart line) = trace_is_line name (OtherStart line)
+replayed_lined name (Illegal line) = trace_is_line name (Illegal line)
+replayed_lined name (Incomplete line) = trace_is_line name (Incomplete line)
+replayed_lined name (OtherEnd line) = trace_is_line name (OtherEnd line)
+
 module _ (read : Reader) (told : Files) where
   run_reading_lined : (order : RunOrder) → IsLined (run_reading read told order).answer
   run_reading_lined order =
@@ -302,29 +329,52 @@ module _ (read : Reader) (told : Files) where
       (start_read_told told source 0 pop)
       (λ start. quiet_report (migrated out source start) refl refl))
 
+  trace_lined : (order : TraceOrder) (trace : Traced) → IsLined (trace_reading read told order trace).answer
+  trace_lined order trace =
+      lined_behind (source_read read told order.model) (λ source. trace_source told order source trace)
+      (source_read_told read told order.model)
+      (λ source.
+      lined_behind (start_read told source 1 order.pop) (λ start. known (traced order source start trace))
+      (start_read_told told source 1 order.pop)
+      (λ start. traced_lined source.model order.out trace (fault_of (next_turn order source start))))
+
+  replay_lined : (model pop name : List ℕ) → IsLined (replay_reading read told model pop name).answer
+  replay_lined model pop name =
+      lined_behind (source_read read told model) (λ source. replay_source told source pop name)
+      (source_read_told read told model)
+      (λ source.
+      lined_behind (start_read told source 1 pop) (λ start. replay_start told source start name)
+      (start_read_told told source 1 pop)
+      (λ start.
+      lined_behind (trace_read told name) (λ bytes. replayed name (verdict source start bytes))
+      (trace_read_told told name)
+      (λ bytes. replayed_lined name (verdict source start bytes))))
+
 trial_lined : (report : Report) → HasItsLine report → HasItsLine (trial_of report)
 trial_lined report is = record { quiet = is.quiet; line = is.line }
 
-order_lined : (read : Reader) (told : Files) (order : Order) → IsLined (order_reading read told order).answer
-order_lined read told (Run order) = run_reading_lined read told order
-order_lined read told (Check model) = text_lined read told model (λ source. accepted_line source.model)
-order_lined read told (Graph model) = text_lined read told model (λ source. graph_lines source.model)
-order_lined read told (Code model) = text_lined read told model code_lines
-order_lined read told (Trial order) =
+order_lined : (read : Reader) (told : Files) (order : Order) (trace : Traced) → IsLined (order_reading read told order trace).answer
+order_lined read told (Run order) trace = run_reading_lined read told order
+order_lined read told (Check model) trace = text_lined read told model (λ source. accepted_line source.model)
+order_lined read told (Graph model) trace = text_lined read told model (λ source. graph_lines source.model)
+order_lined read told (Code model) trace = text_lined read told model code_lines
+order_lined read told (Trial order) trace =
     let files = meadow_files order.seed order.size in
     let meadow = run_reading read files (meadow_order order) in
     trial_lined (report_in meadow) (lined_in meadow.answer (run_reading_lined read files (meadow_order order)))
-order_lined read told (Migrate model pop out) = migrate_lined read told model pop out
+order_lined read told (Migrate model pop out) trace = migrate_lined read told model pop out
+order_lined read told (Trace order) trace = trace_lined read told order trace
+order_lined read told (Replay model pop name) trace = replay_lined read told model pop name
 
-ordered_lined : (read : Reader) (told : Files) (order : Result Order Usage) → IsLined (ordered read told order).answer
-ordered_lined read told (Ok order) = order_lined read told order
-ordered_lined read told (Err usage) =
+ordered_lined : (read : Reader) (told : Files) (order : Result Order Usage) (trace : Traced) → IsLined (ordered read told order trace).answer
+ordered_lined read told (Ok order) trace = order_lined read told order trace
+ordered_lined read told (Err usage) trace =
     line_report (refusal (usage_line usage) 2) (λ same. omega (arith, same)) (usage_is_line usage)
 
 pub lines_are_told : LinesAreTold
 lines_are_told = record {
-  quiet = λ read words told.
-      (lined_in (reading read words told).answer (ordered_lined read told (order_of (map string_bytes words)))).quiet;
-  line = λ read words told.
-      (lined_in (reading read words told).answer (ordered_lined read told (order_of (map string_bytes words)))).line;
+  quiet = λ read words told trace.
+      (lined_in (reading read words told trace).answer (ordered_lined read told (order_of (map string_bytes words)) trace)).quiet;
+  line = λ read words told trace.
+      (lined_in (reading read words told trace).answer (ordered_lined read told (order_of (map string_bytes words)) trace)).line;
 }

@@ -1,5 +1,5 @@
 -- A trial whose inputs are read, or give nothing.
-use Rattle.std.proofs.Common.{◌≡◌, ℕ, List, [], Result, Ok, Err, refl, sym, ap, subst}
+use Rattle.std.proofs.Common.{◌≡◌, ℕ, List, Result, Ok, Err, refl, sym, ap, subst}
 use Rattle.flame_outside.specs.Devices.{SeenDepot, SeenSink}
 use Rattle.flame_outside.specs.Scripts.{Outside, outside}
 use Rattle.flame_outside.proofs.FrameLemmas.{reads_same}

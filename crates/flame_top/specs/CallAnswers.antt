@@ -1,16 +1,20 @@
 -- What `flame` promises: how much of the report was carried out, and why no more.
 use Rattle.std.specs.Prelude.{◌≡◌, ◌≢◌, ◌≤◌, ◌⊎◌, ◌++◌, ℕ, List, length, codes, Result, Ok, Err, Contains}
+use Rattle.flame_outside.specs.Files.{Files}
 use Rattle.flame_outside.specs.Devices.{SeenSink}
 use Rattle.flame_outside.specs.Printed.{Prints, PrintsFront}
 use Rattle.flame_outside.specs.Failures.{ReadFailed, PutFailed, WriteFailed}
 use Rattle.flame_outside.specs.Frames.{OnlyReads}
 use Rattle.flame_outside.specs.Scripts.{Act, puts, prints, Outside, HasDone, FailsAt}
 use Rattle.flame_words.specs.declared.orders.Order.{Order}
-use Rattle.flame_words.specs.declared.orders.Order.TheVariants.{Check, Graph, Code, Trial}
+use Rattle.flame_words.specs.declared.orders.Order.TheVariants.{Run, Check, Graph, Code, Trial, Trace, Replay}
 use Rattle.flame_words.specs.declared.faults.Usage.{Usage}
 use Rattle.flame_report.specs.FaultLines.{usage_line, read_fault_line, write_fault_line, output_fault_line}
-use Rattle.flame_load.specs.InputReads.{Reading}
+use Rattle.flame_load.specs.InputReads.{Reading, known}
+use Rattle.flame_load.specs.TextReads.{Reader}
+use Rattle.flame_top.specs.OrderReports.{ordered, trial_report, TracesWords}
 use Rattle.flame_top.specs.Reports.{Report, report_in}
+use Rattle.flame_top.specs.TraceReports.{Traced}
 
 -- the line for want of memory [own]
 abbrev pub no_memory_text : List ℕ
@@ -68,7 +72,24 @@ pub record CarriesOut
   -- with 6 the line names what the next act puts, or the output that it prints to
   pub write_fault : status ≡ 6 → FailsToWrite (report_in reading).acts done old new err err'
 
+-- what a call carries out whose words are read so, over these files: the report that they have with some text of a trace,
+-- which words that order a trace alone take up. Where they do and the file was put, the text is a trace of their inputs [own]
+pub record CarriesOutWords
+    (read : Reader) (told : Files) (words : Result Order Usage) (status files : ℕ)
+    (old new : Outside) (err err' : SeenSink) : Type 0 where
+  pub trace : Traced
+  pub tells : files ≢ 0 → TracesWords read told words trace
+  pub carries : CarriesOut (ordered read told words trace) status files old new err err'
+
 -- ---- whatever the devices tell
+
+-- what a call carries out whose words are read so and order a trial: its report, whatever the depot tells, since its inputs are
+-- its own [own]
+abbrev pub CarriesOutTrial :
+    Reader → Result Order Usage → ℕ → ℕ → Outside → Outside → SeenSink → SeenSink → Type 0
+CarriesOutTrial read (Ok (Trial order)) status files old new err err' =
+    CarriesOut (known (trial_report read order)) status files old new err err'
+CarriesOutTrial read words status files old new err err' = Unit {0}
 
 -- the words have a fault of usage [own]
 abbrev pub AreRefused : Result Order Usage → Type 0
@@ -80,11 +101,19 @@ abbrev pub OrdersTrial : Result Order Usage → Type 0
 OrdersTrial (Ok (Trial order)) = Unit {0}
 OrdersTrial answer = ⊥
 
--- the words order a text of a model, and no file [own]
+-- the words order iterations [own]
+abbrev pub OrdersIterations : Result Order Usage → Type 0
+OrdersIterations (Ok (Run order)) = Unit {0}
+OrdersIterations (Ok (Trial order)) = Unit {0}
+OrdersIterations (Ok (Trace order)) = Unit {0}
+OrdersIterations answer = ⊥
+
+-- the words order a text, of a model or of what is found of a trace, and no file [own]
 abbrev pub OrdersText : Result Order Usage → Type 0
 OrdersText (Ok (Check model)) = Unit {0}
 OrdersText (Ok (Graph model)) = Unit {0}
 OrdersText (Ok (Code model)) = Unit {0}
+OrdersText (Ok (Replay model pop trace)) = Unit {0}
 OrdersText answer = ⊥
 
 -- nothing was read, put or printed [own]
@@ -125,6 +154,8 @@ pub record HasCause (words : Result Order Usage) (status : ℕ) (old new : Outsi
   pub faulty : status ≡ 2 → AreRefused words
   -- and for them nothing else, but for want of memory
   pub refused : AreRefused words → (status ≡ 2) ⊎ (status ≡ 4)
+  -- 3 only for words that order iterations
+  pub fault : status ≡ 3 → OrdersIterations words
   -- 5 only where a read failed, and not for a trial, whose inputs are its own
   pub read : status ≡ 5 → ReadFailed old.depot new.depot
   pub trial : OrdersTrial words → status ≢ 5

@@ -1,5 +1,8 @@
 -- What the reading of an input answers: what it gives, or how the order ends.
 use Rattle.std.specs.Prelude.{◌≡◌, ℕ, List, Result, Ok, Err, Contains}
+use Rattle.flame_outside.specs.declared.depot.ReadFail.{ReadFail}
+use Rattle.flame_outside.specs.declared.depot.ReadFail.TheVariants as read
+use Rattle.flame_load.specs.declared.faults.FileFault.{FileFault}
 use Rattle.flame_load.specs.declared.faults.FileFault.TheVariants as file
 use Rattle.flame_load.specs.declared.faults.LoadFail.{LoadFail}
 use Rattle.flame_load.specs.declared.faults.LoadFail.TheVariants as load
@@ -54,7 +57,19 @@ IsLoadEnding root (load.RefusedModel fault model) (Refused line) = line ≡ mode
 IsLoadEnding root (load.ReadFault input) (ReadFault name) = name ≡ input
 IsLoadEnding root fail ending = ⊥
 
--- the same of the population in the file of this name [own]
+-- the ending has the line of a file of this name that is not as it is wanted; or there was no memory for it [own]
+abbrev pub IsFileEnding : List ℕ → FileFault → Ending → Type 0
+IsFileEnding name fault NoMemory = Unit {0}
+IsFileEnding name fault (Refused line) = line ≡ file_fault_line name fault
+IsFileEnding name fault ending = ⊥
+
+-- the ending names the file of this name that could not be read; or there was no memory [own]
+abbrev pub IsReadEnding : List ℕ → ReadFail → Ending → Type 0
+IsReadEnding name fail NoMemory = Unit {0}
+IsReadEnding name read.Failed (ReadFault input) = input ≡ name
+IsReadEnding name fail ending = ⊥
+
+-- the ending has the line of what failed in reading the population in the file of this name, or names it [own]
 abbrev pub IsStartEnding : List ℕ → StartFail → Ending → Type 0
 IsStartEnding name fail NoMemory = Unit {0}
 IsStartEnding name start.Missing (Refused line) = line ≡ file_fault_line name file.Missing

@@ -5,6 +5,7 @@
 pub mod CallAnswers
 pub mod OrderReports
 pub mod Reports
+pub mod TraceReports
 pub mod RefusalLines
 pub mod TopLaws
 pub mod RestartedFiles
@@ -17,4 +18,5 @@ pub mod Printing
 pub mod RunEndings
 pub mod Standing
 pub mod Telling
+pub mod TraceAnswers
 pub mod TrialAnswers

@@ -76,6 +76,11 @@ IsOfInput (Refused line) = Unit {0}
 IsOfInput (ReadFault name) = Unit {0}
 IsOfInput ending = ⊥
 
+-- the ending is the fault of an iteration [own]
+abbrev pub IsFaulted : Ending → Type 0
+IsFaulted (Faulted line) = Unit {0}
+IsFaulted ending = ⊥
+
 -- the bytes are a line with its line feed [own]
 abbrev pub IsLine : List ℕ → Type 0
 IsLine bytes = (line : List ℕ) × (bytes ≡ line ++ codes "\n")

@@ -1,5 +1,7 @@
 -- What holds of all reports, and of what is carried out of them. [own]
-use Rattle.std.specs.Prelude.{◌≡◌, ◌≢◌, ◌≤◌, ◌⊎◌, ℕ, List, [], ◌++◌, codes, take, length, slice_get, Option, Some, Ok, String}
+use Rattle.std.specs.Prelude.{◌≡◌, ◌≢◌, ◌≤◌, ◌⊎◌, ℕ, List, [], ◌++◌, map, codes, take, length, slice_get, Option, Some}
+use Rattle.std.specs.Prelude.{Result, Ok, String, string_bytes}
+use Rattle.std.specs.FinMap.{get}
 use Rattle.std.specs.declared.alloc.Global.{Global}
 use Rattle.flame_outside.specs.Files.{Files, told_at}
 use Rattle.flame_outside.specs.Devices.{SeenSink}
@@ -7,11 +9,15 @@ use Rattle.flame_outside.specs.Printed.{Prints, PrintsFront}
 use Rattle.flame_outside.specs.Failures.{PutFailed, WriteFailed}
 use Rattle.flame_outside.specs.Scripts.{Outside}
 use Rattle.flame_outside.specs.WhatIsTold.{files_by, printed_by, with_files}
-use Rattle.flame_words.specs.declared.orders.Order.TheVariants.{Run, Trial}
+use Rattle.flame_words.specs.declared.orders.Order.{Order}
+use Rattle.flame_words.specs.declared.orders.Order.TheVariants.{Run, Trial, Trace}
 use Rattle.flame_words.specs.declared.orders.RunOrder.{RunOrder}
+use Rattle.flame_words.specs.declared.orders.TraceOrder.{TraceOrder}
 use Rattle.flame_words.specs.declared.orders.TrialOrder.{TrialOrder}
 use Rattle.flame_words.specs.declared.orders.How.{How}
 use Rattle.flame_words.specs.declared.orders.Way.{Way}
+use Rattle.flame_words.specs.declared.faults.Usage.{Usage}
+use Rattle.flame_words.specs.CommandLines.{order_of}
 use Rattle.flame_spec.specs.declared.outcomes.Source.{Source}
 use Rattle.flame_popfile.specs.declared.starts.Start.{Start}
 use Rattle.flame_load.specs.TextReads.{Reader}
@@ -19,8 +25,10 @@ use Rattle.flame_report.specs.FaultLines.{write_fault_line, output_fault_line}
 use Rattle.flame_driver.specs.Runs.{Stage, run}
 use Rattle.flame_driver.specs.LineLaws.{lines_of, PrintsLines}
 use Rattle.flame_top.specs.CallAnswers.{Tells, NothingFailed, CarriesOut}
-use Rattle.flame_top.specs.Reports.{Report}
-use Rattle.flame_top.specs.OrderReports.{order_reading, ordered_run, run_reading, trial_report, reading, report}
+use Rattle.flame_top.specs.Reports.{Report, carried_out, printing}
+use Rattle.flame_top.specs.TraceReports.{Traced, IsTraceOf, trace_limit, events_line}
+use Rattle.flame_top.specs.OrderReports.{source_read, start_read, ordered_run, run_reading, trial_report, replay_reading}
+use Rattle.flame_top.specs.OrderReports.{order_reading, reading, report}
 
 -- ---- what a call leaves
 
@@ -48,17 +56,17 @@ pub record IsCarriedOutInPart (report : Report) (files : ℕ) (old new : Outside
 -- where nothing fails and there is memory, a call does what its report says; and in any case a first part of it
 pub record CallsCarryOut : Type 0 where
   pub whole :
-      (read : Reader) (words : List (String Global)) (told : Files)
+      (read : Reader) (words : List (String Global)) (told : Files) (trace : Traced)
       (status files : ℕ) (old new : Outside) (err err' : SeenSink)
-      → CarriesOut (reading read words told) status files old new err err'
+      → CarriesOut (reading read words told trace) status files old new err err'
       → NothingFailed old new
       → status ≢ 4
-      → IsCarriedOut (report read words told) status files old new err err'
+      → IsCarriedOut (report read words told trace) status files old new err err'
   pub first :
-      (read : Reader) (words : List (String Global)) (told : Files)
+      (read : Reader) (words : List (String Global)) (told : Files) (trace : Traced)
       (status files : ℕ) (old new : Outside) (err err' : SeenSink)
-      → CarriesOut (reading read words told) status files old new err err'
-      → IsCarriedOutInPart (report read words told) files old new
+      → CarriesOut (reading read words told trace) status files old new err err'
+      → IsCarriedOutInPart (report read words told trace) files old new
 
 -- ---- workers
 
@@ -66,22 +74,51 @@ pub record CallsCarryOut : Type 0 where
 abbrev pub how_by : ℕ → Way → Option (List ℕ) → How → How
 how_by workers way variable how = record how { workers = workers; way = way; by = variable }
 
--- orders that differ in workers, way and variable alone have one report
+-- orders of runs, and of trials, that differ in workers, way and variable alone have one report
 pub record OneReportForAllWays : Type 0 where
   pub run :
-      (read : Reader) (told : Files) (order : RunOrder) (workers : ℕ) (way : Way) (variable : Option (List ℕ))
-      → order_reading read told (Run (record order { how = how_by workers way variable order.how }))
-      ≡ order_reading read told (Run order)
+      (read : Reader) (told : Files) (order : RunOrder) (workers : ℕ) (way : Way) (variable : Option (List ℕ)) (trace : Traced)
+      → order_reading read told (Run (record order { how = how_by workers way variable order.how })) trace
+      ≡ order_reading read told (Run order) trace
   pub trial :
-      (read : Reader) (told : Files) (order : TrialOrder) (workers : ℕ) (way : Way) (variable : Option (List ℕ))
-      → order_reading read told (Trial (record order { how = how_by workers way variable order.how }))
-      ≡ order_reading read told (Trial order)
+      (read : Reader) (told : Files) (order : TrialOrder) (workers : ℕ) (way : Way) (variable : Option (List ℕ)) (trace : Traced)
+      → order_reading read told (Trial (record order { how = how_by workers way variable order.how })) trace
+      ≡ order_reading read told (Trial order) trace
+
+-- ---- traces
+
+-- the words order a trace
+abbrev pub OrdersTrace : Result Order Usage → Type 0
+OrdersTrace (Ok (Trace order)) = Unit {0}
+OrdersTrace answer = ⊥
+
+-- words that do not order a trace have one report, whatever text is given
+abbrev pub OneReportWithoutTraces : Type 0
+OneReportWithoutTraces =
+    (read : Reader) (words : List (String Global)) (told : Files) (trace other : Traced)
+    → ¬ OrdersTrace (order_of (map string_bytes words))
+    → reading read words told trace ≡ reading read words told other
+
+-- where the inputs of a trace are read, and its text stands in some file beside them, of at most as many bytes as a trace may
+-- have, `replay` of that file has the report with status 0, which prints how many events there are
+abbrev pub TracesAreReplayed : Type 0
+TracesAreReplayed =
+    (read : Reader) (told : Files) (order : TraceOrder) (source : Source) (start : Start) (trace : Traced) (name : List ℕ)
+    → (source_read read told order.model).answer ≡ Ok source
+    → (start_read told source 1 order.pop).answer ≡ Ok start
+    → IsTraceOf order source start trace
+    → get told name ≡ Some trace.bytes
+    → length trace.bytes ≤ trace_limit
+    → (replay_reading read told order.model order.pop name).answer
+    ≡ Ok (carried_out (printing (events_line (codes "replayed") trace.events)))
 
 -- ---- statuses and trials
 
 -- no report has a status above 3
 abbrev pub StatusesAreFew : Type 0
-StatusesAreFew = (read : Reader) (words : List (String Global)) (told : Files) → (report read words told).status ≤ 3
+StatusesAreFew =
+    (read : Reader) (words : List (String Global)) (told : Files) (trace : Traced)
+    → (report read words told trace).status ≤ 3
 
 -- a trial puts no file
 abbrev pub TrialsPutNothing : Type 0
@@ -92,13 +129,13 @@ TrialsPutNothing = (read : Reader) (order : TrialOrder) → files_by (trial_repo
 -- a report with status 0 tells err nothing, and any other one a line that ends with its line feed
 pub record LinesAreTold : Type 0 where
   pub quiet :
-      (read : Reader) (words : List (String Global)) (told : Files)
-      → (report read words told).status ≡ 0
-      → (report read words told).error ≡ []
+      (read : Reader) (words : List (String Global)) (told : Files) (trace : Traced)
+      → (report read words told trace).status ≡ 0
+      → (report read words told trace).error ≡ []
   pub line :
-      (read : Reader) (words : List (String Global)) (told : Files)
-      → (report read words told).status ≢ 0
-      → (text : List ℕ) × ((report read words told).error ≡ text ++ codes "\n")
+      (read : Reader) (words : List (String Global)) (told : Files) (trace : Traced)
+      → (report read words told trace).status ≢ 0
+      → (text : List ℕ) × ((report read words told trace).error ≡ text ++ codes "\n")
 
 -- ---- lines of runs
 

@@ -50,6 +50,7 @@ pub(crate) fn start_in<D: Depot>(
     ensures gives { (told : Files) → (D.seen depot.old).files ≡ Some told
         → Gives (λ start. start) result (start_read told program.now turns name.now) }
     ensures fits { IfOk result (λ start. FitsModel program.now.model start.world) }
+    ensures first { IfOk result (λ start. pos 0 ≤ℤ start.itno) }
     ensures last { IfOk result (λ start. (start.itno +ℤ pos turns) ≤ℤ pos 2147483647) }
     ensures stops { IfErr result StopsReading }
     ensures read_fault { IfErr result (λ ending. IsReadFault ending

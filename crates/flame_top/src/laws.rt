@@ -1,6 +1,6 @@
 //! Laws of reports, and of what is carried out of them. Each function is its contract: it computes nothing.
 
-ghost use Rattle.flame_top.specs.TopLaws.{CallsCarryOut, OneReportForAllWays, StatusesAreFew, TrialsPutNothing, LinesAreTold, LinesOfRuns};
+ghost use Rattle.flame_top.specs.TopLaws.{CallsCarryOut, OneReportForAllWays, OneReportWithoutTraces, TracesAreReplayed, StatusesAreFew, TrialsPutNothing, LinesAreTold, LinesOfRuns};
 ghost use Rattle.flame_top.specs.RestartedFiles.{RunsRestartFromFiles, RunsRestartFromOwnFiles};
 
 use flame_driver::laws::{iterated_runs, lines_behind_files, restarted_runs, written_stages};
@@ -16,9 +16,21 @@ pub fn carried_reports()
     told_scripts();
 }
 
-/// Orders that differ in the number of workers and in how they share the work have one report.
+/// Orders of runs that differ in the number of workers and in how they share the work have one report, and so have orders of
+/// trials.
 pub fn one_report_for_all_ways()
     ensures { OneReportForAllWays }
+{}
+
+/// Words that do not order a trace have one report, whatever text of a trace is given.
+pub fn one_report_without_traces()
+    ensures { OneReportWithoutTraces }
+{}
+
+/// Where the inputs of a trace are read, and its text stands in some file beside them, of at most 67,108,864 bytes, `replay` of
+/// that file prints how many events it has.
+pub fn traces_are_replayed()
+    ensures { TracesAreReplayed }
 {}
 
 /// No report has a status above 3: those are of devices and memory.

@@ -2,15 +2,18 @@
 #![tactic(auto)]
 
 mod ending;
+mod files;
 mod inputs;
 pub mod laws;
 mod migrations;
 mod orders;
 mod refusals;
+mod replays;
 mod runs;
 mod tell;
 mod texts;
 mod top;
+mod traces;
 mod trials;
 
 pub use top::{Ended, flame};

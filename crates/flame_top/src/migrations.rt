@@ -11,15 +11,16 @@ ghost use Rattle.flame_load.specs.TextReads.{Reader, ReadsTexts};
 ghost use Rattle.flame_top.specs.OrderReports.{no_boards, migrated_line, migrated, migrate_source, migrate_reading};
 ghost use Rattle.flame_top.specs.InputAnswers.{IsReadFault};
 ghost use Rattle.flame_top.specs.Printing.{StopsPrint, StopsPut};
-ghost use Rattle.flame_top.specs.Standing.{Stands, Carries, Keeps};
+ghost use Rattle.flame_top.specs.Standing.{Stands, Carries, Keeps, IsFaulted};
 
 use crate::ending::{Carried, Ending};
+use crate::files::put_file;
 use crate::inputs::{program_in, start_in};
 use crate::texts::print_text;
-use flame_outside::{Depot, PutFail, Sink};
+use flame_outside::{Depot, Sink};
 use flame_popfile::{Format, Start, text};
 use flame_program::Program;
-use flame_rows::{Bag, Blob, NoMemory, Seq, Text};
+use flame_rows::{Bag, Blob, NoMemory, Seq};
 use flame_spec::Model;
 use flame_world::{Boards, World};
 use itoa::Buffer;
@@ -81,7 +82,6 @@ fn put_population<D: Depot>(
     ensures others { OthersStay name.now (D.seen depot.old).files (D.seen depot.new).files }
     ensures puts { OnlyPuts (D.seen depot.old) (D.seen depot.new) }
 {
-    let file = Text::of(alloc, name)?;
     let boards = no_boards(alloc, &program.source().model)?;
     let bytes = text(
         alloc,
@@ -91,11 +91,7 @@ fn put_population<D: Depot>(
         &start.world,
         &boards,
     )?;
-    match depot.put(name, bytes.bytes()) {
-        Ok(()) => Ok(()),
-        Err(PutFail::Failed) => Err(Ending::FileFault(file)),
-        Err(PutFail::NoMemory) => Err(Ending::NoMemory),
-    }
+    put_file(alloc, name, bytes.bytes(), depot)
 }
 
 /// Prints the line of `migrate`.
@@ -121,6 +117,7 @@ fn write_population<D: Depot, S: Sink>(
         (outside (D.seen depot.old) (S.seen out.old)) (outside (D.seen depot.new) (S.seen out.new)) }
     ensures keeps { Keeps result.ending result.files
         (outside (D.seen depot.old) (S.seen out.old)) (outside (D.seen depot.new) (S.seen out.new)) }
+    ensures faultless { ¬ IsFaulted result.ending }
     ensures read { ¬ IsReadFault result.ending }
 {
     if let Err(ending) = put_population(alloc, program, start, to, depot) {
@@ -149,6 +146,7 @@ fn migrate_program<D: Depot, S: Sink>(
         (outside (D.seen depot.old) (S.seen out.old)) (outside (D.seen depot.new) (S.seen out.new)) }
     ensures keeps { Keeps result.ending result.files
         (outside (D.seen depot.old) (S.seen out.old)) (outside (D.seen depot.new) (S.seen out.new)) }
+    ensures faultless { ¬ IsFaulted result.ending }
 {
     match start_in(alloc, depot, pop, program, 0) {
         Ok(start) => write_population(alloc, program, &start, to, depot, out),
@@ -170,6 +168,7 @@ pub(crate) fn carry_migrate<D: Depot, S: Sink>(
         (outside (D.seen depot.old) (S.seen out.old)) (outside (D.seen depot.new) (S.seen out.new)) }
     ensures keeps { Keeps result.ending result.files
         (outside (D.seen depot.old) (S.seen out.old)) (outside (D.seen depot.new) (S.seen out.new)) }
+    ensures faultless { ¬ IsFaulted result.ending }
 {
     match program_in(alloc, depot, model) {
         Ok(program) => migrate_program(alloc, &program, pop, to, depot, out),

@@ -4,16 +4,19 @@ ghost use Rattle.std.specs.Prelude.{◌≡◌, Some, Ok, map, string_bytes};
 ghost use Rattle.flame_outside.specs.Files.{Files};
 ghost use Rattle.flame_outside.specs.Scripts.{outside};
 ghost use Rattle.flame_words.specs.CommandLines.{order_of};
+ghost use Rattle.flame_words.specs.OrderLimits.{IsWithin};
 ghost use Rattle.flame_load.specs.TextReads.{Reader, ReadsTexts};
-ghost use Rattle.flame_top.specs.CallAnswers.{OrdersTrial, OrdersText, PutsNothing};
-ghost use Rattle.flame_top.specs.OrderReports.{order_reading, reading};
-ghost use Rattle.flame_top.specs.Ordering.{IsUsageEnding, IsApartBy, KeepsOrder};
-ghost use Rattle.flame_top.specs.Standing.{Carries, Keeps};
+ghost use Rattle.flame_top.specs.CallAnswers.{OrdersTrial, OrdersIterations, OrdersText, PutsNothing};
+ghost use Rattle.flame_top.specs.Ordering.{IsUsageEnding, IsApartBy, CarriesTrial, KeepsOrder};
+ghost use Rattle.flame_top.specs.Standing.{Keeps, IsFaulted};
+ghost use Rattle.flame_top.specs.TraceAnswers.{CarriesOrder, CarriesWords};
 
 use crate::ending::{Carried, Ending};
 use crate::migrations::carry_migrate;
+use crate::replays::carry_replay;
 use crate::runs::carry_run;
 use crate::texts::{TextOf, carry_text};
+use crate::traces::carry_trace;
 use crate::trials::carry_trial;
 use flame_outside::{Depot, Gate, Sink};
 use flame_report::usage_text;
@@ -42,11 +45,16 @@ fn carry_order<Rt: Threads + Wait + Sync, D: Depot, S: Sink, G: Gate>(
     depot: &mut D,
     out: &mut S,
 ) -> Carried
+    requires within { IsWithin order.now }
     ensures carries { (told : Files) (read : Reader) → (D.seen depot.old).files ≡ Some told → ReadsTexts read
-        → Carries (order_reading read told order.now) result.ending result.files
+        → CarriesOrder read told order.now result.ending result.files
         (outside (D.seen depot.old) (S.seen out.old)) (outside (D.seen depot.new) (S.seen out.new)) }
     ensures keeps { Keeps result.ending result.files
         (outside (D.seen depot.old) (S.seen out.old)) (outside (D.seen depot.new) (S.seen out.new)) }
+    ensures carries_trial { (read : Reader) → ReadsTexts read
+        → CarriesTrial read (Ok order.now) result.ending result.files
+        (outside (D.seen depot.old) (S.seen out.old)) (outside (D.seen depot.new) (S.seen out.new)) }
+    ensures faulted { IsFaulted result.ending → OrdersIterations (Ok order.now) }
     ensures trial { OrdersTrial (Ok order.now) → IsApartBy result.ending result.files
         (outside (D.seen depot.old) (S.seen out.old)) (outside (D.seen depot.new) (S.seen out.new)) }
     ensures text { OrdersText (Ok order.now) → PutsNothing result.files
@@ -66,6 +74,15 @@ fn carry_order<Rt: Threads + Wait + Sync, D: Depot, S: Sink, G: Gate>(
             depot,
             out,
         ),
+        Order::Trace(order) => carry_trace(rt, alloc, gate, order, depot, out),
+        Order::Replay(model, pop, name) => carry_replay(
+            alloc,
+            model.as_str(),
+            pop.as_str(),
+            name.as_str(),
+            depot,
+            out,
+        ),
     }
 }
 
@@ -79,7 +96,10 @@ pub(crate) fn carry<Rt: Threads + Wait + Sync, D: Depot, S: Sink, G: Gate>(
     out: &mut S,
 ) -> Carried
     ensures carries { (told : Files) (read : Reader) → (D.seen depot.old).files ≡ Some told → ReadsTexts read
-        → Carries (reading read words.now told) result.ending result.files
+        → CarriesWords read told (order_of (map string_bytes words.now)) result.ending result.files
+        (outside (D.seen depot.old) (S.seen out.old)) (outside (D.seen depot.new) (S.seen out.new)) }
+    ensures carries_trial { (read : Reader) → ReadsTexts read
+        → CarriesTrial read (order_of (map string_bytes words.now)) result.ending result.files
         (outside (D.seen depot.old) (S.seen out.old)) (outside (D.seen depot.new) (S.seen out.new)) }
     ensures keeps { KeepsOrder (order_of (map string_bytes words.now)) result.ending result.files
         (outside (D.seen depot.old) (S.seen out.old)) (outside (D.seen depot.new) (S.seen out.new)) }

@@ -3,10 +3,10 @@
 ghost use Rattle.std.specs.Prelude.{◌≡◌, IfOk};
 ghost use Rattle.flame_load.specs.LoadAnswers.{IsTold, TellsOf, TellsOfNone};
 ghost use Rattle.flame_top.specs.RefusalLines.{files_line, model_line};
-ghost use Rattle.flame_top.specs.InputAnswers.{IsLoadEnding, IsStartEnding, StopsReading, line_ending};
+ghost use Rattle.flame_top.specs.InputAnswers.{IsLoadEnding, IsStartEnding, IsFileEnding, StopsReading, line_ending};
 
 use crate::ending::Ending;
-use flame_load::{LoadFail, LoadFault, StartFail};
+use flame_load::{FileFault, LoadFail, LoadFault, StartFail};
 use flame_report::{
     check_text, depend_text, file_text, lex_text, name_text, nest_text, parse_text, pop_text,
     shape_text,
@@ -47,7 +47,7 @@ fn model_text(alloc: Global, model: &Model, fault: &LoadFault) -> Result<Blob, N
 }
 
 /// The ending by this line, or by want of memory for it.
-fn refused(line: Result<Blob, NoMemory>) -> Ending
+pub(crate) fn refused(line: Result<Blob, NoMemory>) -> Ending
     ensures { result ≡ line_ending line }
 {
     match line {
@@ -67,6 +67,18 @@ pub(crate) fn load_ending(alloc: Global, root: &str, fail: LoadFail) -> Ending
         LoadFail::RefusedModel(fault, model) => refused(model_text(alloc, &model, &fault)),
         LoadFail::ReadFault(name) => Ending::ReadFault(name),
         LoadFail::NoMemory => Ending::NoMemory,
+    }
+}
+
+/// How an order ends where the file of this name is not as it is wanted.
+pub(crate) fn file_ending(alloc: Global, name: &str, fault: FileFault) -> Ending
+    ensures ending { IsFileEnding name.now fault result }
+    ensures line { StopsReading result }
+{
+    match fault {
+        FileFault::Missing => refused(file_text(alloc, "missing", name)),
+        FileFault::TooLarge => refused(file_text(alloc, "too large", name)),
+        FileFault::NotJson => refused(file_text(alloc, "not JSON", name)),
     }
 }
 

@@ -9,7 +9,7 @@ ghost use Rattle.flame_spec.specs.Counted.{is_counted};
 ghost use Rattle.flame_report.specs.GraphTexts.{graph_lines};
 ghost use Rattle.flame_load.specs.TextReads.{Reader, ReadsTexts};
 ghost use Rattle.flame_top.specs.OrderReports.{accepted_line, text_reading};
-ghost use Rattle.flame_top.specs.Standing.{Carries, Keeps};
+ghost use Rattle.flame_top.specs.Standing.{Carries, Keeps, IsFaulted};
 ghost use Rattle.flame_top.specs.ModelTexts.{text_as};
 ghost use Rattle.flame_top.specs.Printing.{StopsPrint, EndsPrint};
 
@@ -117,6 +117,7 @@ pub(crate) fn carry_text<D: Depot, S: Sink>(
         (outside (D.seen depot.old) (S.seen out.old)) (outside (D.seen depot.new) (S.seen out.new)) }
     ensures keeps { Keeps result.ending result.files
         (outside (D.seen depot.old) (S.seen out.old)) (outside (D.seen depot.new) (S.seen out.new)) }
+    ensures faultless { ¬ IsFaulted result.ending }
     ensures files { result.files ≡ 0 }
     ensures reads { OnlyReads (D.seen depot.old) (D.seen depot.new) }
 {

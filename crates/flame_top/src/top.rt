@@ -7,8 +7,7 @@ ghost use Rattle.flame_outside.specs.Failures.{PutFailed, WriteFailed};
 ghost use Rattle.flame_outside.specs.Scripts.{outside, GoesOn};
 ghost use Rattle.flame_words.specs.CommandLines.{order_of};
 ghost use Rattle.flame_load.specs.TextReads.{Reader, ReadsTexts};
-ghost use Rattle.flame_top.specs.OrderReports.{reading};
-ghost use Rattle.flame_top.specs.CallAnswers.{CarriesOut, HasCause, TellsStatus, Leaves};
+ghost use Rattle.flame_top.specs.CallAnswers.{CarriesOutWords, CarriesOutTrial, HasCause, TellsStatus, Leaves};
 
 use crate::orders::carry;
 use crate::tell::tell;
@@ -43,6 +42,11 @@ pub struct Ended {
 ///   faults, `bytes T`: how many bytes its files have together.
 /// - `migrate MODEL POP OUT` puts the population as the file OUT, in format 2 and with empty boards, and then prints
 ///   `migrated agents A`.
+/// - `trace MODEL POP OUT [--workers W] [--fuel F]` runs the iteration that comes next from the population, by flow, and
+///   puts its trace as the file OUT: the events of its workers and what they came to, of which the verdict is Yes. Then it
+///   prints `traced E events`; where the iteration faults, its fault is told instead.
+/// - `replay MODEL POP TRACE` prints `replayed E events` where the verdict on the trace in the file TRACE is Yes; each other
+///   verdict refuses it.
 ///
 /// W is how many workers there are, 1 to 64; F is how many turns of loops and calls of helpers each call of a
 /// function may take, 0 to 1,000,000,000. Without an option it is `--workers 1`, `--fuel 1000000`, `--sync layers`
@@ -53,8 +57,8 @@ pub struct Ended {
 /// has a variable VARIABLE that is no array, in ranges of it.
 ///
 /// All inputs are read before anything is put or printed: the model file MODEL and those nested in it, at most 64,
-/// then their function files, each of at most 4,194,304 bytes, and then POP, of at most 67,108,864. A run whose last
-/// iteration would have a number above 2147483647 is refused.
+/// then their function files, each of at most 4,194,304 bytes, then POP and then TRACE, each of at most 67,108,864. A run
+/// whose last iteration would have a number above 2147483647 is refused, and so are a trace and a replay of such an iteration.
 ///
 /// On each status but 0 one line goes to `err`, by one write: the first fault of the words, the first refusal of an
 /// input, the fault of the iteration, `no memory`, or the input or the output that failed. Where memory is not found
@@ -71,11 +75,15 @@ pub fn flame<Rt: Threads + Wait + Sync, D: Depot, S: Sink, G: Gate>(
 ) -> Ended
     // Where the depot tells its files, with each reader that reads texts as they are read.
     ensures carries { (told : Files) (read : Reader) → (D.seen depot.old).files ≡ Some told → ReadsTexts read
-        → CarriesOut (reading read words.now told) result.status result.files
+        → CarriesOutWords read told (order_of (map string_bytes words.now)) result.status result.files
         (outside (D.seen depot.old) (S.seen out.old)) (outside (D.seen depot.new) (S.seen out.new))
         (S.seen err.old) (S.seen err.new) }
 
     // Whatever the devices tell.
+    ensures trial { (read : Reader) → ReadsTexts read
+        → CarriesOutTrial read (order_of (map string_bytes words.now)) result.status result.files
+        (outside (D.seen depot.old) (S.seen out.old)) (outside (D.seen depot.new) (S.seen out.new))
+        (S.seen err.old) (S.seen err.new) }
     ensures causes { HasCause (order_of (map string_bytes words.now)) result.status
         (outside (D.seen depot.old) (S.seen out.old)) (outside (D.seen depot.new) (S.seen out.new)) }
     ensures tells { TellsStatus (order_of (map string_bytes words.now)) result.status (S.seen err.old) (S.seen err.new) }

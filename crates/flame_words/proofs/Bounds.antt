@@ -10,7 +10,7 @@ use Rattle.flame_rows.proofs.Lists.{append-is_nil}
 use Rattle.flame_rows.proofs.Truths.{option_map-none}
 use Rattle.flame_words.specs.declared.orders.Order.{Order}
 use Rattle.flame_words.specs.declared.table.Command.{Command}
-use Rattle.flame_words.specs.declared.table.Command.TheVariants.{Run, Check, Graph, Code, Trial, Migrate}
+use Rattle.flame_words.specs.declared.table.Command.TheVariants.{Run, Check, Graph, Code, Trial, Migrate, Trace, Replay}
 use Rattle.flame_words.specs.declared.table.Place.{Place}
 use Rattle.flame_words.specs.declared.table.Place.TheVariants.{Turns, Seed, Size, TrialTurns}
 use Rattle.flame_words.specs.declared.table.Flag.TheVariants.{Workers, Fuel, Format}
@@ -84,6 +84,10 @@ order_within Check words givens suit enough given = tt
 order_within Graph words givens suit enough given = tt
 order_within Code words givens suit enough given = tt
 order_within Migrate words givens suit enough given = tt
+order_within Replay words givens suit enough given = tt
+order_within Trace words givens suit enough given =
+    let how = how_within Trace givens refl refl given in
+    record { some_worker = how.some_worker; few_workers = how.few_workers; fuel = how.fuel }
 order_within Trial words givens suit enough given =
     record {
       seed = place_within Trial words 0 4294967295 Seed suit refl refl (omega arith);

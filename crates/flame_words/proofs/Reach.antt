@@ -5,7 +5,7 @@ use Rattle.std.proofs.Common.{length-append}
 use Rattle.std.specs.Option.{option_map, option_to_list}
 use Rattle.std.proofs.lemmas.List.{append-nil, length-map}
 use Rattle.flame_words.specs.declared.table.Command.{Command}
-use Rattle.flame_words.specs.declared.table.Command.TheVariants.{Run, Check, Graph, Code, Trial, Migrate}
+use Rattle.flame_words.specs.declared.table.Command.TheVariants.{Run, Check, Graph, Code, Trial, Migrate, Trace, Replay}
 use Rattle.flame_words.specs.CommandTable.{flag_name, options, places}
 use Rattle.flame_words.specs.WordRoles.{roles}
 use Rattle.flame_words.specs.WordRoles.{options_among, positionals_among}
@@ -40,6 +40,8 @@ table_size Graph = omega arith
 table_size Code = omega arith
 table_size Trial = omega arith
 table_size Migrate = omega arith
+table_size Trace = omega arith
+table_size Replay = omega arith
 
 -- words that were read without a fault are few
 pub few_read :

@@ -7,7 +7,7 @@ use Rattle.std.specs.Str.{bytes_eq}
 use Rattle.std.proofs.lemmas.Bool.{and_parts, leb-true, cases_Bool}
 use Rattle.std.proofs.lemmas.Slice.Eq.{bytes_eq-Decides}
 use Rattle.flame_words.specs.declared.table.Command.{Command}
-use Rattle.flame_words.specs.declared.table.Command.TheVariants.{Run, Trial}
+use Rattle.flame_words.specs.declared.table.Command.TheVariants.{Run, Trial, Trace}
 use Rattle.flame_words.specs.declared.table.Place.{Place}
 use Rattle.flame_words.specs.declared.table.Place.TheVariants.{Turns, Seed, Size, TrialTurns}
 use Rattle.flame_words.specs.declared.table.Flag.{Flag}
@@ -126,6 +126,16 @@ trial_options seen complete trial = record {
   fuel =
       option_suits seen.command seen.givens Fuel complete.givens_suit
       (ap (λ command. flag_of command (flag_name Fuel)) trial);
+}
+
+pub trace_options : (seen : Seen) → IsComplete seen → seen.command ≡ Trace → NumbersSuit seen.givens
+trace_options seen complete trace = record {
+  workers =
+      option_suits seen.command seen.givens Workers complete.givens_suit
+      (ap (λ command. flag_of command (flag_name Workers)) trace);
+  fuel =
+      option_suits seen.command seen.givens Fuel complete.givens_suit
+      (ap (λ command. flag_of command (flag_name Fuel)) trace);
 }
 
 -- the options whose values are numbers

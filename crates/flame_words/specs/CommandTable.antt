@@ -3,9 +3,9 @@ use Rattle.std.specs.Prelude.{ℕ, List, [], ◌∷◌, codes, Bool, Option, Som
 use Rattle.std.specs.List.{find, list_any}
 use Rattle.std.specs.Str.{bytes_eq}
 use Rattle.flame_words.specs.declared.table.Command.{Command}
-use Rattle.flame_words.specs.declared.table.Command.TheVariants.{Run, Check, Graph, Code, Trial, Migrate}
+use Rattle.flame_words.specs.declared.table.Command.TheVariants.{Run, Check, Graph, Code, Trial, Migrate, Trace, Replay}
 use Rattle.flame_words.specs.declared.table.Place.{Place}
-use Rattle.flame_words.specs.declared.table.Place.TheVariants.{Model, Population, Out, Turns, Seed, Size, TrialTurns}
+use Rattle.flame_words.specs.declared.table.Place.TheVariants.{Model, Population, Out, Turns, Seed, Size, TrialTurns, Trace as Traced}
 use Rattle.flame_words.specs.declared.table.Flag.{Flag}
 use Rattle.flame_words.specs.declared.table.Flag.TheVariants.{Workers, Fuel, Sync, By, Format}
 use Rattle.flame_words.specs.declared.table.Choice.{Choice}
@@ -15,7 +15,7 @@ use Rattle.flame_words.specs.declared.table.Takes.TheVariants.{Text, Number, One
 
 -- the commands, in the order of their table [own]
 abbrev pub commands : List Command
-commands = Run ∷ Check ∷ Graph ∷ Code ∷ Trial ∷ Migrate ∷ []
+commands = Run ∷ Check ∷ Graph ∷ Code ∷ Trial ∷ Migrate ∷ Trace ∷ Replay ∷ []
 
 -- how a command is spelled [own]
 abbrev pub spelling : Command → List ℕ
@@ -25,6 +25,8 @@ spelling Graph = codes "graph"
 spelling Code = codes "code"
 spelling Trial = codes "trial"
 spelling Migrate = codes "migrate"
+spelling Trace = codes "trace"
+spelling Replay = codes "replay"
 
 -- the positional words of a command, in order [own]
 abbrev pub places : Command → List Place
@@ -34,6 +36,8 @@ places Graph = Model ∷ []
 places Code = Model ∷ []
 places Trial = Seed ∷ Size ∷ TrialTurns ∷ []
 places Migrate = Model ∷ Population ∷ Out ∷ []
+places Trace = Model ∷ Population ∷ Out ∷ []
+places Replay = Model ∷ Population ∷ Traced ∷ []
 
 -- the options of a command [own]
 abbrev pub options : Command → List Flag
@@ -43,6 +47,8 @@ options Graph = []
 options Code = []
 options Trial = Workers ∷ Fuel ∷ Sync ∷ By ∷ []
 options Migrate = []
+options Trace = Workers ∷ Fuel ∷ []
+options Replay = []
 
 -- what a positional word is called where it is missing [own]
 abbrev pub place_name : Place → List ℕ
@@ -53,6 +59,7 @@ place_name Turns = codes "N"
 place_name Seed = codes "SEED"
 place_name Size = codes "SIZE"
 place_name TrialTurns = codes "N"
+place_name Traced = codes "TRACE"
 
 -- what a positional word is taken as: any text, or a number from the first to the second [own]
 abbrev pub place_takes : Place → Takes
@@ -63,6 +70,7 @@ place_takes Turns = Number 0 1000000
 place_takes Seed = Number 0 4294967295
 place_takes Size = Number 0 10000
 place_takes TrialTurns = Number 0 20
+place_takes Traced = Text
 
 -- how an option is spelled [own]
 abbrev pub flag_name : Flag → List ℕ

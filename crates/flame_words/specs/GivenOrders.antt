@@ -3,13 +3,15 @@ use Rattle.std.specs.Prelude.{ℕ, List, [], slice_get, find, Option, option_map
 use Rattle.std.specs.Option.{option_or}
 use Rattle.std.specs.Str.{bytes_eq}
 use Rattle.flame_words.specs.declared.orders.Order.{Order}
-use Rattle.flame_words.specs.declared.orders.Order.TheVariants.{Run, Check, Graph, Code, Trial, Migrate}
+use Rattle.flame_words.specs.declared.orders.Order.TheVariants.{Run, Check, Graph, Code, Trial, Migrate, Trace, Replay}
 use Rattle.flame_words.specs.declared.orders.RunOrder.{RunOrder}
+use Rattle.flame_words.specs.declared.orders.TraceOrder.{TraceOrder}
 use Rattle.flame_words.specs.declared.orders.TrialOrder.{TrialOrder}
 use Rattle.flame_words.specs.declared.orders.How.{How}
 use Rattle.flame_words.specs.declared.table.Command.{Command}
 use Rattle.flame_words.specs.declared.table.Command.TheVariants.{Run as run, Check as check, Graph as graph}
 use Rattle.flame_words.specs.declared.table.Command.TheVariants.{Code as code, Trial as trial, Migrate as migrate}
+use Rattle.flame_words.specs.declared.table.Command.TheVariants.{Trace as trace, Replay as replay}
 use Rattle.flame_words.specs.declared.table.Flag.{Flag}
 use Rattle.flame_words.specs.declared.table.Flag.TheVariants.{Workers, Fuel, Sync, By, Format}
 use Rattle.flame_words.specs.CommandTable.{flag_name, default}
@@ -61,6 +63,16 @@ trial_of words givens = record {
   how = how_of givens;
 }
 
+-- the order of `trace` with these positional words and these values of options [own]
+abbrev pub trace_of : List (List ℕ) → List Given → TraceOrder
+trace_of words givens = record {
+  model = word_at words 0;
+  pop = word_at words 1;
+  out = word_at words 2;
+  workers = number_value (word_of givens Workers);
+  fuel = number_value (word_of givens Fuel);
+}
+
 -- the order of a command with these positional words and these values of options [own]
 abbrev pub order_from : Command → List (List ℕ) → List Given → Order
 order_from run words givens = Run (run_of words givens)
@@ -69,3 +81,5 @@ order_from graph words givens = Graph (word_at words 0)
 order_from code words givens = Code (word_at words 0)
 order_from trial words givens = Trial (trial_of words givens)
 order_from migrate words givens = Migrate (word_at words 0) (word_at words 1) (word_at words 2)
+order_from trace words givens = Trace (trace_of words givens)
+order_from replay words givens = Replay (word_at words 0) (word_at words 1) (word_at words 2)

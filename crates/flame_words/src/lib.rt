@@ -11,5 +11,5 @@ mod table;
 mod value;
 
 pub use faults::Usage;
-pub use orders::{How, Order, RunOrder, TrialOrder, Way};
+pub use orders::{How, Order, RunOrder, TraceOrder, TrialOrder, Way};
 pub use reader::order;

@@ -1,12 +1,12 @@
 //! Making the order of the words that were read.
 
 ghost use Rattle.std.specs.Prelude.{◌≡◌, ◌<◌, ◌≤◌, length, IfOk};
-ghost use Rattle.flame_words.specs.GivenOrders.{how_of, word_at, value_of, run_of, trial_of, order_from};
+ghost use Rattle.flame_words.specs.GivenOrders.{how_of, word_at, value_of, run_of, trial_of, trace_of, order_from};
 ghost use Rattle.flame_words.specs.WordValues.{number_value};
 ghost use Rattle.flame_words.specs.TakenWords.{IsSmallNumber, NumbersSuit};
 ghost use Rattle.flame_words.specs.WordSteps.{seen_of, IsComplete};
 
-use crate::orders::{How, Order, RunOrder, TrialOrder};
+use crate::orders::{How, Order, RunOrder, TraceOrder, TrialOrder};
 use crate::reading::Reading;
 use crate::table::{Command, Flag};
 use crate::value::{format_of, number_value, way_of};
@@ -26,6 +26,8 @@ pub(crate) fn order_from(alloc: Global, reading: &Reading<'_>) -> Result<Order, 
         Command::Code => Ok(Order::Code(text_at(alloc, reading, 0)?)),
         Command::Trial => Ok(Order::Trial(trial_of(alloc, reading)?)),
         Command::Migrate => migrate_of(alloc, reading),
+        Command::Trace => Ok(Order::Trace(trace_of(alloc, reading)?)),
+        Command::Replay => replay_of(alloc, reading),
     }
 }
 
@@ -64,6 +66,33 @@ fn migrate_of(alloc: Global, reading: &Reading<'_>) -> Result<Order, NoMemory>
         ≡ order_from Command.Migrate (seen_of reading.now).words (seen_of reading.now).givens) }
 {
     Ok(Order::Migrate(
+        text_at(alloc, reading, 0)?,
+        text_at(alloc, reading, 1)?,
+        text_at(alloc, reading, 2)?,
+    ))
+}
+
+fn trace_of(alloc: Global, reading: &Reading<'_>) -> Result<TraceOrder, NoMemory>
+    requires complete { IsComplete (seen_of reading.now) }
+    requires command { reading.now.command ≡ Command.Trace }
+    ensures { IfOk result (λ trace. trace ≡ trace_of (seen_of reading.now).words (seen_of reading.now).givens) }
+{
+    Ok(TraceOrder {
+        model: text_at(alloc, reading, 0)?,
+        pop: text_at(alloc, reading, 1)?,
+        out: text_at(alloc, reading, 2)?,
+        workers: number(reading.word_of(Flag::Workers)),
+        fuel: number(reading.word_of(Flag::Fuel)),
+    })
+}
+
+fn replay_of(alloc: Global, reading: &Reading<'_>) -> Result<Order, NoMemory>
+    requires complete { IsComplete (seen_of reading.now) }
+    requires command { reading.now.command ≡ Command.Replay }
+    ensures { IfOk result (λ order. order
+        ≡ order_from Command.Replay (seen_of reading.now).words (seen_of reading.now).givens) }
+{
+    Ok(Order::Replay(
         text_at(alloc, reading, 0)?,
         text_at(alloc, reading, 1)?,
         text_at(alloc, reading, 2)?,

@@ -18,6 +18,10 @@ pub enum Order {
     /// Write the population of a model in format 2: the names of the model file, of the population file, and of
     /// the file that is written.
     Migrate(Text, Text, Text),
+    /// Run one iteration, and write the history of its schedule.
+    Trace(TraceOrder),
+    /// Check such a history: the names of the model file, of the population file, and of the file that has it.
+    Replay(Text, Text, Text),
 }
 
 /// Run a model on a population.
@@ -48,6 +52,21 @@ pub struct TrialOrder {
     pub turns: u32,
     /// How they are run.
     pub how: How,
+}
+
+/// Run one iteration of a model on a population, and write the history of its schedule.
+#[derive(Debug, Drop)]
+pub struct TraceOrder {
+    /// The name of the model file.
+    pub model: Text,
+    /// The name of the population file.
+    pub pop: Text,
+    /// The name of the written file.
+    pub out: Text,
+    /// How many workers, 1 to 64.
+    pub workers: u32,
+    /// How many turns of loops and calls of helpers each call of a transition function may take, 0 to 1,000,000,000.
+    pub fuel: u32,
 }
 
 /// How iterations are run. No result depends on it but where a function needs more fuel than it is given.

@@ -17,6 +17,8 @@ pub(crate) enum Command {
     Code,
     Trial,
     Migrate,
+    Trace,
+    Replay,
 }
 
 /// A positional word of a command.
@@ -29,6 +31,7 @@ pub(crate) enum Place {
     Seed,
     Size,
     TrialTurns,
+    Trace,
 }
 
 /// An option of a command.
@@ -60,13 +63,15 @@ pub(crate) enum Choice {
 }
 
 /// All commands.
-const COMMANDS: [Command; 6] = [
+const COMMANDS: [Command; 8] = [
     Command::Run,
     Command::Check,
     Command::Graph,
     Command::Code,
     Command::Trial,
     Command::Migrate,
+    Command::Trace,
+    Command::Replay,
 ];
 
 impl Command {
@@ -88,6 +93,8 @@ impl Command {
             Command::Code => "code",
             Command::Trial => "trial",
             Command::Migrate => "migrate",
+            Command::Trace => "trace",
+            Command::Replay => "replay",
         }
     }
 
@@ -102,6 +109,8 @@ impl Command {
             Command::Code => &[Place::Model],
             Command::Trial => &[Place::Seed, Place::Size, Place::TrialTurns],
             Command::Migrate => &[Place::Model, Place::Population, Place::Out],
+            Command::Trace => &[Place::Model, Place::Population, Place::Out],
+            Command::Replay => &[Place::Model, Place::Population, Place::Trace],
         }
     }
 
@@ -122,6 +131,8 @@ impl Command {
             Command::Code => &[],
             Command::Trial => &[Flag::Workers, Flag::Fuel, Flag::Sync, Flag::By],
             Command::Migrate => &[],
+            Command::Trace => &[Flag::Workers, Flag::Fuel],
+            Command::Replay => &[],
         }
     }
 
@@ -146,6 +157,7 @@ impl Place {
             Place::Seed => "SEED",
             Place::Size => "SIZE",
             Place::TrialTurns => "N",
+            Place::Trace => "TRACE",
         }
     }
 
@@ -161,6 +173,7 @@ impl Place {
             Place::Seed => Takes::Number(0, u32::MAX),
             Place::Size => Takes::Number(0, 10_000),
             Place::TrialTurns => Takes::Number(0, 20),
+            Place::Trace => Takes::Text,
         }
     }
 }

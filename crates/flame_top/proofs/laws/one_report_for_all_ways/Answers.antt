@@ -3,6 +3,6 @@ use Rattle.flame_top.proofs.laws.one_report_for_all_ways.Goals as goal
 
 pub returns : goal.returns
 returns c = record {
-  run = λ read told order workers way variable. refl;
-  trial = λ read told order workers way variable. refl;
+  run = λ read told order workers way variable trace. refl;
+  trial = λ read told order workers way variable trace. refl;
 }

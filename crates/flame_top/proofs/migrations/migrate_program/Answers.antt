@@ -1,10 +1,11 @@
-use Rattle.std.proofs.Common.{ℕ}
+use Rattle.std.proofs.Common.{ℕ, sym, subst}
 use Rattle.flame_outside.specs.Scripts.{outside}
 use Rattle.flame_load.specs.InputReads.{known}
 use Rattle.flame_top.specs.declared.ending.Ending.{Ending}
 use Rattle.flame_top.specs.OrderReports.{start_read, migrated, migrate_source}
-use Rattle.flame_top.specs.Standing.{Carries, Keeps}
+use Rattle.flame_top.specs.Standing.{Carries, Keeps, IsFaulted}
 use Rattle.flame_top.proofs.Standings.{before_files, carries_given, carries_known, carries_stopped, keeps_behind_reads, keeps_stopped}
+use Rattle.flame_top.proofs.FaultlessEndings.{reading_faultless}
 use Rattle.flame_top.proofs.migrations.migrate_program.Goals as goal
 
 pub returns-in-Ok-clause-carries : goal.returns-in-Ok-clause-carries
@@ -51,3 +52,8 @@ returns-in-Err-clause-keeps g c =
     let P : Ending → ℕ → Type 0 = λ ending files. Keeps ending files (outside old sink) (outside new sink) in
     before_files P c.before_files.result c.in-Err.ending c.before_files.ensures.ending c.before_files.ensures.files
     (keeps_stopped c.in-Err.ending old new sink c.in-Err.ensures.stops c.in-Err.ensures.read_fault c.in-Err.ensures.reads)
+
+pub returns-in-Err-clause-faultless : goal.returns-in-Err-clause-faultless
+returns-in-Err-clause-faultless g c =
+    subst (λ (ending : Ending). ¬ IsFaulted ending) (sym c.before_files.ensures.ending)
+    (reading_faultless c.in-Err.ending c.in-Err.ensures.stops)

@@ -2,6 +2,7 @@ use Rattle.flame_popfile.specs.IterationTexts.{text}
 use Rattle.flame_popfile.specs.declared.formats.Format.TheVariants.{Two}
 use Rattle.flame_top.specs.OrderReports.{no_boards, migrated_line}
 use Rattle.flame_top.proofs.FileAndLine.{put_stops, put_keeps, put_unread, line_stops, line_keeps, print_unread, both_stand, done_keeps}
+use Rattle.flame_top.proofs.FaultlessEndings.{put_faultless, stop_faultless}
 use Rattle.flame_top.proofs.migrations.write_population.Goals as goal
 
 pub returns-in-Err-clause-stands : goal.returns-in-Err-clause-stands
@@ -62,3 +63,13 @@ returns-in-Err-print_migrated-clause-read g c =
     print_unread (migrated_line c.args.start.now.world) c.in-Err-print_migrated.ending
     (g.S.Sink.seen c.args.out.now) (g.S.Sink.seen c.print_migrated.new.out)
     c.in-Err-print_migrated.ensures.stops
+
+pub returns-in-Err-clause-faultless : goal.returns-in-Err-clause-faultless
+returns-in-Err-clause-faultless g c =
+    put_faultless c.args.to.now c.in-Err.ending
+    (g.D.Depot.seen c.args.depot.now) (g.D.Depot.seen c.put_population.new.depot) c.in-Err.ensures.stops
+
+pub returns-in-Err-print_migrated-clause-faultless : goal.returns-in-Err-print_migrated-clause-faultless
+returns-in-Err-print_migrated-clause-faultless g c =
+    stop_faultless (migrated_line c.args.start.now.world) c.in-Err-print_migrated.ending
+    (g.S.Sink.seen c.args.out.now) (g.S.Sink.seen c.print_migrated.new.out) c.in-Err-print_migrated.ensures.stops

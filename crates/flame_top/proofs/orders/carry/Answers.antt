@@ -1,8 +1,8 @@
 use Rattle.std.proofs.Common.{map, string_bytes}
 use Rattle.flame_outside.specs.Scripts.{outside}
 use Rattle.flame_words.specs.CommandLines.{order_of}
-use Rattle.flame_top.specs.OrderReports.{reading}
-use Rattle.flame_top.proofs.OrderedWords.{carries_ordered, keeps_ordered, carries_refused, keeps_refused, carries_nothing, keeps_nothing}
+use Rattle.flame_top.proofs.OrderedWords.{carries_ordered, keeps_ordered, carries_refused, keeps_refused, words_nothing, keeps_nothing}
+use Rattle.flame_top.proofs.OrderedWords.{trial_ordered, trial_refused, trial_nothing}
 use Rattle.flame_top.proofs.orders.carry.Goals as goal
 
 pub returns-in-Ok-clause-carries : goal.returns-in-Ok-clause-carries
@@ -13,6 +13,14 @@ returns-in-Ok-clause-carries g c = λ told read tells reads.
     (outside (g.D.Depot.seen c.carry_order.new.depot) (g.S.Sink.seen c.carry_order.new.out))
     c.in-Ok.ensures.order read told (c.carry_order.ensures.carries told read tells reads)
 
+pub returns-in-Ok-clause-carries_trial : goal.returns-in-Ok-clause-carries_trial
+returns-in-Ok-clause-carries_trial g c = λ read reads.
+    let carried = c.carry_order.result in
+    trial_ordered (order_of (map string_bytes c.args.words.now)) c.in-Ok.order carried.ending carried.files
+    (outside (g.D.Depot.seen c.args.depot.now) (g.S.Sink.seen c.args.out.now))
+    (outside (g.D.Depot.seen c.carry_order.new.depot) (g.S.Sink.seen c.carry_order.new.out))
+    c.in-Ok.ensures.order read (c.carry_order.ensures.carries_trial read reads)
+
 pub returns-in-Ok-clause-keeps : goal.returns-in-Ok-clause-keeps
 returns-in-Ok-clause-keeps g c =
     let carried = c.carry_order.result in
@@ -20,7 +28,7 @@ returns-in-Ok-clause-keeps g c =
     keeps_ordered (order_of (map string_bytes c.args.words.now)) c.in-Ok.order carried.ending carried.files
     (outside (g.D.Depot.seen c.args.depot.now) (g.S.Sink.seen c.args.out.now))
     (outside (g.D.Depot.seen c.carry_order.new.depot) (g.S.Sink.seen c.carry_order.new.out))
-    c.in-Ok.ensures.order kept.keeps kept.trial kept.text
+    c.in-Ok.ensures.order kept.keeps kept.faulted kept.trial kept.text
 
 pub returns-in-Err-Fault-clause-carries : goal.returns-in-Err-Fault-clause-carries
 returns-in-Err-Fault-clause-carries g c = λ told read tells reads.
@@ -28,6 +36,13 @@ returns-in-Err-Fault-clause-carries g c = λ told read tells reads.
     (carries_refused (order_of (map string_bytes c.args.words.now)) c.in-Err-Fault.usage c.usage_ending.result
     (outside (g.D.Depot.seen c.args.depot.now) (g.S.Sink.seen c.args.out.now))
     (rw c.in-Err-Fault.field-0-is at c.in-Err-Fault.ensures.fault) c.usage_ending.ensures read told)
+
+pub returns-in-Err-Fault-clause-carries_trial : goal.returns-in-Err-Fault-clause-carries_trial
+returns-in-Err-Fault-clause-carries_trial g c = λ read reads.
+    rw (c.before_files.ensures.ending, c.before_files.ensures.files)
+    (trial_refused (order_of (map string_bytes c.args.words.now)) c.in-Err-Fault.usage c.usage_ending.result
+    (outside (g.D.Depot.seen c.args.depot.now) (g.S.Sink.seen c.args.out.now))
+    (rw c.in-Err-Fault.field-0-is at c.in-Err-Fault.ensures.fault) c.usage_ending.ensures read)
 
 pub returns-in-Err-Fault-clause-keeps : goal.returns-in-Err-Fault-clause-keeps
 returns-in-Err-Fault-clause-keeps g c =
@@ -39,7 +54,13 @@ returns-in-Err-Fault-clause-keeps g c =
 pub returns-in-Err-NoMemory-clause-carries : goal.returns-in-Err-NoMemory-clause-carries
 returns-in-Err-NoMemory-clause-carries g c = λ told read tells reads.
     rw (c.before_files-in-Err-NoMemory.ensures.ending, c.before_files-in-Err-NoMemory.ensures.files)
-    (carries_nothing (reading read c.args.words.now told)
+    (words_nothing read told (order_of (map string_bytes c.args.words.now))
+    (outside (g.D.Depot.seen c.args.depot.now) (g.S.Sink.seen c.args.out.now)))
+
+pub returns-in-Err-NoMemory-clause-carries_trial : goal.returns-in-Err-NoMemory-clause-carries_trial
+returns-in-Err-NoMemory-clause-carries_trial g c = λ read reads.
+    rw (c.before_files-in-Err-NoMemory.ensures.ending, c.before_files-in-Err-NoMemory.ensures.files)
+    (trial_nothing read (order_of (map string_bytes c.args.words.now))
     (outside (g.D.Depot.seen c.args.depot.now) (g.S.Sink.seen c.args.out.now)))
 
 pub returns-in-Err-NoMemory-clause-keeps : goal.returns-in-Err-NoMemory-clause-keeps

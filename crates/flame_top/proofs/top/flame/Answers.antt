@@ -1,8 +1,7 @@
 use Rattle.std.proofs.Common.{map, string_bytes}
 use Rattle.flame_outside.specs.Scripts.{outside}
 use Rattle.flame_words.specs.CommandLines.{order_of}
-use Rattle.flame_top.specs.OrderReports.{reading}
-use Rattle.flame_top.proofs.CarriedCalls.{carries_out}
+use Rattle.flame_top.proofs.CarriedCalls.{carries_out_words, carries_out_trial}
 use Rattle.flame_top.proofs.Causes.{has_cause, tells_status, leaves, calm_depot, calm_out}
 use Rattle.flame_top.proofs.top.flame.Goals as goal
 
@@ -10,11 +9,21 @@ pub returns-clause-carries : goal.returns-clause-carries
 returns-clause-carries g c = λ told read tells reads.
     let carried = c.carry-carried.result in
     rw c.tell.ensures.files
-    (carries_out (reading read c.args.words.now told) carried.ending carried.files c.tell.result.status
+    (carries_out_words read told (order_of (map string_bytes c.args.words.now)) carried.ending carried.files c.tell.result.status
     (outside (g.D.Depot.seen c.args.depot.now) (g.S.Sink.seen c.args.out.now))
     (outside (g.D.Depot.seen c.carry-carried.new.depot) (g.S.Sink.seen c.carry-carried.new.out))
     (g.S.Sink.seen c.args.err.now) (g.S.Sink.seen c.tell.new.err)
     (c.carry-carried.ensures.carries told read tells reads) c.carry-carried.ensures.keeps.caused c.tell.ensures.answers)
+
+pub returns-clause-trial : goal.returns-clause-trial
+returns-clause-trial g c = λ read reads.
+    let carried = c.carry-carried.result in
+    rw c.tell.ensures.files
+    (carries_out_trial read (order_of (map string_bytes c.args.words.now)) carried.ending carried.files c.tell.result.status
+    (outside (g.D.Depot.seen c.args.depot.now) (g.S.Sink.seen c.args.out.now))
+    (outside (g.D.Depot.seen c.carry-carried.new.depot) (g.S.Sink.seen c.carry-carried.new.out))
+    (g.S.Sink.seen c.args.err.now) (g.S.Sink.seen c.tell.new.err)
+    (c.carry-carried.ensures.carries_trial read reads) c.carry-carried.ensures.keeps.caused c.tell.ensures.answers)
 
 pub returns-clause-causes : goal.returns-clause-causes
 returns-clause-causes g c =

@@ -1,0 +1,11 @@
+pub mod Cutting
+pub mod Digits
+pub mod Numerals
+pub mod EventLines
+pub mod HeadLines
+pub mod Following
+pub mod Telling
+pub mod Written
+pub mod Endings
+pub mod Going
+pub mod Beginnings
