@@ -2,12 +2,13 @@
 _flame() {
     local word=${COMP_WORDS[COMP_CWORD]} before=${COMP_WORDS[COMP_CWORD - 1]} options=
     if [ "$COMP_CWORD" -eq 1 ]; then
-        mapfile -t COMPREPLY < <(compgen -W "run check graph code migrate trial --help --version" -- "$word")
+        mapfile -t COMPREPLY < <(compgen -W "run check graph code migrate trace replay trial --help --version" -- "$word")
         return
     fi
     case ${COMP_WORDS[1]} in
     run) options="--workers --fuel --sync --by --format" ;;
     trial) options="--workers --fuel --sync --by" ;;
+    trace) options="--workers --fuel" ;;
     esac
     case " $options " in
     *" $before "*)
