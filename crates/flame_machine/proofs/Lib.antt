@@ -4,6 +4,7 @@ mod Pops
 mod Inputs
 mod Arms
 mod Zeros
+mod Places
 mod Fitted
 mod Standing
 mod Going

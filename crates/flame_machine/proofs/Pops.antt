@@ -13,19 +13,19 @@ use Rattle.flame_machine.specs.declared.steps.MachineStep.{MachineStep}
 use Rattle.flame_machine.specs.MachineFrames.{Framed, Additions, config}
 use Rattle.flame_machine.specs.MachineSteps.{Stepped, StepsBy}
 
-held-popped : (line : ℕ) (o : Result ℤ Cause) (stack s : List ℤ) (low : Framed) (added : Additions) (feeds : List Fed)
-    → push_held line o stack (config low added feeds) ≡ push_held line o stack (config (record low { stack = s }) added feeds)
-held-popped line (Ok v) stack s low added feeds = refl
-held-popped line (Err cause) stack s low added feeds = refl
+held-popped : (line : ℕ) (o : Result ℤ Cause) (stack s : List ℤ) (place : ℕ) (low : Framed) (added : Additions) (feeds : List Fed)
+    → push_held line o stack (config place low added feeds) ≡ push_held line o stack (config place (record low { stack = s }) added feeds)
+held-popped line (Ok v) stack s place low added feeds = refl
+held-popped line (Err cause) stack s place low added feeds = refl
 
 pub operated : (old mid low new : Framed) (v w : ℤ) (op : Op) (line : ℕ) (o : Result ℤ Cause) (result : MachineStep)
     → old ≡ record mid { stack = w ∷ mid.stack } → mid ≡ record low { stack = v ∷ low.stack } → o ≡ applied op v w
     → StepsBy (push_held line o low.stack) low new result → StepsBy (operate op line) old new result
-operated old mid low new v w op line o result first second same does added feeds =
-    subst (λ (x : Framed). Stepped (operate op line (config x added feeds)) new added feeds result) (sym first)
-    (subst (λ (x : Framed). Stepped (operate op line (config (record x { stack = w ∷ x.stack }) added feeds)) new added feeds result) (sym second)
-    (subst (λ x. Stepped (push_held line x low.stack (config (record low { stack = w ∷ v ∷ low.stack }) added feeds)) new added feeds result) same
-    (subst (λ (t : StepEnd). Stepped t new added feeds result) (held-popped line o low.stack (w ∷ v ∷ low.stack) low added feeds) (does added feeds))))
+operated old mid low new v w op line o result first second same does place added feeds =
+    subst (λ (x : Framed). Stepped place (operate op line (config place x added feeds)) new added feeds result) (sym first)
+    (subst (λ (x : Framed). Stepped place (operate op line (config place (record x { stack = w ∷ x.stack }) added feeds)) new added feeds result) (sym second)
+    (subst (λ x. Stepped place (push_held line x low.stack (config place (record low { stack = w ∷ v ∷ low.stack }) added feeds)) new added feeds result) same
+    (subst (λ (t : StepEnd). Stepped place t new added feeds result) (held-popped line o low.stack (w ∷ v ∷ low.stack) place low added feeds) (does place added feeds))))
 
 -- so many values are there
 pub row_there : (n : ℕ) (stack : List ℤ) (go : List ℤ → List ℤ → StepEnd) → n ≤ length stack → with_row n stack go ≡ go (reverse (take n stack)) (drop n stack)
@@ -34,7 +34,7 @@ row_there n stack go le = cond-true (nat_le n (length stack)) (go (reverse (take
 pub negated_top : (given : Given) (w : Widths) (old low new : Framed) (v : ℤ) (line : ℕ) (o : Result ℤ Cause) (result : MachineStep)
     → old ≡ record low { stack = v ∷ low.stack } → o ≡ negated v
     → StepsBy (push_held line o low.stack) low new result → StepsBy (act given w (Some (Neg line))) old new result
-negated_top given w old low new v line o result first same does added feeds =
-    subst (λ (x : Framed). Stepped (act given w (Some (Neg line)) (config x added feeds)) new added feeds result) (sym first)
-    (subst (λ x. Stepped (push_held line x low.stack (config (record low { stack = v ∷ low.stack }) added feeds)) new added feeds result) same
-    (subst (λ (t : StepEnd). Stepped t new added feeds result) (held-popped line o low.stack (v ∷ low.stack) low added feeds) (does added feeds)))
+negated_top given w old low new v line o result first same does place added feeds =
+    subst (λ (x : Framed). Stepped place (act given w (Some (Neg line)) (config place x added feeds)) new added feeds result) (sym first)
+    (subst (λ x. Stepped place (push_held line x low.stack (config place (record low { stack = v ∷ low.stack }) added feeds)) new added feeds result) same
+    (subst (λ (t : StepEnd). Stepped place t new added feeds result) (held-popped line o low.stack (v ∷ low.stack) place low added feeds) (does place added feeds)))

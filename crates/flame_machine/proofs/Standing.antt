@@ -23,24 +23,24 @@ locals_within (x ∷ xs) (suc p) i at = let le = locals_within xs p i at in omeg
 pub rows-length : (a b : List Fed) → rows_of a ≡ rows_of b → length a ≡ length b
 rows-length a b e = sym (length-map a (λ (x : Fed). x.rows)) ∙ ap length e ∙ length-map b (λ (x : Fed). x.rows)
 
-module _ (r : Routine) (valid : IsValid r) (frame : Framed) (added : Additions) (feeds : List Fed) (ready : Ready r frame added feeds) where
+module _ (r : Routine) (valid : IsValid r) (place : ℕ) (frame : Framed) (added : Additions) (feeds : List Fed) (ready : Ready r place frame added feeds) where
   pub has_room : length frame.stack < frame.room
-  has_room = let lt = stack_within r (config frame added (seen r.widths feeds)) valid ready.stands in let le = ready.room in omega arith
+  has_room = let lt = stack_within r (config place frame added (seen r.widths feeds)) valid ready.stands in let le = ready.room in omega arith
 
-  module _ (i : Instr) (at : slice_get r.instrs frame.place ≡ Some i) where
+  module _ (i : Instr) (at : slice_get r.instrs place ≡ Some i) where
     pub has_locals : locals_for i ≤ length frame.locals
-    has_locals = let le = locals_within r.instrs frame.place i at in let m = ready.locals in omega arith
+    has_locals = let le = locals_within r.instrs place i at in let m = ready.locals in omega arith
 
   there : (k v : ℕ) → k < length r.widths.inputs → ready.stands.delivered k ≡ true → v < slice_index r.widths.inputs k → IsSome (field k v feeds)
   there k v lt now less =
       let x = field_there r.widths.inputs ready.stands.delivered (seen r.widths feeds) k v ready.stands.rows ready.stands.current now less in
       subst IsSome (sym x.1 ∙ field-first (length r.widths.inputs) k feeds lt v) refl
 
-  pub has_fields : (i : Instr) → slice_get r.instrs frame.place ≡ Some i → HasFields i feeds
+  pub has_fields : (i : Instr) → slice_get r.instrs place ≡ Some i → HasFields i feeds
   has_fields (Field k v) at =
-      let w = valid.within frame.place (Field k v) at in
+      let w = valid.within place (Field k v) at in
       there k v w.0 (valid.reading k ready.stands.path at refl) w.1
   has_fields (FieldAt l k c n) at =
-      let w = valid.within frame.place (FieldAt l k c n) at in
+      let w = valid.within place (FieldAt l k c n) at in
       λ v low high. there k v w.0 (valid.reading k ready.stands.path at refl) (let le = w.1 in omega arith)
   has_fields i at = tt

@@ -5,10 +5,9 @@ use Rattle.flame_spec.specs.declared.outcomes.Born.{Born}
 use Rattle.flame_code.specs.Feeds.{Fed}
 use Rattle.flame_code.specs.Machine.{first_locals, Config}
 
--- the place in the code, the stack with the top first, how many values there is room for on it, the locals, the memory
--- and the fuel that is left [own]
+-- the stack with the top first, how many values there is room for on it, the locals, the memory and the fuel that is
+-- left [own]
 pub record Framed : Type 0 where
-  pub place : ℕ
   pub stack : List ℤ
   pub room : ℕ
   pub locals : List ℤ
@@ -24,10 +23,10 @@ pub record Additions : Type 0 where
 abbrev pub nothing_added : Additions
 nothing_added = record { sent = []; born = [] }
 
--- where a run stands that holds this, with these inputs [own]
-abbrev pub config : Framed → Additions → List Fed → Config
-config frame added feeds = record {
-  place = frame.place;
+-- where a run stands that holds this, at this place and with these inputs [own]
+abbrev pub config : ℕ → Framed → Additions → List Fed → Config
+config place frame added feeds = record {
+  place = place;
   stack = frame.stack;
   locals = first_locals frame.locals;
   memory = frame.memory;

@@ -1,6 +1,7 @@
 -- How the program's runs begin and end.
-use Rattle.std.specs.Prelude.{◌≡◌, ℕ, ◌≤◌, ◌==◌, ℤ, List, length, true}
+use Rattle.std.specs.Prelude.{◌≡◌, ℕ, ◌-◌, ◌≤◌, ◌==◌, ℤ, List, length, drop, true}
 use Rattle.std.specs.List.{list_all}
+use Rattle.flame_code.specs.declared.instrs.Instr.{Instr}
 use Rattle.flame_code.specs.Feeds.{Fed}
 use Rattle.flame_code.specs.HelperCodes.{HelperCodes, calls_fit}
 use Rattle.flame_code.specs.Routines.{Routine, locals_of}
@@ -24,17 +25,31 @@ pub record Suits (helpers : HelperCodes) (g : Given) (r : Routine) : Type 0 wher
   pub constants : length g.constants ≡ r.widths.constants
   pub alike : SeeConstants g helpers
 
--- the run stands where a path leads, and has all locals, room for its stack, and its inputs [own]
-pub record Ready (r : Routine) (frame : Framed) (added : Additions) (feeds : List Fed) : Type 0 where
-  pub stands : IsOnPath r (config frame added (seen r.widths feeds))
+-- the place in the code from which on there are as many instructions as these [own]
+abbrev pub place_of : Routine → List Instr → ℕ
+place_of r rest = length r.instrs - length rest
+
+-- these are the instructions of the code from a place on [own]
+abbrev pub IsRest : Routine → List Instr → Type 0
+IsRest r rest = rest ≡ drop (place_of r rest) r.instrs
+
+-- the run stands at a place where a path leads, and has all locals, room for its stack, and its inputs [own]
+pub record Ready (r : Routine) (place : ℕ) (frame : Framed) (added : Additions) (feeds : List Fed) : Type 0 where
+  pub stands : IsOnPath r (config place frame added (seen r.widths feeds))
   pub locals : locals_of r.instrs ≤ length frame.locals
   pub room : length r.instrs ≤ frame.room
   pub inputs : length r.widths.inputs ≤ length feeds
 
--- how a run ends that finished so, with what it added and the inputs that it leaves [own]
-abbrev pub end_of : Finish → Additions → List Fed → End
-end_of (finish.Returned v frame) added feeds = returned v (config frame added feeds)
-end_of (finish.Faulted fault) added feeds = faulted fault
+-- how a run ends that finished so at this place, with what it added and the inputs that it leaves [own]
+abbrev pub end_of : ℕ → Finish → Additions → List Fed → End
+end_of place (finish.Returned v frame) added feeds = returned v (config place frame added feeds)
+end_of place (finish.Faulted fault) added feeds = faulted fault
+
+-- the code's run from here ends as one that finished so, with what it added and the inputs that it leaves [own]
+pub record Finishes (g : Given) (helpers : List Routine) (r : Routine) (from : Config) (finish : Finish)
+    (added : Additions) (feeds : List Fed) : Type 0 where
+  pub place : ℕ
+  pub runs : Runs g helpers r from (end_of place finish added feeds)
 
 -- it leaves no more fuel than this [own]
 abbrev pub FinishFell : Finish → ℕ → Type 0

@@ -1,4 +1,4 @@
-//! One run of a code: where it stands, with all that it needs.
+//! One run of a code: what it holds beside its place.
 
 ghost use Rattle.std.specs.Prelude.{◌≡◌, ◌+◌, ◌<◌, ◌≤◌, ◌^◌, [], ◌∷◌, ◌++◌, length, reverse, take, drop, slice_set, IfOk, OnOk};
 ghost use Rattle.flame_spec.specs.Conditions.{number_at};
@@ -7,11 +7,10 @@ use flame_rows::{NoMemory, Row};
 use std::alloc::Global;
 use std::marker::Model;
 
-/// A run's place, stack, locals, memory and fuel. Its lists are taken once at their greatest size, so that no step
+/// A run's stack, locals, memory and fuel. Its lists are taken once at their greatest size, so that no step
 /// allocates. The top of the stack stands in a field of its own, and the values below it in the cells from 1 on.
 #[derive(Drop)]
 pub struct Frame {
-    place: usize,
     height: usize,
     top: i32,
     fuel: u32,
@@ -27,7 +26,6 @@ impl Model for Frame {
     ghost Value = { Framed };
 
     ghost view = { λ f. record {
-      place = f.place;
       stack = take f.height (f.top ∷ reverse (take f.height f.cells.items));
       room = length f.cells.items;
       locals = f.locals.items;
@@ -42,7 +40,6 @@ impl Frame {
     /// At the begin of a code, with room for as many values as there are cells.
     pub fn begin(cells: Vec<i32>, locals: Vec<i32>, memory: Vec<i32>, fuel: u32) -> Frame
         ensures { result ≡ record {
-          place = 0;
           stack = [];
           room = length cells.items;
           locals = locals.items;
@@ -51,7 +48,6 @@ impl Frame {
         } }
     {
         Frame {
-            place: 0,
             height: 0,
             top: 0,
             fuel,
@@ -164,31 +160,6 @@ impl Frame {
         self.memory[column] = value;
     }
 
-    /// The place of the next instruction.
-    #[inline(always)]
-    pub fn place(&self) -> usize
-        ensures { result ≡ self.now.place }
-    {
-        self.place
-    }
-
-    /// Goes to this place.
-    #[inline(always)]
-    pub fn go_to(&mut self, place: u32)
-        ensures { self.new ≡ record self.old { place = place } }
-    {
-        self.place = place as usize;
-    }
-
-    /// Goes to the next place.
-    #[inline(always)]
-    pub fn go_on(&mut self)
-        requires { self.old.place + 1 < 2 ^ 64 }
-        ensures { self.new ≡ record self.old { place = self.old.place + 1 } }
-    {
-        self.place += 1;
-    }
-
     /// The fuel that is left.
     #[inline(always)]
     pub fn fuel(&self) -> u32
@@ -210,7 +181,6 @@ impl Frame {
         ensures { (result.2).items ≡ self.memory }
     {
         let Frame {
-            place: _,
             height: _,
             top: _,
             fuel: _,

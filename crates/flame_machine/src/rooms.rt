@@ -1,6 +1,6 @@
 //! Runs of codes, and the lists that are kept from one to the next.
 
-ghost use Rattle.std.specs.Prelude.{◌≡◌, ◌++◌, length, List, true, IfOk, OnOk, OnErr, replicate, pos};
+ghost use Rattle.std.specs.Prelude.{◌≡◌, ◌++◌, length, ℕ, List, true, IfOk, OnOk, OnErr, replicate, pos};
 ghost use Rattle.flame_code.specs.Feeds.{Fed};
 ghost use Rattle.flame_code.specs.HelperCodes.{fits as fitting};
 ghost use Rattle.flame_code.specs.InputRows.{HaveWidths, rows_of};
@@ -81,9 +81,9 @@ impl Room {
     fn begin(&mut self, code: &Code, memory: &Row, fuel: u32) -> Result<Frame, NoMemory>
         requires { length memory.now ≡ code.now.widths.memory }
         ensures ready { IfOk result (λ frame. (feeds : List Fed) → HaveWidths code.now.widths.inputs (rows_of feeds)
-            → Ready code.now frame nothing_added feeds) }
+            → Ready code.now 0 frame nothing_added feeds) }
         ensures begins { IfOk result (λ frame. (feeds : List Fed) → HaveWidths code.now.widths.inputs (rows_of feeds)
-            → config frame nothing_added (seen code.now.widths feeds) ≡ begun memory.now feeds fuel) }
+            → config 0 frame nothing_added (seen code.now.widths feeds) ≡ begun memory.now feeds fuel) }
     {
         let kept = mem::replace(&mut self.locals, Vec::new(self.alloc));
         let locals = fresh(kept, code)?;
@@ -141,12 +141,12 @@ impl Room {
         sent: &mut Vec<Sent>,
         born: &mut Vec<Born>,
     ) -> Result<Ending, NoMemory>
-        ensures ends { IfOk result (λ ending. (feeds : List Fed)
-            → ending ≡ ending_of (outcome_of (end_of finish added feeds))) }
-        ensures sent { OnOk result ((feeds : List Fed) → sent.new.items
-            ≡ sent.old.items ++ messages_added (outcome_of (end_of finish added feeds))) }
-        ensures born { OnOk result ((feeds : List Fed) → born.new.items
-            ≡ born.old.items ++ births_added (outcome_of (end_of finish added feeds))) }
+        ensures ends { IfOk result (λ ending. (place : ℕ) (feeds : List Fed)
+            → ending ≡ ending_of (outcome_of (end_of place finish added feeds))) }
+        ensures sent { OnOk result ((place : ℕ) (feeds : List Fed) → sent.new.items
+            ≡ sent.old.items ++ messages_added (outcome_of (end_of place finish added feeds))) }
+        ensures born { OnOk result ((place : ℕ) (feeds : List Fed) → born.new.items
+            ≡ born.old.items ++ births_added (outcome_of (end_of place finish added feeds))) }
         ensures same_sent { OnErr result (sent.new.items ≡ sent.old.items) }
         ensures same_born { OnErr result (born.new.items ≡ born.old.items) }
     {

@@ -1,15 +1,15 @@
 //! The steps of runs, and the calls of helpers.
 
-ghost use Rattle.std.specs.Prelude.{◌≡◌, ◌+◌, ◌*◌, ◌<◌, ◌≤◌, ◌^◌, length, drop, List, slice_get, Some, true, IfOk};
+ghost use Rattle.std.specs.Prelude.{◌≡◌, ◌<◌, ◌≤◌, length, drop, List, slice_get, Some, true, IfOk};
 ghost use Rattle.flame_code.specs.Feeds.{Fed};
 ghost use Rattle.flame_code.specs.HelperCodes.{AreHelpers, sees_nothing};
 ghost use Rattle.flame_code.specs.InputRows.{rows_of};
 ghost use Rattle.flame_code.specs.Machine.{step};
-ghost use Rattle.flame_code.specs.Meanings.{Runs, entry};
+ghost use Rattle.flame_code.specs.Meanings.{entry};
 ghost use Rattle.flame_code.specs.Routines.{Routine};
 ghost use Rattle.flame_code.specs.Validity.{IsValid};
 ghost use Rattle.flame_machine.specs.MachineFrames.{config, nothing_added};
-ghost use Rattle.flame_machine.specs.Running.{SeeConstants, Suits, Ready, end_of, called_of, FinishFell, CallFell, CallEnds};
+ghost use Rattle.flame_machine.specs.Running.{SeeConstants, Suits, place_of, IsRest, Ready, Finishes, called_of, FinishFell, CallFell, CallEnds};
 ghost use Rattle.flame_machine.specs.MachineSteps.{seen, Stepped};
 
 use crate::additions::Added;
@@ -21,31 +21,49 @@ use crate::steps::{MachineStep, apply};
 use flame_code::{Code, Feed, Helpers, Instr};
 use flame_rows::NoMemory;
 
+/// The first of the instructions that are left.
 #[inline(always)]
-fn instr_at(instrs: &[Instr], place: usize) -> &Instr
-    requires { place < length instrs.now }
-    ensures { slice_get instrs.now place ≡ Some result.now }
+fn first_of(rest: &[Instr]) -> &Instr
+    requires { 0 < length rest.now }
+    ensures { slice_get rest.now 0 ≡ Some result.now }
 {
-    &instrs[place]
+    &rest[0]
 }
 
-/// The instruction at the frame's place.
+/// The instructions behind the first.
+#[inline(always)]
+fn behind_first(rest: &[Instr]) -> &[Instr]
+    requires { 0 < length rest.now }
+    ensures { result.now ≡ drop 1 rest.now }
+{
+    &rest[1..]
+}
+
+/// The instructions from this place on.
+#[inline(always)]
+fn starting_at(instrs: &[Instr], place: u32) -> &[Instr]
+    requires { place < length instrs.now }
+    ensures { result.now ≡ drop place instrs.now }
+{
+    &instrs[place as usize..]
+}
+
+/// The first of the instructions that are left.
 #[inline(always)]
 fn turn<F: Feed>(
     code: &Code,
-    instrs: &[Instr],
+    rest: &[Instr],
     frame: &mut Frame,
     added: &mut Added,
     feed: &mut F,
     given: &Given,
 ) -> MachineStep
-    requires same { instrs.now ≡ code.now.instrs }
+    requires left { IsRest code.now rest.now }
     requires valid { IsValid code.now }
-    requires few { length code.now.instrs < 2 ^ 32 }
-    requires ready { Ready code.now frame.old added.old (F.feeds feed.old) }
+    requires ready { Ready code.now (place_of code.now rest.now) frame.old added.old (F.feeds feed.old) }
     requires constants { length given.now.constants ≡ code.now.widths.constants }
-    ensures does { Stepped (step given.now code.now
-        (config frame.old added.old (seen code.now.widths (F.feeds feed.old))))
+    ensures does { Stepped (place_of code.now rest.now) (step given.now code.now
+        (config (place_of code.now rest.now) frame.old added.old (seen code.now.widths (F.feeds feed.old))))
         frame.new added.new (seen code.now.widths (F.feeds feed.new)) result }
     ensures locals { length frame.new.locals ≡ length frame.old.locals }
     ensures room { frame.new.room ≡ frame.old.room }
@@ -53,7 +71,7 @@ fn turn<F: Feed>(
     ensures others { drop (length code.now.widths.inputs) (F.feeds feed.new) ≡
         drop (length code.now.widths.inputs) (F.feeds feed.old) }
 {
-    let instr = instr_at(instrs, frame.place());
+    let instr = first_of(rest);
     apply(frame, added, feed, given, code.widths(), instr)
 }
 
@@ -73,7 +91,7 @@ fn given_back(pool: &mut Pool, finish: Finish) -> Result<Called, NoMemory>
     }
 }
 
-/// Runs the code from where the frame stands. It calls itself through `call` for each helper that is open, so at most as
+/// Runs the code from its begin. It calls itself through `call` for each helper that is open, so at most as
 /// deep as helpers are high.
 #[cycle(go)]
 pub fn go<F: Feed>(
@@ -87,20 +105,22 @@ pub fn go<F: Feed>(
 ) -> Result<Finish, NoMemory>
     requires among { AreHelpers helpers.now }
     requires suits { Suits helpers.now given.now code.now }
-    requires ready { Ready code.now frame added.old (F.feeds feed.old) }
-    ensures runs { IfOk result (λ finish. Runs given.now helpers.now.routines code.now
-        (config frame added.old (seen code.now.widths (F.feeds feed.old)))
-        (end_of finish added.new (seen code.now.widths (F.feeds feed.new)))) }
+    requires ready { Ready code.now 0 frame added.old (F.feeds feed.old) }
+    ensures runs { IfOk result (λ finish. Finishes given.now helpers.now.routines code.now
+        (config 0 frame added.old (seen code.now.widths (F.feeds feed.old)))
+        finish added.new (seen code.now.widths (F.feeds feed.new))) }
     ensures fell { IfOk result (λ finish. FinishFell finish frame.fuel) }
     ensures rows { rows_of (F.feeds feed.new) ≡ rows_of (F.feeds feed.old) }
     ensures others { drop (length code.now.widths.inputs) (F.feeds feed.new) ≡
         drop (length code.now.widths.inputs) (F.feeds feed.old) }
 {
     let instrs = code.instrs();
+    let mut rest = instrs;
     let mut frame = frame;
     'steps: loop {
-        match turn(code, instrs, &mut frame, added, feed, given) {
-            MachineStep::On => {}
+        match turn(code, rest, &mut frame, added, feed, given) {
+            MachineStep::On => rest = behind_first(rest),
+            MachineStep::To(place) => rest = starting_at(instrs, place),
             MachineStep::Ended(value) => return Ok(Finish::Returned(value, frame)),
             MachineStep::Faulted(fault) => return Ok(Finish::Faulted(fault)),
             MachineStep::Calls(helper, count) => {
@@ -111,6 +131,7 @@ pub fn go<F: Feed>(
                     Called::Returned(value, fuel) => {
                         frame.set_fuel(fuel);
                         frame.push(value);
+                        rest = behind_first(rest);
                     }
                     Called::Faulted(fault) => return Ok(Finish::Faulted(fault)),
                 }
@@ -136,9 +157,9 @@ fn helper_of<'a>(helpers: &'a Helpers, given: &Given, helper: u32) -> &'a Code
 fn opened(pool: &mut Pool, code: &Code, args: Vec<i32>, fuel: u32) -> Result<Frame, NoMemory>
     requires { sees_nothing code.now ≡ true }
     ensures fuel { IfOk result (λ frame. frame.fuel ≡ fuel) }
-    ensures ready { IfOk result (λ frame. (feeds : List Fed) → Ready code.now frame nothing_added feeds) }
+    ensures ready { IfOk result (λ frame. (feeds : List Fed) → Ready code.now 0 frame nothing_added feeds) }
     ensures begins { IfOk result (λ frame. (feeds : List Fed) →
-        config frame nothing_added (seen code.now.widths feeds) ≡ entry args.items fuel) }
+        config 0 frame nothing_added (seen code.now.widths feeds) ≡ entry args.items fuel) }
 {
     let locals = filled(args, code.locals())?;
     let cells = pool.cells(code.instrs().len())?;

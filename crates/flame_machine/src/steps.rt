@@ -20,8 +20,10 @@ use flame_spec::{Fault, Widths};
 /// What a step came to.
 #[derive(Drop)]
 pub enum MachineStep {
-    /// The run goes on.
+    /// The run goes on at the next place.
     On,
+    /// It goes on at this place.
+    To(u32),
     /// It ended with this value.
     Ended(i32),
     /// It faulted.
@@ -32,30 +34,15 @@ pub enum MachineStep {
     Full,
 }
 
-/// On to the next place.
-#[inline(always)]
-fn on(frame: &mut Frame) -> MachineStep
-    requires { frame.old.place + 1 < 2 ^ 64 }
-    ensures on { result ≡ MachineStep.On }
-    ensures moved { frame.new ≡ record frame.old { place = frame.old.place + 1 } }
-{
-    frame.go_on();
-    MachineStep::On
-}
-
 /// On to the next place with the value on the stack.
 #[inline(always)]
 fn pushed(frame: &mut Frame, value: i32) -> MachineStep
-    requires place { frame.old.place + 1 < 2 ^ 64 }
     requires room { length frame.old.stack < frame.old.room }
     ensures on { result ≡ MachineStep.On }
-    ensures moved { frame.new ≡ record frame.old {
-      place = frame.old.place + 1;
-      stack = value ∷ frame.old.stack;
-    } }
+    ensures moved { frame.new ≡ record frame.old { stack = value ∷ frame.old.stack } }
 {
     frame.push(value);
-    on(frame)
+    MachineStep::On
 }
 
 /// A fault with its line.
@@ -69,7 +56,6 @@ fn fault(cause: Cause, line: u32) -> MachineStep
 /// The value on the stack, or a fault.
 #[inline(always)]
 fn held(frame: &mut Frame, value: Result<i32, Cause>, line: u32) -> MachineStep
-    requires place { frame.old.place + 1 < 2 ^ 64 }
     requires room { length frame.old.stack < frame.old.room }
     ensures does { StepsBy (push_held line value frame.old.stack) frame.old frame.new result }
     ensures locals { length frame.new.locals ≡ length frame.old.locals }
@@ -84,7 +70,6 @@ fn held(frame: &mut Frame, value: Result<i32, Cause>, line: u32) -> MachineStep
 /// The value of an operator in place of its operands.
 #[inline(always)]
 fn operate(frame: &mut Frame, op: Op, line: u32) -> MachineStep
-    requires place { frame.old.place + 1 < 2 ^ 64 }
     requires room { length frame.old.stack < frame.old.room }
     requires pops { 2 ≤ length frame.old.stack }
     ensures does { StepsBy (operating op line) frame.old frame.new result }
@@ -99,7 +84,6 @@ fn operate(frame: &mut Frame, op: Op, line: u32) -> MachineStep
 /// The top with the other sign.
 #[inline(always)]
 fn opposite(frame: &mut Frame, line: u32) -> MachineStep
-    requires place { frame.old.place + 1 < 2 ^ 64 }
     requires room { length frame.old.stack < frame.old.room }
     requires pops { 1 ≤ length frame.old.stack }
     ensures does { (g : Whole) (w : Wide) → StepsBy (act g w (Some (Instr.Neg line))) frame.old frame.new result }
@@ -131,7 +115,6 @@ fn element_of(index: i32, column: u32, count: u32) -> Option<usize>
 /// The element of the memory's array whose index is on the stack, in its place.
 #[inline(always)]
 fn load(frame: &mut Frame, line: u32, column: u32, count: u32) -> MachineStep
-    requires place { frame.old.place + 1 < 2 ^ 64 }
     requires room { length frame.old.stack < frame.old.room }
     requires pops { 1 ≤ length frame.old.stack }
     requires within { column + count ≤ length frame.old.memory }
@@ -153,7 +136,6 @@ fn load(frame: &mut Frame, line: u32, column: u32, count: u32) -> MachineStep
 /// The value on the stack into the element of the memory's array whose index lies under it.
 #[inline(always)]
 fn store(frame: &mut Frame, line: u32, column: u32, count: u32) -> MachineStep
-    requires place { frame.old.place + 1 < 2 ^ 64 }
     requires pops { 2 ≤ length frame.old.stack }
     requires within { column + count ≤ length frame.old.memory }
     ensures does { (g : Whole) (w : Wide) →
@@ -166,7 +148,7 @@ fn store(frame: &mut Frame, line: u32, column: u32, count: u32) -> MachineStep
     match element_of(index, column, count) {
         Some(place) => {
             frame.set_column(place, value);
-            on(frame)
+            MachineStep::On
         }
         None => fault(Cause::BadIndex, line),
     }
@@ -175,7 +157,6 @@ fn store(frame: &mut Frame, line: u32, column: u32, count: u32) -> MachineStep
 /// The top once more.
 #[inline(always)]
 fn again(frame: &mut Frame) -> MachineStep
-    requires place { frame.old.place + 1 < 2 ^ 64 }
     requires room { length frame.old.stack < frame.old.room }
     requires pops { 1 ≤ length frame.old.stack }
     ensures does { (g : Whole) (w : Wide) → StepsBy (act g w (Some Instr.Dup)) frame.old frame.new result }
@@ -190,24 +171,21 @@ fn again(frame: &mut Frame) -> MachineStep
 /// To the place where the top is 0, else on.
 #[inline(always)]
 fn jump_zero(frame: &mut Frame, to: u32) -> MachineStep
-    requires place { frame.old.place + 1 < 2 ^ 64 }
     requires pops { 1 ≤ length frame.old.stack }
     ensures does { (g : Whole) (w : Wide) → StepsBy (act g w (Some (Instr.JumpZero to))) frame.old frame.new result }
     ensures locals { length frame.new.locals ≡ length frame.old.locals }
     ensures room { frame.new.room ≡ frame.old.room }
 {
     if frame.pop() == 0 {
-        frame.go_to(to);
+        MachineStep::To(to)
     } else {
-        frame.go_on();
+        MachineStep::On
     }
-    MachineStep::On
 }
 
 /// To the place where the top is not 0, else on.
 #[inline(always)]
 fn jump_not_zero(frame: &mut Frame, to: u32) -> MachineStep
-    requires place { frame.old.place + 1 < 2 ^ 64 }
     requires pops { 1 ≤ length frame.old.stack }
     ensures does { (g : Whole) (w : Wide) →
         StepsBy (act g w (Some (Instr.JumpNotZero to))) frame.old frame.new result }
@@ -215,17 +193,15 @@ fn jump_not_zero(frame: &mut Frame, to: u32) -> MachineStep
     ensures room { frame.new.room ≡ frame.old.room }
 {
     if frame.pop() == 0 {
-        frame.go_on();
+        MachineStep::On
     } else {
-        frame.go_to(to);
+        MachineStep::To(to)
     }
-    MachineStep::On
 }
 
 /// One unit of fuel is paid, or there is none.
 #[inline(always)]
 fn pay(frame: &mut Frame, line: u32) -> MachineStep
-    requires place { frame.old.place + 1 < 2 ^ 64 }
     ensures does { StepsBy (λ c. paying line c (λ d. going d.stack d)) frame.old frame.new result }
     ensures locals { length frame.new.locals ≡ length frame.old.locals }
     ensures room { frame.new.room ≡ frame.old.room }
@@ -235,14 +211,13 @@ fn pay(frame: &mut Frame, line: u32) -> MachineStep
         return fault(Cause::Fuel, line);
     }
     frame.set_fuel(fuel - 1);
-    on(frame)
+    MachineStep::On
 }
 
 /// A call of a helper is paid, or there is no fuel for it.
 #[inline(always)]
 #[tactic(auto, using(crate::proofs::Pops::row_there))]
 fn pay_call(frame: &mut Frame, line: u32, helper: u32, count: u32) -> MachineStep
-    requires place { frame.old.place + 1 < 2 ^ 64 }
     requires room { length frame.old.stack < frame.old.room }
     requires pops { count ≤ length frame.old.stack }
     ensures does { (g : Whole) (w : Wide) →
@@ -255,20 +230,18 @@ fn pay_call(frame: &mut Frame, line: u32, helper: u32, count: u32) -> MachineSte
         return fault(Cause::Fuel, line);
     }
     frame.set_fuel(fuel - 1);
-    frame.go_on();
     MachineStep::Calls(helper, count)
 }
 
 /// A number of the current row.
 #[inline(always)]
 fn read_field<F: Feed>(frame: &mut Frame, feed: &F, input: u32, column: u32) -> MachineStep
-    requires place { frame.old.place + 1 < 2 ^ 64 }
     requires room { length frame.old.stack < frame.old.room }
     requires there { IsSome (field input column (F.feeds feed.now)) }
     ensures does { (g : Whole) (w : Wide) (feeds : List Fed)
         → field input column feeds ≡ field input column (F.feeds feed.now)
-        → (added : Additions) → Stepped (act g w (Some (Instr.Field input column)) (config frame.old added feeds))
-        frame.new added feeds result }
+        → (place : ℕ) (added : Additions) → Stepped place (act g w (Some (Instr.Field input column))
+        (config place frame.old added feeds)) frame.new added feeds result }
     ensures locals { length frame.new.locals ≡ length frame.old.locals }
     ensures room { frame.new.room ≡ frame.old.room }
 {
@@ -286,15 +259,14 @@ fn load_field<F: Feed>(
     count: u32,
     width: u32,
 ) -> MachineStep
-    requires place { frame.old.place + 1 < 2 ^ 64 }
     requires room { length frame.old.stack < frame.old.room }
     requires pops { 1 ≤ length frame.old.stack }
     requires within { column + count ≤ width }
     requires there { (v : ℕ) → column ≤ v → v < column + count → IsSome (field input v (F.feeds feed.now)) }
     ensures does { (g : Whole) (w : Wide) (feeds : List Fed)
         → ((v : ℕ) → field input v feeds ≡ field input v (F.feeds feed.now))
-        → (added : Additions) → Stepped (act g w (Some (Instr.FieldAt line input column count))
-        (config frame.old added feeds)) frame.new added feeds result }
+        → (place : ℕ) (added : Additions) → Stepped place (act g w (Some (Instr.FieldAt line input column count))
+        (config place frame.old added feeds)) frame.new added feeds result }
     ensures locals { length frame.new.locals ≡ length frame.old.locals }
     ensures room { frame.new.room ≡ frame.old.room }
 {
@@ -311,7 +283,6 @@ fn load_field<F: Feed>(
 /// The input's next row, which is paid, or the place behind the loop.
 #[inline(always)]
 fn next_row<F: Feed>(frame: &mut Frame, feed: &mut F, line: u32, input: u32, to: u32) -> MachineStep
-    requires place { frame.old.place + 1 < 2 ^ 64 }
     requires there { input < length (F.feeds feed.old) }
     ensures does { StepsBy (deliver (has_next input (F.feeds feed.old)) line to) frame.old frame.new result }
     ensures moved { F.feeds feed.new ≡ at_next input (F.feeds feed.old) }
@@ -321,20 +292,18 @@ fn next_row<F: Feed>(frame: &mut Frame, feed: &mut F, line: u32, input: u32, to:
     if feed.advance(input) {
         return pay(frame, line);
     }
-    frame.go_to(to);
-    MachineStep::On
+    MachineStep::To(to)
 }
 
 /// The message that lies on the stack is sent.
 #[inline(always)]
 #[tactic(auto, using(crate::proofs::Pops::row_there))]
 fn send(frame: &mut Frame, added: &mut Added, widths: &Widths, message: u32) -> MachineStep
-    requires place { frame.old.place + 1 < 2 ^ 64 }
     requires room { length frame.old.stack < frame.old.room }
     requires there { message < length widths.now.messages }
     requires pops { slice_index widths.now.messages message ≤ length frame.old.stack }
-    ensures does { (g : Whole) (feeds : List Fed) → Stepped (act g widths.now (Some (Instr.Send message))
-        (config frame.old added.old feeds)) frame.new added.new feeds result }
+    ensures does { (g : Whole) (place : ℕ) (feeds : List Fed) → Stepped place (act g widths.now (Some (Instr.Send message))
+        (config place frame.old added.old feeds)) frame.new added.new feeds result }
     ensures locals { length frame.new.locals ≡ length frame.old.locals }
     ensures room { frame.new.room ≡ frame.old.room }
 {
@@ -346,19 +315,18 @@ fn send(frame: &mut Frame, added: &mut Added, widths: &Widths, message: u32) -> 
     if added.send(message, row).is_err() {
         return MachineStep::Full;
     }
-    on(frame)
+    MachineStep::On
 }
 
 /// The agent whose memory lies on the stack is born.
 #[inline(always)]
 #[tactic(auto, using(crate::proofs::Pops::row_there))]
 fn bear(frame: &mut Frame, added: &mut Added, widths: &Widths, agent: u32) -> MachineStep
-    requires place { frame.old.place + 1 < 2 ^ 64 }
     requires room { length frame.old.stack < frame.old.room }
     requires there { agent < length widths.now.agents }
     requires pops { slice_index widths.now.agents agent ≤ length frame.old.stack }
-    ensures does { (g : Whole) (feeds : List Fed) → Stepped (act g widths.now (Some (Instr.Bear agent))
-        (config frame.old added.old feeds)) frame.new added.new feeds result }
+    ensures does { (g : Whole) (place : ℕ) (feeds : List Fed) → Stepped place (act g widths.now (Some (Instr.Bear agent))
+        (config place frame.old added.old feeds)) frame.new added.new feeds result }
     ensures locals { length frame.new.locals ≡ length frame.old.locals }
     ensures room { frame.new.room ≡ frame.old.room }
 {
@@ -370,7 +338,7 @@ fn bear(frame: &mut Frame, added: &mut Added, widths: &Widths, agent: u32) -> Ma
     if added.bear(agent, row).is_err() {
         return MachineStep::Full;
     }
-    on(frame)
+    MachineStep::On
 }
 
 /// One instruction.
@@ -384,7 +352,6 @@ pub fn apply<F: Feed>(
     widths: &Widths,
     instr: &Instr,
 ) -> MachineStep
-    requires place { frame.old.place + 1 < 2 ^ 64 }
     requires room { length frame.old.stack < frame.old.room }
     requires pops { takes widths.now instr.now ≤ length frame.old.stack }
     requires within { IsWithin widths.now instr.now }
@@ -393,8 +360,8 @@ pub fn apply<F: Feed>(
     requires constants { length given.now.constants ≡ widths.now.constants }
     requires inputs { length widths.now.inputs ≤ length (F.feeds feed.old) }
     requires fields { HasFields instr.now (F.feeds feed.old) }
-    ensures does { Stepped (act given.now widths.now (Some instr.now)
-        (config frame.old added.old (seen widths.now (F.feeds feed.old))))
+    ensures does { (place : ℕ) → Stepped place (act given.now widths.now (Some instr.now)
+        (config place frame.old added.old (seen widths.now (F.feeds feed.old))))
         frame.new added.new (seen widths.now (F.feeds feed.new)) result }
     ensures locals { length frame.new.locals ≡ length frame.old.locals }
     ensures room { frame.new.room ≡ frame.old.room }
@@ -407,7 +374,7 @@ pub fn apply<F: Feed>(
         Instr::Dup => again(frame),
         Instr::Drop => {
             let _dropped = frame.pop();
-            on(frame)
+            MachineStep::On
         }
         Instr::Loc(local) => {
             let value = frame.local(local);
@@ -416,7 +383,7 @@ pub fn apply<F: Feed>(
         Instr::SetLoc(local) => {
             let value = frame.pop();
             frame.set_local(local, value);
-            on(frame)
+            MachineStep::On
         }
         Instr::Mem(column) => {
             let value = frame.column(column as usize);
@@ -425,7 +392,7 @@ pub fn apply<F: Feed>(
         Instr::SetMem(column) => {
             let value = frame.pop();
             frame.set_column(column as usize, value);
-            on(frame)
+            MachineStep::On
         }
         Instr::MemAt(line, column, count) => load(frame, line, column, count),
         Instr::SetMemAt(line, column, count) => store(frame, line, column, count),
@@ -452,19 +419,16 @@ pub fn apply<F: Feed>(
         Instr::Ge => operate(frame, Op::Ge, 0),
         Instr::Eq => operate(frame, Op::Eq, 0),
         Instr::Ne => operate(frame, Op::Ne, 0),
-        Instr::Jump(to) => {
-            frame.go_to(to);
-            MachineStep::On
-        }
+        Instr::Jump(to) => MachineStep::To(to),
         Instr::JumpZero(to) => jump_zero(frame, to),
         Instr::JumpNotZero(to) => jump_not_zero(frame, to),
         Instr::Pay(line) => pay(frame, line),
         Instr::Enter(input) => {
             feed.begin(input);
-            on(frame)
+            MachineStep::On
         }
         Instr::Next(line, input, to) => next_row(frame, feed, line, input, to),
-        Instr::Leave(_) => on(frame),
+        Instr::Leave(_) => MachineStep::On,
         Instr::Send(message) => send(frame, added, widths, message),
         Instr::Bear(agent) => bear(frame, added, widths, agent),
         Instr::Call(line, helper, count) => pay_call(frame, line, helper, count),

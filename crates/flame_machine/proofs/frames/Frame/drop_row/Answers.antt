@@ -18,7 +18,6 @@ returns-then-count-gt0 c =
     let le : count ≤ height = omega (arith, tall, ap (λ (x : Framed). length x.stack) c.self.view_is, c.requires) in
     let rest = rest_of cells height count c.self.inside.top below (omega (arith, c.if-count-gt0.true)) le c.self.invariant in
     let with_stack : List ℤ → Framed = λ stack. record {
-      place = c.self.inside.place;
       stack = stack;
       room = length cells;
       locals = c.self.inside.locals.items;

@@ -12,16 +12,17 @@ use Rattle.flame_machine.proofs.rooms.Room.run_into.Goals as goal
 pub go-requires-clause-ready : goal.go-requires-clause-ready
 go-requires-clause-ready g c =
     let feeds = g.F.Feed.feeds c.args.feed.now in
-    subst (λ (x : Additions). Ready c.args.code.now c.in_ok-frame.frame x feeds) (sym c.fresh_added-added.ensures)
+    subst (λ (x : Additions). Ready c.args.code.now 0 c.in_ok-frame.frame x feeds) (sym c.fresh_added-added.ensures)
     (c.in_ok-frame.ensures.ready feeds c.requires.entry.rows)
 
 pub returns-clause-ran : goal.returns-clause-ran
 returns-clause-ran g c =
     let feeds = g.F.Feed.feeds c.args.feed.now in
     let after = seen c.args.code.now.widths (g.F.Feed.feeds c.go.new.feed) in
-    let end = end_of c.in_ok-finish.finish c.go.new.added after in
+    let place = c.in_ok-finish.ensures.runs.place in
+    let end = end_of place c.in_ok-finish.finish c.go.new.added after in
     let begins =
-    ap (λ (x : Additions). config c.in_ok-frame.frame x (seen c.args.code.now.widths feeds)) c.fresh_added-added.ensures
+    ap (λ (x : Additions). config 0 c.in_ok-frame.frame x (seen c.args.code.now.widths feeds)) c.fresh_added-added.ensures
     ∙ c.in_ok-frame.ensures.begins feeds c.requires.entry.rows in
     let fits : SFits w32 c.args.iteration = search rules in
     let given =
@@ -33,10 +34,10 @@ returns-clause-ran g c =
         end = end;
         runs =
             subst (λ (x : Given). Runs x c.args.helpers.now.routines c.args.code.now (begun c.args.memory.now feeds c.args.fuel) end) given
-            (subst (λ (x : Config). Runs c.of-given.result c.args.helpers.now.routines c.args.code.now x end) begins c.in_ok-finish.ensures.runs);
+            (subst (λ (x : Config). Runs c.of-given.result c.args.helpers.now.routines c.args.code.now x end) begins c.in_ok-finish.ensures.runs.runs);
         same = refl;
       };
-      ends = c.in_ok-ending.ensures.ends after;
-      messages = c.in_ok-ending.ensures.sent after;
-      births = c.in_ok-ending.ensures.born after;
+      ends = c.in_ok-ending.ensures.ends place after;
+      messages = c.in_ok-ending.ensures.sent place after;
+      births = c.in_ok-ending.ensures.born place after;
     }
