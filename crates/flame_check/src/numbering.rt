@@ -56,6 +56,30 @@ fn definer<'a>(tables: &Tables<'a>, function: &Function) -> Option<CFunction<'a>
     tables.defined(function)
 }
 
+/// The body of the function of the model of this number, which stands in this place and has that of this C function. The
+/// files have no faults, so nothing but want of memory fails.
+fn defined_function<'a>(
+    alloc: Global,
+    tables: &Tables<'a>,
+    rows: &Rows<'_>,
+    number: u32,
+    place: &Transition<'_>,
+    function: &CFunction<'a>,
+) -> Result<Body, Fail<CheckFault>>
+    requires rows { rows.now ≡ tables.now.model }
+    requires place { slice_get (functions tables.now.model) number ≡ Some (place_found place.now) }
+    requires found { Some (definition_found function.now) ≡ (if is_idle place.now.function.now
+        then None else find (is_for place.now.function.now) (definitions tables.now.units)) }
+    requires clean { check_faults tables.now.model tables.now.units ≡ [] }
+    ensures stands { IfOk result (λ body.
+        body ≡ function_body tables.now.model tables.now.units number (place_found place.now)) }
+    ensures none { IfErr result (FailsFirst []) }
+{
+    let words = tables.for_function(alloc, number, function.file)?;
+    let widths = rows.of_function(alloc, place)?;
+    body(alloc, &words, function, number, widths)
+}
+
 /// The body of the function of the model of this number, which stands in this place. The files have no faults, so
 /// nothing but want of memory fails.
 fn numbered_function(
@@ -72,13 +96,12 @@ fn numbered_function(
         body ≡ function_body tables.now.model tables.now.units number (place_found place.now)) }
     ensures none { IfErr result (FailsFirst []) }
 {
-    let widths = rows.of_function(alloc, place)?;
     match definer(tables, place.function) {
-        Some(function) => {
-            let words = tables.for_function(alloc, number, function.file)?;
-            body(alloc, &words, &function, number, widths)
+        Some(function) => defined_function(alloc, tables, rows, number, place, &function),
+        None => {
+            let widths = rows.of_function(alloc, place)?;
+            Ok(Body::of(number, widths, Seq::of(Vec::new(alloc))))
         }
-        None => Ok(Body::of(number, widths, Seq::of(Vec::new(alloc)))),
     }
 }
 

@@ -11,6 +11,7 @@ pub mod Classes
 pub mod WordKinds
 pub mod Lines
 pub mod Defining
+pub mod ReadLines
 pub mod Unique
 pub mod Apart
 pub mod Readings

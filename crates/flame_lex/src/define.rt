@@ -12,7 +12,7 @@ use crate::scan::{behind_close, space_length, word_length};
 use flame_rows::Text;
 
 /// A word and the number that a define line gives it.
-#[derive(Debug, Drop)]
+#[derive(Drop)]
 pub(crate) struct Define {
     pub name: Text,
     pub value: i32,

@@ -4,7 +4,7 @@ use crate::define::Define;
 use crate::token::Kind;
 
 /// What a piece is to the tokens.
-#[derive(Debug, Drop)]
+#[derive(Drop)]
 pub(crate) enum Found {
     /// A blank, a comment or an include line.
     Gap,
