@@ -5,7 +5,7 @@ use Rattle.std.proofs.lemmas.Bool.{eqb-true, eq-eqb, true≢false, false≢true}
 use Rattle.std.proofs.lemmas.List.{nil_from_length}
 use Rattle.std.proofs.lemmas.Option.{slice_get_within}
 use Rattle.flame_spec.specs.declared.models.Model.{Model}
-use Rattle.flame_spec.specs.Before.{function_count}
+use Rattle.flame_spec.specs.Before.{before, function_count}
 use Rattle.flame_spec.specs.Below.{is_in}
 use Rattle.flame_spec.specs.Functions.{Place, functions}
 use Rattle.flame_spec.specs.ModelOrder.{model_order}
@@ -27,6 +27,7 @@ use Rattle.flame_events.proofs.Spots.{writes_before}
 use Rattle.flame_orders.proofs.Lasting.{led_on}
 use Rattle.flame_flow.specs.BegunPieces.{with_number}
 use Rattle.flame_flow.specs.Goings.{AreWaysOf, Going, with_legal, with_frozen, with_pieces, with_one_opened, with_opened, with_behind, with_shut, GoesOn, work_left}
+use Rattle.flame_flow.proofs.Places.{stands_below}
 use Rattle.flame_flow.proofs.Left.{left_no_shut, left_no_freeze, left_no_open, left_shut, left_freeze, left_open, left_empty}
 use Rattle.flame_flow.proofs.Marked.{whole_open, whole_shut, marks_empty, marks_open, marks_shut, marks_freeze}
 
@@ -200,14 +201,17 @@ module _ (round : Round) (pieces : ℕ) (some : 0 < pieces) where
         shut : Going
         shut = record { core = last; due = due; over = over }
 
+        leads : (f g : ℕ) → before model f g ≡ true → is_in g (slice_index_or next f []) ≡ true
+        leads f g stands = ways.next_are f g (stands_below model f g stands).0 ∙ stands
+
         go : (b : Bool) → is_legal model core (event.Shut f) ≡ b
             → Opens begun [] (record { core = core; due = due; over = over })
             (cond b (with_behind round pieces ranks next f shut) (record { core = core; due = due; over = over }))
         go true legal =
             let frozen = freeze_all begun (outputs_of model f) (slice_index_or next f []) shut (known_after round pieces core (event.Shut f) known legal)
-            (λ m g writes less reads. ways.next_are f g (writes_before model f g m (writer_below model f m writes) less writes reads))
+            (λ m g writes less reads. leads f g (writes_before model f g m (writer_below model f m writes) less writes reads))
             (record {
-              left = left_shut round pieces core known.led f over [] [] (outputs_of model f) (slice_index_or next f []) legal (λ m within. within) (λ g stands. ways.next_are f g stands) goes.left;
+              left = left_shut round pieces core known.led f over [] [] (outputs_of model f) (slice_index_or next f []) legal (λ m within. within) (leads f) goes.left;
               whole = whole_shut round pieces core some known.led f legal goes.whole;
               marks = marks_shut round pieces core some known.led begun due f legal goes.marks;
             }) in

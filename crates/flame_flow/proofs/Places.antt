@@ -1,15 +1,15 @@
 -- Numbers at places of lists.
-use Rattle.std.proofs.Common.{◌≡◌, ℕ, zero, suc, ◌+◌, ◌<◌, ◌≤◌, ⊎_elim, Bool, true, false, cond, List, [], ◌∷◌, ◌++◌, length, map, get_or, take, drop, Option, Some, None, refl, sym, ap, ◌∙◌, subst, arith, get_or-set_same, get_or-set_other, length-set}
-use Rattle.std.specs.Prelude.{◌==◌, ◌&&◌, ◌||◌, nat_lt, slice_get, slice_index, slice_index_or, slice_set}
-use Rattle.std.specs.List.Sorted.{IsPartitionedBy}
-use Rattle.std.proofs.lemmas.Grind.{get_or_default_zero}
-use Rattle.std.proofs.lemmas.Bool.{and_from, cases_eq, cases_lt, ne_eqb, or_from, or_left, or_right, eq-eqb, lt-ltb, le-ltb, ltb-true, false≢true}
+use Rattle.std.proofs.Common.{◌≡◌, ℕ, zero, suc, ◌+◌, ◌<◌, ◌≤◌, ⊎_elim, Bool, true, false, cond, List, [], ◌∷◌, ◌++◌, length, map, get_or, take, drop, Option, Some, None, refl, sym, ap, ◌∙◌, arith, get_or-set_same, get_or-set_other, length-set}
+use Rattle.std.specs.Prelude.{◌==◌, ◌&&◌, ◌||◌, ◌↔◌, nat_lt, slice_get, slice_index, slice_index_or, slice_set, IsSome, IfSome}
+use Rattle.std.specs.Ordering.{match_ordering, nat_cmp}
+use Rattle.std.specs.declared.cmp.Ordering.TheVariants.{Less, Equal, Greater}
+use Rattle.std.specs.BTreeSet.{insert_key}
+use Rattle.std.proofs.lemmas.Bool.{and_from, cases_eq, cases_lt, ne_eqb, or_from, or_left, or_right, eq-eqb, eqb-true, lt-ltb, le-ltb, false≢true}
 use Rattle.std.proofs.Math.Bool.{or-false}
 use Rattle.std.proofs.lemmas.List.{map-set, take_more}
 use Rattle.std.proofs.lemmas.List.Folds.{list_any-append}
 use Rattle.std.proofs.lemmas.Option.{slice_get_past}
 use Rattle.flame_rows.proofs.Lists.{slice_index_or-map}
-use Rattle.flame_meaning.specs.RangeLaws.{Each}
 use Rattle.flame_spec.specs.declared.models.Model.{Model}
 use Rattle.flame_spec.specs.Before.{before, both_stand, function_count}
 use Rattle.flame_spec.specs.Below.{all_below, is_in}
@@ -17,61 +17,26 @@ use Rattle.flame_spec.specs.Functions.{Place, functions}
 use Rattle.flame_spec.proofs.FirstBelow.{is_in-all_below, is_in_push}
 use Rattle.flame_depend.specs.declared.pairs.Edge.{Edge}
 use Rattle.flame_depend.specs.Edges.{edges_below, edges_of, edges_to}
-use Rattle.flame_events.proofs.Serial.{is_in-cases}
-use Rattle.flame_flow.specs.BegunPieces.{IsRising, with_number}
+use Rattle.flame_flow.specs.BegunPieces.{with_number}
 use Rattle.flame_flow.specs.KeptWays.{has_edge, with_added}
 
 -- ---- a number in order
 
-pub number_here : (number : ℕ) (numbers : List ℕ) (place : ℕ) → place ≤ length numbers
-    → ((k : ℕ) → k < place → slice_index numbers k < number)
-    → (place < length numbers → number < slice_index numbers place)
-    → with_number number numbers ≡ take place numbers ++ number ∷ drop place numbers
-number_here number [] zero within less more = refl
-number_here number [] (suc place) within less more = absurd (omega (arith, within))
-number_here number (n ∷ numbers) zero within less more =
-    ap (λ t. cond t (number ∷ n ∷ numbers) (cond (number == n) (n ∷ numbers) (n ∷ with_number number numbers))) (lt-ltb number n (more (omega arith)))
-number_here number (n ∷ numbers) (suc place) within less more =
-    let first : n < number = less 0 (omega arith) in
-    (λ i. cond (le-ltb number n (omega arith) i) (number ∷ n ∷ numbers) (cond (ne_eqb number n (greater first) i) (n ∷ numbers) (n ∷ with_number number numbers)))
-    ∙ ap (λ l. n ∷ l) (number_here number numbers place (omega (arith, within)) (λ k below. less (suc k) (omega arith)) (λ below. more (omega arith)))
+pub key_inserted : (keys : List ℕ) (number : ℕ) → insert_key nat_cmp keys number ≡ with_number number keys
+key_inserted [] number = refl
+key_inserted (n ∷ keys) number = go (key_inserted keys number) (nat_lt number n) (number == n)
   where
-    greater : n < number → number ≡ n → ⊥
-    greater first same = omega (arith, first, same)
+    go : insert_key nat_cmp keys number ≡ with_number number keys
+        → (less same : Bool)
+        → match_ordering (cond less Less (cond same Equal Greater)) (number ∷ n ∷ keys) (n ∷ keys) (n ∷ insert_key nat_cmp keys number)
+        ≡ cond less (number ∷ n ∷ keys) (cond same (n ∷ keys) (n ∷ with_number number keys))
+    go later true same = refl
+    go later false true = refl
+    go later false false = ap (λ l. n ∷ l) later
 
-pub number_there : (number : ℕ) (numbers : List ℕ) (place : ℕ) → place < length numbers
-    → ((k : ℕ) → k < place → slice_index numbers k < number)
-    → slice_index numbers place ≡ number
-    → with_number number numbers ≡ numbers
-number_there number [] place within less is = absurd (omega (arith, within))
-number_there number (n ∷ numbers) zero within less is =
-    (λ i. cond (le-ltb number n (omega (arith, is)) i) (number ∷ n ∷ numbers) (cond (eq-eqb number n (sym is) i) (n ∷ numbers) (n ∷ with_number number numbers)))
-number_there number (n ∷ numbers) (suc place) within less is =
-    let first : n < number = less 0 (omega arith) in
-    (λ i. cond (le-ltb number n (omega arith) i) (number ∷ n ∷ numbers) (cond (ne_eqb number n (greater first) i) (n ∷ numbers) (n ∷ with_number number numbers)))
-    ∙ ap (λ l. n ∷ l) (number_there number numbers place (omega (arith, within)) (λ k below. less (suc k) (omega arith)) is)
-  where
-    greater : n < number → number ≡ n → ⊥
-    greater first same = omega (arith, first, same)
-
--- where numbers rise, those that are less than one stand before all others
-rising_at : (numbers : List ℕ) (i j : ℕ) → IsRising numbers → i ≤ j → j < length numbers → slice_index numbers i ≤ slice_index numbers j
-rising_at [] i j rising before within = absurd (omega (arith, within))
-rising_at (n ∷ numbers) zero zero rising before within = omega arith
-rising_at (n ∷ numbers) zero (suc j) rising before within = let less = above_at n numbers j rising.0 (omega (arith, within)) in omega arith
-  where
-    above_at : (n : ℕ) (numbers : List ℕ) (j : ℕ) → Each (λ other. n < other) numbers → j < length numbers → n < slice_index numbers j
-    above_at n [] j all within = absurd (omega (arith, within))
-    above_at n (m ∷ numbers) zero all within = all.0
-    above_at n (m ∷ numbers) (suc j) all within = above_at n numbers j all.1 (omega (arith, within))
-rising_at (n ∷ numbers) (suc i) zero rising before within = absurd (omega (arith, before))
-rising_at (n ∷ numbers) (suc i) (suc j) rising before within = rising_at numbers i j rising.1 (omega (arith, before)) (omega (arith, within))
-
-pub parted_less : (number : ℕ) (numbers : List ℕ) → IsRising numbers → IsPartitionedBy (λ other. nat_lt other number) numbers
-parted_less number numbers rising i j d before within less =
-    let later : get_or numbers j 0 < number = subst (λ k. k < number) (get_or_default_zero numbers j d within) (ltb-true _ number less) in
-    let first : get_or numbers i 0 ≤ get_or numbers j 0 = rising_at numbers i j rising before within in
-    ap (λ k. nat_lt k number) (get_or_default_zero numbers i d (omega arith)) ∙ lt-ltb (get_or numbers i 0) number (omega arith)
+pub taken_first : (found : Option ℕ) (keys left : List ℕ) → 0 < length keys → IsSome found ↔ (0 < length keys) → IfSome found (λ k. keys ≡ k ∷ left) → left ≡ drop 1 keys
+taken_first None keys left some there is = absurd (false≢true (there.1 some))
+taken_first (Some found) keys left some there is = sym (ap (drop 1) is)
 
 -- ---- one number more
 
@@ -161,30 +126,38 @@ next_more count edges k e lists new less is old = record {
         ∙ ap (λ b. has_edge f g (take k edges) || (b && ((get_or edges k e).after == g))) (sym (eq-eqb (get_or edges k e).before f (sym same)))
         ∙ sym (has_more f g edges k e less)
 
--- an edge of a model for each function that stands before another
-to_has : (f g : ℕ) (targets : List ℕ) → is_in g targets ≡ true → has_edge f g (edges_to f targets) ≡ true
-to_has f g [] within = absurd (false≢true within)
-to_has f g (t ∷ targets) within = ⊎_elim
-    (λ (same : g ≡ t). or_left ((f == f) && (t == g)) (has_edge f g (edges_to f targets)) (and_from (f == f) (t == g) (eq-eqb f f refl) (eq-eqb t g (sym same))))
-    (λ (later : is_in g targets ≡ true). or_right ((f == f) && (t == g)) (has_edge f g (edges_to f targets)) (to_has f g targets later))
-    (is_in-cases g t targets within)
-
-below_has : (n : ℕ) (stands : ℕ → ℕ → Bool) (k f g : ℕ) → f < k → g < n → stands f g ≡ true → has_edge f g (edges_below k n stands) ≡ true
-below_has n stands zero f g less within is = absurd (omega arith)
-below_has n stands (suc k) f g less within is =
-    list_any-append (λ (e : Edge). (e.before == f) && (e.after == g)) (edges_below k n stands) (edges_to k (all_below (stands k) n))
-    ∙ ⊎_elim
-    (λ (same : f ≡ k).
-    or_right (has_edge f g (edges_below k n stands)) (has_edge f g (edges_to k (all_below (stands k) n)))
-    (subst (λ h. has_edge f g (edges_to h (all_below (stands h) n)) ≡ true) same
-    (to_has f g (all_below (stands f) n) (is_in-all_below (stands f) n g ∙ and_from (nat_lt g n) (stands f g) (lt-ltb g n within) is))))
-    (λ (apart : f ≡ k → ⊥).
-    or_left (has_edge f g (edges_below k n stands)) (has_edge f g (edges_to k (all_below (stands k) n)))
-    (below_has n stands k f g (earlier apart) within is))
-    (cases_eq f k)
+-- an edge of a model for each function that stands before another, and no others
+to_is : (h f g : ℕ) (targets : List ℕ) → has_edge f g (edges_to h targets) ≡ ((h == f) && is_in g targets)
+to_is h f g [] = sym (none (h == f))
   where
-    earlier : (f ≡ k → ⊥) → f < k
-    earlier apart = omega arith
+    none : (b : Bool) → (b && false) ≡ false
+    none true = refl
+    none false = refl
+to_is h f g (t ∷ targets) = ap (λ b. ((h == f) && (t == g)) || b) (to_is h f g targets) ∙ parted (h == f) (t == g) (is_in g targets)
+  where
+    parted : (a b c : Bool) → ((a && b) || (a && c)) ≡ (a && (b || c))
+    parted true b c = refl
+    parted false b c = refl
+
+below_is : (n : ℕ) (stands : ℕ → ℕ → Bool) (k f g : ℕ) → has_edge f g (edges_below k n stands) ≡ (nat_lt f k && (nat_lt g n && stands f g))
+below_is n stands zero f g = sym (ap (λ b. b && (nat_lt g n && stands f g)) (le-ltb f zero (omega arith)))
+below_is n stands (suc k) f g =
+    list_any-append (λ (e : Edge). (e.before == f) && (e.after == g)) (edges_below k n stands) (edges_to k (all_below (stands k) n))
+    ∙ ap (λ b. b || has_edge f g (edges_to k (all_below (stands k) n))) (below_is n stands k f g)
+    ∙ ap (λ b. (nat_lt f k && (nat_lt g n && stands f g)) || b) (to_is k f g (all_below (stands k) n) ∙ here (k == f) refl)
+    ∙ joined (nat_lt f k) (k == f) (nat_lt g n && stands f g)
+    ∙ ap (λ b. b && (nat_lt g n && stands f g)) (below_more f k ∙ ap (nat_lt f) (omega arith))
+  where
+    here : (b : Bool) → (k == f) ≡ b → (b && is_in g (all_below (stands k) n)) ≡ (b && (nat_lt g n && stands f g))
+    here false apart = refl
+    here true same = is_in-all_below (stands k) n g ∙ ap (λ h. nat_lt g n && stands h g) (eqb-true k f same)
+
+    joined : (a b c : Bool) → ((a && c) || (b && c)) ≡ ((a || b) && c)
+    joined true true true = refl
+    joined true true false = refl
+    joined true false true = refl
+    joined true false false = refl
+    joined false b c = refl
 
 -- functions that stand before one another are functions of the model
 pub stands_below : (model : Model) (f g : ℕ) → before model f g ≡ true → (f < function_count model) × (g < function_count model)
@@ -203,10 +176,19 @@ stands_below model f g is = (
     none_after None = refl
     none_after (Some place) = refl
 
-pub edges_has : (model : Model) (f g : ℕ) → before model f g ≡ true → has_edge f g (edges_of model) ≡ true
-edges_has model f g is =
-    let below = stands_below model f g is in
-    below_has (function_count model) (before model) (function_count model) f g below.0 below.1 is
+pub edges_are : (model : Model) (f g : ℕ) → f < function_count model → has_edge f g (edges_of model) ≡ before model f g
+edges_are model f g less =
+    below_is (function_count model) (before model) (function_count model) f g
+    ∙ ap (λ b. b && (nat_lt g (function_count model) && before model f g)) (lt-ltb f (function_count model) less)
+    ∙ within (before model f g) refl
+  where
+    none : (b : Bool) → (b && false) ≡ false
+    none true = refl
+    none false = refl
+
+    within : (b : Bool) → before model f g ≡ b → (nat_lt g (function_count model) && b) ≡ b
+    within true is = and_from (nat_lt g (function_count model)) true (lt-ltb g (function_count model) (stands_below model f g is).1) refl
+    within false is = none (nat_lt g (function_count model))
 
 -- ---- ranks
 

@@ -82,7 +82,7 @@ pub record IsJobOf (seen : Seen) (function piece : ℕ) (job : Job) : Type 0 whe
 abbrev pub with_begun : ℕ → ℕ → SeenFlow → SeenFlow
 with_begun function piece flow = record flow { begun = slice_set flow.begun function (piece + 1) }
 
--- a call found no memory, or somebody said that it ends [own]
+-- a begin, settle or take_in found no memory, or somebody said that it ends [own]
 abbrev pub cut_short : SeenFlow → SeenFlow
 cut_short flow = record flow { short = true }
 

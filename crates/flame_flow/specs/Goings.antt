@@ -1,5 +1,5 @@
 -- How a core goes on by all events of functions and boards that are legal, found from what changed.
-use Rattle.std.specs.Prelude.{◌≡◌, ℕ, ◌+◌, ◌*◌, ◌<◌, ◌==◌, List, [], ◌∷◌, ◌++◌, length, slice_get, slice_index, slice_index_or, Some, true}
+use Rattle.std.specs.Prelude.{◌≡◌, ℕ, ◌+◌, ◌*◌, ◌<◌, ◌==◌, List, [], ◌∷◌, ◌++◌, length, slice_get, slice_index, slice_index_or, Some}
 use Rattle.std.specs.Prelude.{if◌then◌else◌}
 use Rattle.flame_spec.specs.declared.models.Model.{Model}
 use Rattle.flame_spec.specs.Before.{before, function_count}
@@ -22,7 +22,9 @@ pub record AreWaysOf (model : Model) (ranks : List ℕ) (next : List (List ℕ))
       → function < function_count model
       → slice_get (model_order model) (slice_index ranks function) ≡ Some function
   pub next_are :
-      (function other : ℕ) → before model function other ≡ true → is_in other (slice_index_or next function []) ≡ true
+      (function other : ℕ)
+      → function < function_count model
+      → is_in other (slice_index_or next function []) ≡ before model function other
 
 -- a core, the ranks of functions with pieces that were not begun, and functions that may be over [own]
 pub record Going : Type 0 where

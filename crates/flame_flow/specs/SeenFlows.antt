@@ -25,7 +25,7 @@ start_of seen = record {
 }
 
 -- how its core is seen, the events that came, the first one first, how many pieces of each function were begun, in document
--- order, and whether the flow is short: whether a call found no memory, or it was cut short [own]
+-- order, and whether the flow is short: whether a begin, settle or take_in found no memory, or it was cut short [own]
 pub record SeenFlow : Type 0 where
   pub seen : Seen
   pub history : List Event

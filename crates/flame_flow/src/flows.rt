@@ -10,8 +10,8 @@ use std::marker::Model;
 
 /// The core of an iteration whose pieces run elsewhere, while all else is done as soon as it may be (FLAME User Manual; the
 /// events are the project's own): functions are opened and shut and boards frozen whatever their layer. It is seen as its
-/// core, the events that led to it, how many pieces of each function were begun, and whether it is short: whether a call found
-/// no memory, or it was cut short.
+/// core, the events that led to it, how many pieces of each function were begun, and whether it is short: whether a `begin`,
+/// `settle` or `take_in` found no memory, or it was cut short.
 #[derive(Drop)]
 pub struct Flow<'a> {
     going: GoingOn<'a>,

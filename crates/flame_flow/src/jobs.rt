@@ -8,7 +8,7 @@ use std::sync::Arc;
 /// What a worker may do with a flow.
 #[derive(Clone, Copy, Debug)]
 pub enum Ready {
-    /// Nothing more: a call found no memory, or the flow was cut short.
+    /// Nothing more: a `begin`, `settle` or `take_in` found no memory, or the flow was cut short.
     Short,
     /// Nothing more: the iteration is complete.
     Done,

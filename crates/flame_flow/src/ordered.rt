@@ -1,53 +1,25 @@
 //! Numbers in order.
 
-ghost use Rattle.std.specs.Prelude.{◌≡◌, ℕ, ◌<◌, ◌≤◌, [], length, OnOk, OnErr, slice_get, slice_index, nat_lt, drop, false, IsTrue};
-ghost use Rattle.flame_flow.specs.BegunPieces.{IsRising, with_number};
+ghost use Rattle.std.specs.Prelude.{◌≡◌, [], ◌<◌, length, OnOk, OnErr, slice_get, drop};
+ghost use Rattle.flame_flow.specs.BegunPieces.{with_number};
 
 use flame_rows::NoMemory;
 use std::alloc::Global;
+use std::collections::BTreeSet;
 use std::marker::Model;
 
 /// Numbers in order, each once.
 #[derive(Drop)]
 pub(crate) struct Ordered {
-    numbers: Vec<u32>,
+    numbers: BTreeSet<u32>,
 }
 
 impl Model for Ordered {
     ghost use Rattle.std.specs.Prelude.{ℕ, List};
-    ghost use Rattle.flame_flow.specs.BegunPieces.{IsRising};
 
     ghost Value = { List ℕ };
 
-    ghost view = { λ o. o.numbers.items };
-
-    ghost invariant = { λ o. IsRising o.numbers.items };
-}
-
-/// How many of the numbers, which rise, are less than this one.
-fn count_less(numbers: &[u32], number: u32) -> usize
-    requires { IsRising numbers.now }
-    ensures within { result ≤ length numbers.now }
-    ensures less { (place : ℕ) → place < result → slice_index numbers.now place < number }
-    ensures more { (place : ℕ) → result ≤ place → place < length numbers.now → number ≤ slice_index numbers.now place }
-{
-    numbers.partition_point(
-        |other: &u32| -> bool
-            ensures { result ≡ nat_lt other.now number }
-        { *other < number },
-    )
-}
-
-/// Whether the number stands at this place.
-fn stands_at(numbers: &[u32], place: usize, number: u32) -> bool
-    ensures within { IsTrue result → place < length numbers.now }
-    ensures there { IsTrue result → slice_index numbers.now place ≡ number }
-    ensures not { result ≡ false → place < length numbers.now → ¬ (slice_index numbers.now place ≡ number) }
-{
-    match numbers.get(place) {
-        Some(found) => *found == number,
-        None => false,
-    }
+    ghost view = { λ o. o.numbers.keys };
 }
 
 impl Ordered {
@@ -56,7 +28,7 @@ impl Ordered {
         ensures { result ≡ [] }
     {
         Ordered {
-            numbers: Vec::new(alloc),
+            numbers: BTreeSet::new(alloc),
         }
     }
 
@@ -72,7 +44,7 @@ impl Ordered {
         requires { 0 < length self.old }
         ensures { self.new ≡ drop 1 self.old }
     {
-        self.numbers.remove(0);
+        let _least = self.numbers.pop_first();
     }
 
     /// The number is one of them from now on. Nothing changes where memory is not found.
@@ -80,11 +52,7 @@ impl Ordered {
         ensures ok { OnOk result (self.new ≡ with_number number self.old) }
         ensures err { OnErr result (self.new ≡ self.old) }
     {
-        let place = count_less(self.numbers.as_slice(), number);
-        if stands_at(self.numbers.as_slice(), place, number) {
-            return Ok(());
-        }
-        self.numbers.insert(place, number)?;
+        self.numbers.insert(number)?;
         Ok(())
     }
 }

@@ -17,6 +17,15 @@ use std::alloc::Global;
 use std::sync::{Condvar, Mutex, Wait};
 use std::thread::Threads;
 
+/// What came of a share that was brought back.
+#[derive(Clone, Copy, Debug)]
+struct Brought {
+    /// Whether it is settled.
+    settled: bool,
+    /// Whether there is a piece to run, or an end.
+    moved: bool,
+}
+
 /// What workers share: the flow under a lock, and what each piece has before it, which is the origin's.
 #[derive(Drop)]
 pub(crate) struct Desk<'a, K: Origin> {
@@ -32,7 +41,7 @@ pub(crate) struct Desk<'a, K: Origin> {
     pub alloc: Global,
     /// The flow.
     pub flow: Mutex<Held<'a, K>>,
-    /// Told when the flow moved.
+    /// Told when there is a piece to run, or an end.
     pub moved: Condvar,
     ghost source: { program.now ≡ K.start.source },
     ghost known: { constants ≡ K.start.world.constants },
@@ -107,8 +116,8 @@ impl<'a, K: Origin> Desk<'a, K> {
         job
     }
 
-    /// Settles a share. False where it is not settled; the flow is short then.
-    fn settle<R: Wait>(&self, rt: &R, share: Share<'_>) -> bool
+    /// Settles a share. Where it is not settled the flow is short.
+    fn settle<R: Wait>(&self, rt: &R, share: Share<'_>) -> Brought
         requires { IsDueShare K.start share }
     {
         let mut flow = self.flow.lock(rt);
@@ -116,16 +125,19 @@ impl<'a, K: Origin> Desk<'a, K> {
         if !settled {
             flow.cut_short();
         }
-        settled
+        let moved = !flow.is_idle();
+        Brought { settled, moved }
     }
 
-    /// Brings a share back, and wakes all. False where the worker is to end.
+    /// Brings a share back, and wakes all where there is something for them. False where the worker is to end.
     fn bring<R: Wait>(&self, rt: &R, share: Share<'_>) -> bool
         requires { IsDueShare K.start share }
     {
-        let settled = self.settle(rt, share);
-        self.moved.notify_all();
-        settled
+        let brought = self.settle(rt, share);
+        if brought.moved {
+            self.moved.notify_all();
+        }
+        brought.settled
     }
 
     /// The flow is short from now on.

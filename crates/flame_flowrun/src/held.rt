@@ -110,6 +110,11 @@ impl<'a, K: Origin> Held<'a, K> {
         matches!(self.flow.ready(), Ready::Done)
     }
 
+    /// Whether there is no piece to run yet, and no end.
+    pub(crate) fn is_idle(&self) -> bool {
+        matches!(self.flow.ready(), Ready::Idle)
+    }
+
     /// The turn of the iteration, where it is complete. Else memory was wanting: workers end only when it is complete or short.
     pub(crate) fn finish(self) -> Result<Turn, NoMemory>
         ensures { IfOk result (λ turn. turn ≡ meant K.start.source K.start.world K.start.iteration K.start.fuel) }

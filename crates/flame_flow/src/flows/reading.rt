@@ -29,10 +29,10 @@ fn is_below(least: Option<u32>, rank: u32) -> bool
 }
 
 impl<'a> Flow<'a> {
-    /// What a worker may do. `Short` exactly where an earlier call of this flow answered `NoMemory`, or it was cut short;
-    /// else `Done` exactly where the core is complete; else `Work` with the first piece by rank and number that was not
-    /// begun, of an open function below the least faulted rank; else `Idle`: there is none, and one was begun and is not
-    /// settled. It takes no memory, and the same time however many functions there are.
+    /// What a worker may do. `Short` exactly where an earlier `begin`, `settle` or `take_in` answered `NoMemory`, or it was
+    /// cut short; else `Done` exactly where the core is complete; else `Work` with the first piece by rank and number that
+    /// was not begun, of an open function below the least faulted rank; else `Idle`: there is none, and one was begun and is
+    /// not settled. It takes no memory, and goes over no functions.
     pub fn ready(&self) -> Ready
         ensures ready { IsReady self.now result }
         ensures kept { IsKept self.now }

@@ -9,7 +9,7 @@ use Rattle.flame_spec.proofs.Counts.{has_few}
 use Rattle.flame_depend.specs.Edges.{edges_of}
 use Rattle.flame_events.proofs.Serial.{order_is_whole}
 use Rattle.flame_flow.specs.KeptWays.{has_edge}
-use Rattle.flame_flow.proofs.Places.{edges_has, stands_below}
+use Rattle.flame_flow.proofs.Places.{edges_are}
 use Rattle.flame_flow.proofs.ways.ways_of.Goals as goal
 
 pub edges-requires : goal.edges-requires
@@ -30,7 +30,6 @@ returns c =
           ap (slice_index c.in_ok-ranks.ranks.items) (sym at.1) ∙ c.in_ok-ranks.ensures (rank n (before model) f) at.0 in
           slice_get-get_or (model_order model) (slice_index c.in_ok-ranks.ranks.items f) 0 (subst (λ r. r < length (model_order model)) (sym is) at.0)
           ∙ ap Some (ap (slice_index (model_order model)) is ∙ at.1);
-      next_are = λ f g stands.
-          c.in_ok-next.ensures f g (subst (λ m. f < m) (sym c.functions.ensures) (stands_below model f g stands).0)
-          ∙ ap (has_edge f g) same ∙ edges_has model f g stands;
+      next_are = λ f g less.
+          c.in_ok-next.ensures f g (subst (λ m. f < m) (sym c.functions.ensures) less) ∙ ap (has_edge f g) same ∙ edges_are model f g less;
     }

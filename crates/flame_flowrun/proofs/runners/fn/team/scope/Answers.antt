@@ -23,7 +23,7 @@ spawn-requires-send-F g c κs within =
     (arg_send _ Exit.no _
     (declared_send
     (Tuple.type_at (Lts.name-29 g.row.K g.row.G g.row.R g.K.laws g.G.laws g.R.laws g.K.Origin g.K.Origin-dict g.G.Gate g.G.Gate-dict g.R.Threads g.R.Threads-dict g.R.Wait g.R.Wait-dict)
-    (Lts.of-12 g.row.K g.row.G g.row.R g.K.laws g.G.laws g.R.laws g.K.Origin g.K.Origin-dict g.G.Gate g.G.Gate-dict g.R.Threads g.R.Threads-dict g.R.Wait g.R.Wait-dict runtime_lasts gate_lasts desk_lasts flow_lasts)) (
+    (Lts.of-14 g.row.K g.row.G g.row.R g.K.laws g.G.laws g.R.laws g.K.Origin g.K.Origin-dict g.G.Gate g.G.Gate-dict g.R.Threads g.R.Threads-dict g.R.Wait g.R.Wait-dict runtime_lasts gate_lasts desk_lasts flow_lasts)) (
       shr_send _ _ _ (param_sync 2 g.row.R runtime),
       (
         shr_send _ _ _ (param_sync 1 g.row.G gate),
