@@ -1,5 +1,6 @@
 -- The parts that are handed in by a lane: some went by its channel, the others stayed with it.
 use Rattle.std.specs.Prelude.{ℕ, zero, suc, ◌+◌, ℤ, List, [], ◌∷◌, Option, Some, None}
+use Rattle.std.specs.List.{flat_map}
 use Rattle.flame_rows.specs.Bags.{weigh}
 use Rattle.flame_world.specs.declared.pieces.Part.{Part}
 
@@ -26,6 +27,10 @@ gaps (Some part ∷ stayed) = gaps stayed
 gaps (None ∷ stayed) = 1 + gaps stayed
 
 -- ---- what it weighs
+
+-- the weights of all rows of the bags together [own]
+abbrev pub weigh_bags : (List ℤ → ℕ) → List (List (List ℤ)) → ℕ
+weigh_bags weight bags = weigh weight (flat_map (λ bag. bag) bags)
 
 -- the weights of all rows of the parts together [own]
 abbrev pub weigh_parts : (List ℤ → ℕ) → List Part → ℕ

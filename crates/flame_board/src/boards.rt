@@ -13,7 +13,8 @@ use crate::layers::Layer;
 use crate::logs::Sends;
 use crate::pieces::dues_of;
 use flame_index::Frozen;
-use flame_rows::{Bag, NoMemory, Runs, Seq};
+use flame_merging::merge_here;
+use flame_rows::{Bag, NoMemory, Seq};
 use flame_world::Part;
 use std::alloc::Global;
 use std::sync::Wait;
@@ -83,6 +84,19 @@ impl Board {
         Ok(())
     }
 
+    /// All that the board has, where these are all its lanes: the messages that were there before and those of all parts that
+    /// were handed in by the lanes, each as often as it came, in bags that are not put together yet. On NoMemory all is given up.
+    pub fn gather<R: Wait>(self, rt: &R, lanes: Seq<Lane>) -> Result<Vec<Bag>, NoMemory>
+        requires all { AreLanesOf self lanes }
+        ensures { IfOk result (λ bags. merge_all bags.items ≡ merge_all (before_of self ∷ bags_of lanes)) }
+    {
+        let Board { before, ends } = self;
+        let mut bags = Vec::new(*ends.allocator());
+        bags.push(before)?;
+        take_lanes(rt, ends, lanes.into_items(), &mut bags)?;
+        Ok(bags)
+    }
+
     /// Freezes the board, where these are all its lanes: it has the messages that were there before and those of all parts
     /// that were handed in by the lanes, each as often as it came. On NoMemory all is given up.
     pub fn freeze<R: Wait>(self, rt: &R, lanes: Seq<Lane>) -> Result<Frozen, NoMemory>
@@ -90,12 +104,9 @@ impl Board {
         ensures messages { IfOk result (λ frozen. messages_on frozen ≡ merge_all (before_of self ∷ bags_of lanes)) }
         ensures kept { IfOk result (λ frozen. frozen.kept ≡ nothing_kept) }
     {
-        let Board { before, ends } = self;
-        let mut runs = Runs::new(*ends.allocator());
-        runs.add(before)?;
-        take_lanes(rt, ends, lanes.into_items(), &mut runs)?;
-        let bag = runs.into_bag()?;
-        let _order = bag.rows();
+        let alloc = *self.ends.allocator();
+        let bags = self.gather(rt, lanes)?;
+        let bag = merge_here(alloc, bags)?;
         Ok(Frozen::of(bag))
     }
 }

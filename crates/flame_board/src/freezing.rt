@@ -3,14 +3,13 @@
 ghost use Rattle.std.specs.Prelude.{◌≡◌, ◌+◌, true, ℕ, ℤ, List, OnOk, length};
 ghost use Rattle.crossbeam_channel.specs.Claims.{view, IsSeatAt};
 ghost use Rattle.crossbeam_channel.specs.Ends.{receives_on};
-ghost use Rattle.flame_rows.specs.Bags.{weigh};
-ghost use Rattle.flame_board.specs.LaneParts.{weigh_parts, weigh_stayed};
+ghost use Rattle.flame_board.specs.LaneParts.{weigh_bags, weigh_parts, weigh_stayed};
 ghost use Rattle.flame_board.specs.SeenLanes.{AreEndsOf, IsEndOf, parts_of, weigh_lanes};
 
 use crate::lanes::{End, Lane};
 use crate::logs::{Log, Relay, Roles, Takes};
 use crossbeam_channel::{Pass, RuledReceiver};
-use flame_rows::{NoMemory, Runs};
+use flame_rows::{Bag, NoMemory};
 use flame_world::Part;
 use std::sync::Wait;
 
@@ -19,18 +18,18 @@ fn take_sent<R: Wait>(
     rt: &R,
     receiver: &RuledReceiver<Part, Log, Relay>,
     mut pass: Pass<Part, Log>,
-    runs: &mut Runs,
+    bags: &mut Vec<Bag>,
 ) -> Result<(), NoMemory>
     requires seat { IsSeatAt (receives_on receiver.now) pass }
     requires sends { (view pass).sends ≡ true }
     requires takes { (view pass).takes ≡ true }
     requires fresh { length (view pass).taken ≡ 0 }
     ensures { OnOk result ((weight : List ℤ → ℕ)
-        → weigh weight runs.new ≡ weigh weight runs.old + weigh_parts weight (view pass).sent) }
+        → weigh_bags weight bags.new.items ≡ weigh_bags weight bags.old.items + weigh_parts weight (view pass).sent) }
 {
     for _ in rt.forever() {
         match receiver.try_recv_as::<Takes, R>(rt, &mut pass) {
-            Ok(part) => runs.add(part.rows)?,
+            Ok(part) => bags.push(part.rows)?,
             Err(_) => return Ok(()),
         }
     }
@@ -38,23 +37,23 @@ fn take_sent<R: Wait>(
 }
 
 /// Takes what stayed with the lane.
-fn take_stayed(stayed: Vec<Option<Part>>, runs: &mut Runs) -> Result<(), NoMemory>
+fn take_stayed(stayed: Vec<Option<Part>>, bags: &mut Vec<Bag>) -> Result<(), NoMemory>
     ensures { OnOk result ((weight : List ℤ → ℕ)
-        → weigh weight runs.new ≡ weigh weight runs.old + weigh_stayed weight stayed.items) }
+        → weigh_bags weight bags.new.items ≡ weigh_bags weight bags.old.items + weigh_stayed weight stayed.items) }
 {
     for one in stayed {
         if let Some(part) = one {
-            runs.add(part.rows)?;
+            bags.push(part.rows)?;
         }
     }
     Ok(())
 }
 
 /// Takes all parts of a lane.
-fn take_lane<R: Wait>(rt: &R, end: End, lane: Lane, runs: &mut Runs) -> Result<(), NoMemory>
+fn take_lane<R: Wait>(rt: &R, end: End, lane: Lane, bags: &mut Vec<Bag>) -> Result<(), NoMemory>
     requires { IsEndOf end lane }
     ensures { OnOk result ((weight : List ℤ → ℕ)
-        → weigh weight runs.new ≡ weigh weight runs.old + weigh_parts weight (parts_of lane)) }
+        → weigh_bags weight bags.new.items ≡ weigh_bags weight bags.old.items + weigh_parts weight (parts_of lane)) }
 {
     let Lane {
         number: _,
@@ -65,8 +64,8 @@ fn take_lane<R: Wait>(rt: &R, end: End, lane: Lane, runs: &mut Runs) -> Result<(
         stayed,
     } = lane;
     sender.absorb::<Roles>(&mut pass, boards);
-    take_sent(rt, &end.receiver, pass, runs)?;
-    take_stayed(stayed, runs)?;
+    take_sent(rt, &end.receiver, pass, bags)?;
+    take_stayed(stayed, bags)?;
     Ok(())
 }
 
@@ -75,14 +74,14 @@ pub(crate) fn take_lanes<R: Wait>(
     rt: &R,
     ends: Vec<End>,
     lanes: Vec<Lane>,
-    runs: &mut Runs,
+    bags: &mut Vec<Bag>,
 ) -> Result<(), NoMemory>
     requires { AreEndsOf ends.items lanes.items }
     ensures { OnOk result ((weight : List ℤ → ℕ)
-        → weigh weight runs.new ≡ weigh weight runs.old + weigh_lanes weight lanes.items) }
+        → weigh_bags weight bags.new.items ≡ weigh_bags weight bags.old.items + weigh_lanes weight lanes.items) }
 {
     for (end, lane) in ends.into_iter().zip(lanes) {
-        take_lane(rt, end, lane, runs)?;
+        take_lane(rt, end, lane, bags)?;
     }
     Ok(())
 }

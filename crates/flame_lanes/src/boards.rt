@@ -1,22 +1,25 @@
 //! The boards of a layer.
 
-ghost use Rattle.std.specs.Prelude.{◌≡◌, ◌<◌, ◌+◌, ℕ, ℤ, List, [], IfOk, IsTrue, OnOk, length, map, slice_index_or};
+ghost use Rattle.std.specs.Prelude.{◌≡◌, ◌<◌, ◌+◌, ◌==◌, ◌∷◌, if◌then◌else◌, ℕ, ℤ, List, [], IfOk, IsTrue, OnOk, length, map, slice_index_or};
 ghost use Rattle.std.specs.List.{All};
-ghost use Rattle.flame_rows.specs.Bags.{ascending, merge, weigh};
+ghost use Rattle.flame_rows.specs.Bags.{ascending, merge, merge_all, weigh};
 ghost use Rattle.flame_world.specs.Fields.{changed};
 ghost use Rattle.flame_index.specs.FrozenBoards.{messages_on};
 ghost use Rattle.flame_field.specs.KeptBoards.{board_bag};
 ghost use Rattle.flame_board.specs.SeenBoards.{AreLanesOf, before_of};
-ghost use Rattle.flame_board.specs.SeenLanes.{weigh_lanes};
+ghost use Rattle.flame_board.specs.SeenLanes.{bags_of, weigh_lanes};
 ghost use Rattle.flame_lanes.specs.LayerBoards.{AreNewBoards, TakeFrom, weigh_before, weigh_board, weigh_columns};
 
 use flame_board::{Board, Lane, Layer};
 use flame_field::{self as field, Gathering};
 use flame_index::Frozen;
+use flame_merging::merge_bags;
 use flame_rows::{Bag, NoMemory, Row, Seq};
+use flame_world::Part;
 use std::alloc::Global;
 use std::mem;
 use std::sync::Wait;
+use std::thread::Threads;
 
 /// Takes the messages of this type from their board.
 fn take(alloc: Global, boards: &mut Vec<field::Board>, message: u32) -> Result<Bag, NoMemory>
@@ -89,10 +92,41 @@ pub fn open_boards(
     Ok((boards, columns))
 }
 
-/// The board is frozen, of which these are all lanes, and its messages join those of the board of the field.
-fn freeze_into<R: Wait>(
+/// The messages of the part join their board of the field.
+pub fn put_part(alloc: Global, part: Part, field: &mut Vec<field::Board>) -> Result<(), NoMemory>
+    requires { part.message < length field.old.items }
+    ensures moved { OnOk result ((message : ℕ) (weight : List ℤ → ℕ)
+        → weigh_board field.new.items message weight
+        ≡ weigh_board field.old.items message weight
+        + (if part.message == message then weigh weight part.rows else 0)) }
+    ensures count { OnOk result (length field.new.items ≡ length field.old.items) }
+{
+    let Part { message, rows, .. } = part;
+    put(alloc, &mut field[message as usize], Frozen::of(rows))?;
+    Ok(())
+}
+
+/// The board is frozen, of which these are all lanes. So many workers share its messages where they are many.
+fn frozen<R: Threads + Wait + Sync>(
     rt: &R,
     alloc: Global,
+    workers: u32,
+    board: Board,
+    column: Vec<Lane>,
+) -> Result<Frozen, NoMemory>
+    requires { AreLanesOf board column.items }
+    ensures { IfOk result (λ frozen. messages_on frozen ≡ merge_all (before_of board ∷ bags_of column.items)) }
+{
+    let bags = board.gather(rt, Seq::of(column))?;
+    let bag = merge_bags(rt, alloc, workers, bags)?;
+    Ok(Frozen::of(bag))
+}
+
+/// The board is frozen, of which these are all lanes, and its messages join those of the board of the field.
+fn freeze_into<R: Threads + Wait + Sync>(
+    rt: &R,
+    alloc: Global,
+    workers: u32,
     board: Board,
     column: Vec<Lane>,
     into: &mut field::Board,
@@ -102,15 +136,17 @@ fn freeze_into<R: Wait>(
         → weigh weight (board_bag into.new)
         ≡ weigh weight (board_bag into.old) + (weigh weight (before_of board) + weigh_lanes weight column.items)) }
 {
-    let frozen = board.freeze(rt, Seq::of(column))?;
+    let frozen = frozen(rt, alloc, workers, board, column)?;
     put(alloc, into, frozen)?;
     Ok(())
 }
 
-/// The boards of the layer are frozen, and their messages join those of the field.
-pub fn freeze_all<R: Wait>(
+/// The boards of the layer are frozen, one after another, and their messages join those of the field. So many workers, of which
+/// the caller is one, share the messages of a board that has many.
+pub fn freeze_all<R: Threads + Wait + Sync>(
     rt: &R,
     alloc: Global,
+    workers: u32,
     messages: &[u32],
     boards: Vec<Board>,
     columns: Vec<Vec<Lane>>,
@@ -127,7 +163,14 @@ pub fn freeze_all<R: Wait>(
     ensures count { OnOk result (length field.new.items ≡ length field.old.items) }
 {
     for (message, (board, column)) in messages.iter().zip(boards.into_iter().zip(columns)) {
-        freeze_into(rt, alloc, board, column, &mut field[*message as usize])?;
+        freeze_into(
+            rt,
+            alloc,
+            workers,
+            board,
+            column,
+            &mut field[*message as usize],
+        )?;
     }
     Ok(())
 }

@@ -9,7 +9,7 @@ mod jobs;
 mod messages;
 mod tasks;
 
-pub use boards::{freeze_all, open_boards};
+pub use boards::{freeze_all, open_boards, put_part};
 pub use columns::{gathered, jobs_of};
 pub use dealing::deal_tasks;
 pub use gains::{Gain, gain_all};

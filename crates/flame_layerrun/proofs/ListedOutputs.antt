@@ -34,6 +34,13 @@ found-below model (name ∷ names) = go (named_output model name) refl (found-be
         All-cons (λ message. message < length model.messages) number (filter_map (named_output model) names)
         (slice_get_within model.messages number there.message there.there) rest
 
+pub outputs-known : (model : Model) (function : ℕ) → All (λ message. message < length model.messages) (outputs_of model function)
+outputs-known model function =
+    elim (slice_get (functions model) function) as (λ (o : Option Place). All (λ message. message < length model.messages) (outputs_at o model)) [
+      | None ↦ All-nil (λ message. message < length model.messages)
+      | Some place ↦ found-below model place.function.outputs
+    ]
+
 pub outputs-below : (model : Model) (function : ℕ) (place : Place) (outputs : List ℕ)
     → slice_get (functions model) function ≡ Some place → outputs ≡ outputs_at (Some place) model
     → (outputs ≡ outputs_of model function) × All (λ message. message < length model.messages) outputs

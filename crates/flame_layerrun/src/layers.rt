@@ -16,6 +16,7 @@ ghost use Rattle.flame_layerrun.specs.LayerRuns.{AreAllLeft, HasRead};
 ghost use Rattle.flame_layerrun.specs.LayerTasks.{AreRead, FitsTask};
 ghost use Rattle.flame_layerrun.specs.LayerWork.{weigh_all_sent};
 
+use crate::alone::run_alone;
 use crate::bringing::bring_all;
 use crate::openings::{Opened, Reading, open_all};
 use crate::outputs::list_outputs;
@@ -84,6 +85,83 @@ fn pieces_of(
     })
 }
 
+/// Runs these tasks by so many workers, each of which has a lane of its own to each board.
+fn run_apart<G: Gate, R: Threads + Wait + Sync>(
+    rt: &R,
+    alloc: Global,
+    crew: &Crew<'_, G>,
+    round: &Round<'_>,
+    messages: &mut Messages,
+    readings: &[Reading],
+    tasks: Vec<Task>,
+    lanes: u32,
+    boards: &mut Vec<field::Board>,
+) -> Result<Vec<Left>, NoMemory>
+    requires some { 1 ≤ lanes }
+    requires fit { All (FitsTask round.now readings.now) tasks.items }
+    requires boards { length boards.old.items ≡ length round.now.program.now.model.messages }
+    requires read { HasRead round.now readings.now }
+    ensures lefts { IfOk result (λ lefts. (read : Standing) → AreRead round.now read readings.now
+        → AreAllLeft (round_of round.now) read tasks.items lefts.items) }
+    ensures sent { IfOk result (λ lefts. (read : Standing) → AreRead round.now read readings.now
+        → (message : ℕ) (weight : List ℤ → ℕ)
+        → weigh_board boards.new.items message weight
+        ≡ weigh_board boards.old.items message weight
+        + weigh_all_sent (round_of round.now) read tasks.items message weight) }
+    ensures count { OnOk result (length boards.new.items ≡ length boards.old.items) }
+{
+    messages.clear();
+    list_outputs(messages, round.program, tasks.as_slice())?;
+    let layer = pieces_of(alloc, round.program, tasks.as_slice(), lanes)?;
+    let (own, columns) = open_boards(alloc, &layer, messages.listed(), boards)?;
+    let loads = deal_tasks(alloc, tasks, lanes)?;
+    let jobs = jobs_of(alloc, columns, loads)?;
+    let floor = Floor {
+        gate: crew.gate,
+        round: *round,
+        readings,
+        messages,
+        boards: own.as_slice(),
+    };
+    let dones = work_all(rt, alloc, &floor, jobs)?;
+    let (columns, lefts) = gathered(alloc, own.len(), dones)?;
+    freeze_all(rt, alloc, lanes, messages.listed(), own, columns, boards)?;
+    Ok(lefts)
+}
+
+/// Runs these tasks by the caller alone.
+fn run_here<G: Gate, R: Threads + Wait + Sync>(
+    rt: &R,
+    alloc: Global,
+    crew: &Crew<'_, G>,
+    round: &Round<'_>,
+    messages: &Messages,
+    readings: &[Reading],
+    tasks: Vec<Task>,
+    boards: &mut Vec<field::Board>,
+) -> Result<Vec<Left>, NoMemory>
+    requires fit { All (FitsTask round.now readings.now) tasks.items }
+    requires boards { length boards.old.items ≡ length round.now.program.now.model.messages }
+    ensures lefts { IfOk result (λ lefts. (read : Standing) → AreRead round.now read readings.now
+        → AreAllLeft (round_of round.now) read tasks.items lefts.items) }
+    ensures sent { IfOk result (λ lefts. (read : Standing) → AreRead round.now read readings.now
+        → (message : ℕ) (weight : List ℤ → ℕ)
+        → weigh_board boards.new.items message weight
+        ≡ weigh_board boards.old.items message weight
+        + weigh_all_sent (round_of round.now) read tasks.items message weight) }
+    ensures count { OnOk result (length boards.new.items ≡ length boards.old.items) }
+{
+    let floor = Floor {
+        gate: crew.gate,
+        round: *round,
+        readings,
+        messages,
+        boards: &[],
+    };
+    let lefts = run_alone(rt, alloc, &floor, tasks, boards)?;
+    Ok(lefts)
+}
+
 /// Runs these tasks of a layer: what their agents leave besides messages, task by task in whatever order; their messages join
 /// the boards. After `NoMemory` the boards are of no further use.
 fn run_tasks<G: Gate, R: Threads + Wait + Sync>(
@@ -110,22 +188,13 @@ fn run_tasks<G: Gate, R: Threads + Wait + Sync>(
     ensures count { OnOk result (length boards.new.items ≡ length boards.old.items) }
 {
     let lanes = count_lanes(crew.workers, tasks.len());
-    messages.clear();
-    list_outputs(messages, round.program, tasks.as_slice())?;
-    let layer = pieces_of(alloc, round.program, tasks.as_slice(), lanes)?;
-    let (own, columns) = open_boards(alloc, &layer, messages.listed(), boards)?;
-    let loads = deal_tasks(alloc, tasks, lanes)?;
-    let jobs = jobs_of(alloc, columns, loads)?;
-    let floor = Floor {
-        gate: crew.gate,
-        round: *round,
-        readings,
-        messages,
-        boards: own.as_slice(),
-    };
-    let dones = work_all(rt, alloc, &floor, jobs)?;
-    let (columns, lefts) = gathered(alloc, own.len(), dones)?;
-    freeze_all(rt, alloc, messages.listed(), own, columns, boards)?;
+    if lanes == 1 {
+        let lefts = run_here(rt, alloc, crew, round, messages, readings, tasks, boards)?;
+        return Ok(lefts);
+    }
+    let lefts = run_apart(
+        rt, alloc, crew, round, messages, readings, tasks, lanes, boards,
+    )?;
     Ok(lefts)
 }
 

@@ -1,6 +1,7 @@
 //! Runs iterations by layers: the functions of a layer run side by side, their agents in pieces that workers share.
 #![tactic(auto)]
 
+mod alone;
 mod bringing;
 mod iterations;
 mod layers;

@@ -86,7 +86,7 @@ fn piece_of(task: Task) -> Result<Piece, NoMemory>
 }
 
 /// What the agents of the task leave: the rest, and a part for each output.
-fn run<G: Gate>(
+pub(crate) fn run<G: Gate>(
     alloc: Global,
     floor: &Floor<'_, G>,
     task: Task,

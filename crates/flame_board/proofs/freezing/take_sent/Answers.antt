@@ -1,8 +1,7 @@
 use Rattle.std.proofs.Common.{ap, arith, ◌∙◌, ◌∷◌, []}
 use Rattle.crossbeam_channel.specs.Claims.{view}
-use Rattle.flame_rows.specs.Bags.{weigh}
-use Rattle.flame_rows.proofs.BagLaws.{merge_adds_weights}
-use Rattle.flame_board.specs.LaneParts.{weigh_parts}
+use Rattle.flame_merging.proofs.RowWeights.{bags-push}
+use Rattle.flame_board.specs.LaneParts.{weigh_bags, weigh_parts}
 use Rattle.flame_board.specs.declared.logs.Log.{Log}
 use Rattle.flame_board.proofs.Relays.{pops, knows}
 use Rattle.flame_board.proofs.Weights.{weigh_parts-append}
@@ -24,8 +23,8 @@ loop-preserved g c =
       rows = λ weight. omega (
         arith,
         c.loop.invariant.rows weight,
-        ap (weigh weight) c.in_ok-add-in-Ok.ensures.ok,
-        merge_adds_weights weight c.loop.runs part.rows,
+        ap (weigh_bags weight) c.in_ok-push-in-Ok.ensures.items,
+        bags-push weight c.loop.bags.items part.rows,
         ap (λ (w : Log). weigh_parts weight w.taken) then,
         weigh_parts-append weight (view c.loop.pass).taken (part ∷ []),
       );

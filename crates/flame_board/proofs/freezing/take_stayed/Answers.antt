@@ -1,8 +1,7 @@
 use Rattle.std.proofs.Common.{◌∷◌, ◌∙◌, ap, arith, length}
 use Rattle.std.specs.Vec.Iter.{into_iter_items}
-use Rattle.flame_rows.specs.Bags.{weigh}
-use Rattle.flame_rows.proofs.BagLaws.{merge_adds_weights}
-use Rattle.flame_board.specs.LaneParts.{weigh_stayed}
+use Rattle.flame_merging.proofs.RowWeights.{bags-push}
+use Rattle.flame_board.specs.LaneParts.{weigh_bags, weigh_stayed}
 use Rattle.flame_board.proofs.freezing.take_stayed.Goals as goal
 
 pub loop-one-preserved-in-Continue-1 : goal.loop-one-preserved-in-Continue-1
@@ -16,7 +15,7 @@ loop-one-preserved-in-Continue-1 c =
         arith,
         kept.rows weight,
         ap (weigh_stayed weight) (steps.0 ∙ ap (λ one. one ∷ into_iter_items c.next.new.self) c.in-Some-one.is),
-        ap (weigh weight) c.in_ok-add.ensures.ok,
-        merge_adds_weights weight c.loop-one.runs part.rows,
+        ap (weigh_bags weight) c.in_ok-push.ensures.items,
+        bags-push weight c.loop-one.bags.items part.rows,
       );
     }

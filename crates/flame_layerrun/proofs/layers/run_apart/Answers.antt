@@ -16,7 +16,7 @@ use Rattle.flame_layerrun.specs.LayerTasks.{AreListed}
 use Rattle.flame_layerrun.specs.LayerWork.{CanDo, weigh_all_sent}
 use Rattle.flame_layerrun.proofs.ColumnedLanes.{dones-wide, jobs-filled, jobs-tasks, own-rows, still-taken, taken-lanes, weigh_jobs}
 use Rattle.flame_layerrun.proofs.TasksDone.{can-all, dealt-tasks, dealt-weighs, done-lefts, handed-all, known-tasks, placed-tasks, zip-all}
-use Rattle.flame_layerrun.proofs.layers.run_tasks.Goals as goal
+use Rattle.flame_layerrun.proofs.layers.run_apart.Goals as goal
 
 pub list_outputs-requires : goal.list_outputs-requires
 list_outputs-requires g c =
@@ -71,10 +71,10 @@ gathered-requires g c k d less =
     let messages = c.list_outputs.new.messages in
     let wide = dones-wide (round_of c.args.round.now) has.read messages c.in_ok-jobs.jobs.items c.in_ok-dones.dones.items
     (c.in_ok-dones.ensures has.read has.reads) k d less in
-    omega (arith, wide, c.in_ok-own.ensures.long, ap length c.listed.ensures.same, c.len-2.ensures, c.in_ok-own.own.ok.0)
+    omega (arith, wide, c.in_ok-own.ensures.long, ap length c.listed.ensures.same, c.len.ensures, c.in_ok-own.own.ok.0)
 
 pub freeze_all-requires-clause-there : goal.freeze_all-requires-clause-there
-freeze_all-requires-clause-there g c =
+freeze_all-requires-clause-there g c = λ lifetimes outlives.
     let count = length c.args.round.now.program.now.model.messages in
     let known : All (λ message. message < count) c.list_outputs.new.messages =
     c.in_ok-list_outputs.ensures.known
@@ -83,11 +83,11 @@ freeze_all-requires-clause-there g c =
     (subst (λ (list : List ℕ). All (λ message. message < count) list) (sym c.listed-2.ensures.same) known)
 
 pub freeze_all-requires-clause-long : goal.freeze_all-requires-clause-long
-freeze_all-requires-clause-long g c =
+freeze_all-requires-clause-long g c = λ lifetimes outlives.
     c.in_ok-own.ensures.long ∙ ap length (c.listed.ensures.same ∙ sym c.listed-2.ensures.same)
 
 pub freeze_all-requires-clause-own : goal.freeze_all-requires-clause-own
-freeze_all-requires-clause-own g c =
+freeze_all-requires-clause-own g c = λ lifetimes outlives.
     let has = c.requires.read in
     let meant = round_of c.args.round.now in
     let messages = c.list_outputs.new.messages in
@@ -99,7 +99,7 @@ freeze_all-requires-clause-own g c =
     let filled = jobs-filled meant has.read messages jobs c.in_ok-dones.dones.items columns news
     (c.in_ok-dones.ensures has.read has.reads) c.in_ok-jobs.ensures.lanes c.in_ok-columns.ensures.columns
     (sym (zip-length _ own columns c.in_ok-own.ensures.new.own) ∙ long)
-    (omega (arith, c.in_ok-columns.ensures.width, c.len-2.ensures, c.in_ok-own.own.ok.0, long)) in
+    (omega (arith, c.in_ok-columns.ensures.width, c.len.ensures, c.in_ok-own.own.ok.0, long)) in
     still-taken (weigh_jobs meant has.read jobs) messages own columns news filled c.in_ok-own.ensures.new.own
 
 pub returns-clause-lefts : goal.returns-clause-lefts
@@ -136,7 +136,7 @@ returns-clause-sent g c read reads message weight =
     let filled = jobs-filled meant read messages jobs c.in_ok-dones.dones.items columns news
     (c.in_ok-dones.ensures read reads) c.in_ok-jobs.ensures.lanes c.in_ok-columns.ensures.columns
     (sym (zip-length _ own columns c.in_ok-own.ensures.new.own) ∙ long)
-    (omega (arith, c.in_ok-columns.ensures.width, c.len-2.ensures, c.in_ok-own.own.ok.0, long)) in
+    (omega (arith, c.in_ok-columns.ensures.width, c.len.ensures, c.in_ok-own.own.ok.0, long)) in
     let listed : AreListed round.program.now.model messages tasks =
     subst (λ (list : List Task). AreListed round.program.now.model messages list) c.as_slice.ensures.value c.in_ok-list_outputs.ensures.all in
     let is : weigh_jobs meant read jobs message weight ≡ weigh_all_sent meant read tasks message weight =
