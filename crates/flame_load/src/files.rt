@@ -55,7 +55,7 @@ pub(crate) fn file_in<D: Depot>(depot: &mut D, name: &str, most: usize) -> Resul
 
 /// The JSON value that the bytes are.
 #[tactic(auto, using(crate::proofs::JsonText::json_of_some, crate::proofs::JsonText::json_of_none))]
-fn json_in(alloc: Global, bytes: &[u8]) -> Result<Value, FileFail>
+pub(crate) fn json_in(alloc: Global, bytes: &[u8]) -> Result<Value, FileFail>
     ensures finds { Finds view result (if_json (json_of bytes.now)) }
     ensures calm { IfErr result (λ fail. ¬ IsFailed fail) }
 {

@@ -1,16 +1,17 @@
 //! Populations to begin a run with.
 
-ghost use Rattle.std.specs.Prelude.{◌≡◌, Some, IfOk, IfErr};
+ghost use Rattle.std.specs.Prelude.{◌≡◌, ℕ, List, Some, Ok, IfOk, IfErr};
 ghost use Rattle.serde_json.specs.View.{view};
 ghost use Rattle.flame_outside.specs.Files.{Files};
 ghost use Rattle.flame_outside.specs.Frames.{OnlyReads};
 ghost use Rattle.flame_outside.specs.Failures.{ReadFailed};
 ghost use Rattle.flame_load.specs.FileAnswers.{IsFailed};
+ghost use Rattle.flame_load.specs.FileReads.{file_in};
 ghost use Rattle.flame_load.specs.StartAnswers.{GivesStart, IsHeld, IsStartReadFault, start_failure};
-ghost use Rattle.flame_load.specs.StartReads.{start_in, starting};
+ghost use Rattle.flame_load.specs.StartReads.{population_limit, start_in, starting};
 
 use crate::faults::FileFault;
-use crate::files::{FileFail, value_in};
+use crate::files::{FileFail, file_in, json_in};
 use flame_outside::Depot;
 use flame_popfile::{PopFault, Start, population};
 use flame_program::Program;
@@ -66,6 +67,24 @@ fn start_in(alloc: Global, value: &Value, program: &Program, turns: u32) -> Resu
     }
 }
 
+/// The start that the bytes of a population hold for the program's model: read by their tokens where they are written as a
+/// writer does, and else as a value.
+#[tactic(auto, using(crate::proofs::StartSteps::held_gives, crate::proofs::StartSteps::held_start, crate::proofs::StartSteps::value_gives, crate::proofs::StartSteps::json_stops))]
+fn start_of(alloc: Global, bytes: &[u8], program: &Program, turns: u32) -> Result<Start, StartFail>
+    ensures gives { (told : Files) (name : List ℕ) → file_in told population_limit name ≡ Ok bytes.now
+        → GivesStart result (starting told program.now.model turns name) }
+    ensures held { IfOk result (IsHeld program.now.model turns) }
+    ensures calm { IfErr result (λ fail. ¬ IsStartReadFault fail) }
+{
+    if let Some(start) = flame_starts::start(alloc, bytes, program, turns) {
+        return Ok(start);
+    }
+    match json_in(alloc, bytes) {
+        Ok(value) => start_in(alloc, &value, program, turns),
+        Err(fail) => Err(start_fail(fail)),
+    }
+}
+
 /// The start that the population file of this name holds for the program's model: the number of its iteration and its world,
 /// from which `turns` iterations are to follow. The file has at most 67,108,864 bytes.
 ///
@@ -74,7 +93,7 @@ fn start_in(alloc: Global, value: &Value, program: &Program, turns: u32) -> Resu
 /// `Missing`, `TooLarge`, `NotJson` and `Pop` have the first refusal, in this order; `Pop` has the first fault of the
 /// population. `ReadFault` comes only where the depot's count of failed reads rose. `NoMemory` is want of memory, also where
 /// 32 bits cannot hold the width of a row. Whatever it answers, the depot has only been read.
-#[tactic(auto, using(crate::proofs::StartSteps::start_behind, crate::proofs::StartSteps::start_stops))]
+#[tactic(auto, using(crate::proofs::StartSteps::file_stops))]
 pub fn start<D: Depot>(
     alloc: Global,
     depot: &mut D,
@@ -92,8 +111,8 @@ pub fn start<D: Depot>(
         → ReadFailed (D.seen depot.old) (D.seen depot.new)) }
     ensures reads { OnlyReads (D.seen depot.old) (D.seen depot.new) }
 {
-    match value_in(alloc, depot, name, POPULATION_LIMIT) {
-        Ok(value) => start_in(alloc, &value, program, turns),
+    match file_in(depot, name, POPULATION_LIMIT) {
+        Ok(bytes) => start_of(alloc, bytes.bytes(), program, turns),
         Err(fail) => Err(start_fail(fail)),
     }
 }

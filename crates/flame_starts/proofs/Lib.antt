@@ -1,0 +1,5 @@
+pub mod KnownTypes
+pub mod TreeValues
+pub mod ClearAgents
+pub mod DealtBags
+pub mod HeldPopulations

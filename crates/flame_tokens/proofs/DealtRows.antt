@@ -1,0 +1,138 @@
+-- Rows that are dealt out to their types.
+use Rattle.std.proofs.Common.{◌≡◌, ℕ, zero, suc, ◌<◌, List, [], ◌∷◌, ◌++◌, length, get_or, map, refl, ap, sym, ◌∙◌, subst, arith, append-nil}
+use Rattle.std.proofs.Common.{Bool, true, false, cond}
+use Rattle.std.specs.Prelude.{ℤ, ◌==◌, slice_set, slice_index_or, Vec, replicate}
+use Rattle.std.specs.Global.{Global}
+use Rattle.std.proofs.lemmas.Bool.{eqb-true, eqb-false}
+use Rattle.std.proofs.lemmas.List.{length-map, length-set, length-replicate, get_or-replicate, flat_map_more}
+use Rattle.std.proofs.lemmas.List.Elements.{All-nil, All-push}
+use Rattle.json.specs.Token.{Token, begin_object, begin_array, end_array}
+use Rattle.flame_rows.specs.Bags.{ascending}
+use Rattle.flame_rows.proofs.Lists.{slice_index_or-map}
+use Rattle.flame_spec.specs.declared.models.AgentType.{AgentType}
+use Rattle.flame_tokens.specs.NumberTrees.{begun}
+use Rattle.flame_tokens.specs.AgentTrees.{IsOfTypes, listed_tree, row_for, rows_of, bags_of, IsDealt, IsAdded, AreBegun, AreRead}
+use Rattle.flame_tokens.proofs.TokenLists.{mapped_more, list_closed}
+
+written_here :
+    {X Y : Type 0} (g : X → Y) (d : Y) (xs : List X) (i : ℕ) (new : X)
+    → i < length xs → slice_index_or (map g (slice_set xs i new)) i d ≡ g new
+written_here g d [] i new within = absurd (omega (arith, within))
+written_here g d (x ∷ xs) zero new within = refl
+written_here g d (x ∷ xs) (suc i) new within = written_here g d xs i new (omega (arith, within))
+
+written_elsewhere :
+    {X Y : Type 0} (g : X → Y) (d : Y) (xs : List X) (i n : ℕ) (new : X)
+    → (i ≡ n → ⊥) → slice_index_or (map g (slice_set xs i new)) n d ≡ slice_index_or (map g xs) n d
+written_elsewhere g d [] i n new other = refl
+written_elsewhere g d (x ∷ xs) zero zero new other = absurd (other refl)
+written_elsewhere g d (x ∷ xs) zero (suc n) new other = refl
+written_elsewhere g d (x ∷ xs) (suc i) zero new other = refl
+written_elsewhere g d (x ∷ xs) (suc i) (suc n) new other =
+    written_elsewhere g d xs i n new (λ e. other (ap suc e))
+
+abbrev items_of : Vec (List ℤ) Global → List (List ℤ)
+items_of rows = rows.items
+
+-- a row more in the vector of this number
+pub dealt_at :
+    (dealt : List (Vec (List ℤ) Global)) (number : ℕ) (row : List ℤ) (old new : Vec (List ℤ) Global)
+    → number < length dealt
+    → old ≡ get_or dealt number old
+    → new.items ≡ old.items ++ row ∷ []
+    → IsDealt number row (map (λ (rows : Vec (List ℤ) Global). rows.items) dealt)
+    (map (λ (rows : Vec (List ℤ) Global). rows.items) (slice_set dealt number new))
+dealt_at dealt number row old new within was becomes = record {
+  count = length-map (slice_set dealt number new) items_of ∙ length-set dealt number new ∙ sym (length-map dealt items_of);
+  rows = λ other. at_other other (number == other) refl;
+}
+  where
+    here :
+        slice_index_or (map items_of (slice_set dealt number new)) number []
+        ≡ slice_index_or (map items_of dealt) number [] ++ row ∷ []
+    here =
+        written_here items_of [] dealt number new within
+        ∙ becomes
+        ∙ ap (λ l. l ++ row ∷ []) (sym (slice_index_or-map items_of [] dealt number old within was))
+
+    at_other :
+        (other : ℕ) (b : Bool) → (number == other) ≡ b
+        → slice_index_or (map items_of (slice_set dealt number new)) other []
+        ≡ slice_index_or (map items_of dealt) other [] ++ cond b (row ∷ []) []
+    at_other other true e =
+        let same : number ≡ other = eqb-true number other e in
+        subst
+        (λ n. slice_index_or (map items_of (slice_set dealt number new)) n []
+        ≡ slice_index_or (map items_of dealt) n [] ++ row ∷ [])
+        same here
+    at_other other false e =
+        written_elsewhere items_of [] dealt number other new (eqb-false number other e)
+        ∙ sym (append-nil (slice_index_or (map items_of dealt) other []))
+
+-- nobody was read
+pub none_begun :
+    (types : List AgentType) (first now : List Token) (dealt : List (List (List ℤ)))
+    → first ≡ begin_array ∷ now
+    → dealt ≡ replicate (length types) []
+    → AreBegun types first now dealt
+none_begun types first now dealt begins nobody = record {
+  all = [];
+  tokens = begins;
+  known = All-nil (IsOfTypes types);
+  dealt_are = record {
+    count = ap length nobody ∙ length-replicate (length types) [];
+    rows = λ number within.
+        ap (λ l. slice_index_or l number []) nobody
+        ∙ get_or-replicate (length types) number [] [] within;
+  };
+}
+
+-- an agent more was read
+pub more_begun :
+    (types : List AgentType) (first old opened new : List Token) (before after : List (List (List ℤ)))
+    → AreBegun types first old before
+    → old ≡ begin_object ∷ opened
+    → IsAdded types opened new before after
+    → AreBegun types first new after
+more_begun types first old opened new before after so_far opens added = record {
+  all = so_far.all ++ added.listed ∷ [];
+  tokens =
+      so_far.tokens
+      ∙ ap (λ (ts : List Token). begin_array ∷ (begun (map listed_tree so_far.all) ++ ts)) (opens ∙ added.tokens)
+      ∙ sym (ap (λ (ts : List Token). begin_array ∷ ts) (mapped_more listed_tree so_far.all added.listed new));
+  known = All-push (IsOfTypes types) so_far.all added.listed so_far.known added.known;
+  dealt_are = record {
+    count = added.dealt.count ∙ so_far.dealt_are.count;
+    rows = λ number within.
+        added.dealt.rows number
+        ∙ ap (λ rows. rows ++ row_for number added.listed) (so_far.dealt_are.rows number within)
+        ∙ flat_map_more (row_for number) [] so_far.all added.listed;
+  };
+}
+
+-- the list ends
+pub all_read :
+    (types : List AgentType) (first old new : List Token) (dealt : List (List (List ℤ)))
+    → AreBegun types first old dealt
+    → old ≡ end_array ∷ new
+    → AreRead types first new dealt
+all_read types first old new dealt so_far ends = record {
+  all = so_far.all;
+  tokens =
+      so_far.tokens
+      ∙ ap (λ (ts : List Token). begin_array ∷ (begun (map listed_tree so_far.all) ++ ts)) ends
+      ∙ sym (list_closed (map listed_tree so_far.all) new);
+  known = so_far.known;
+  dealt_are = so_far.dealt_are;
+}
+
+-- the bags of rows are those of the rows' lists
+pub bags_of-rows : (dealt : Vec (Vec (List ℤ) Global) Global) → bags_of dealt ≡ map ascending (rows_of dealt)
+bags_of-rows dealt = each_bag dealt.items
+  where
+    each_bag :
+        (all : List (Vec (List ℤ) Global))
+        → map (λ (rows : Vec (List ℤ) Global). ascending rows.items) all
+        ≡ map ascending (map (λ (rows : Vec (List ℤ) Global). rows.items) all)
+    each_bag [] = refl
+    each_bag (rows ∷ all) = ap (λ bags. ascending rows.items ∷ bags) (each_bag all)

@@ -1,0 +1,7 @@
+use Rattle.std.proofs.Common.{◌≡◌, []}
+use Rattle.std.specs.Prelude.{replicate}
+use Rattle.flame_tokens.specs.AgentTrees.{rows_of}
+use Rattle.flame_tokens.proofs.agents.nobody.Given as goal
+
+abbrev pub invariant-loop-turn : goal.invariant-loop-turn
+invariant-loop-turn l = rows_of l.dealt ≡ replicate l._turn []

@@ -1,0 +1,4 @@
+pub mod NumberTrees
+pub mod MemberTrees
+pub mod AgentTrees
+pub mod PopulationTrees
