@@ -8,6 +8,7 @@ use flame_case_loads::answer_load;
 use flame_case_models::{
     answer_flat, answer_model, answer_names, answer_plan, answer_shape, answer_wide,
 };
+use flame_case_nodes::{answer_gather, answer_part};
 use flame_case_populations::answer_population;
 use flame_case_programs::{answer_code, answer_graph, answer_outcome};
 use flame_case_runs::{answer_core, answer_flow, answer_iteration, answer_orders};
@@ -50,6 +51,10 @@ pub(crate) enum Kind {
     Flow,
     /// The same, in many orders, beside `flame_runner::iterate`
     Orders,
+    /// `flame_nodes::part`
+    Part,
+    /// `flame_nodes::gather`
+    Gather,
     /// `flame_popfile::population`, and `flame_popfile::text` and `flame_popfile::line` of what it gives
     Population,
     /// `flame_machine::run`
@@ -92,6 +97,8 @@ pub(crate) fn kind_of(file: &str) -> Option<Kind> {
         "core" => Some(Kind::Core),
         "flow" => Some(Kind::Flow),
         "orders" => Some(Kind::Orders),
+        "part" => Some(Kind::Part),
+        "gather" => Some(Kind::Gather),
         "population" => Some(Kind::Population),
         "machine" => Some(Kind::Machine),
         "load" => Some(Kind::Load),
@@ -130,6 +137,8 @@ pub(crate) fn answer(
         Kind::Core => answer_core(alloc, case),
         Kind::Flow => answer_flow(alloc, case),
         Kind::Orders => answer_orders(alloc, case),
+        Kind::Part => answer_part(alloc, case),
+        Kind::Gather => answer_gather(alloc, case),
         Kind::Population => answer_population(alloc, case),
         Kind::Machine => answer_machine(alloc, case),
         Kind::Load => answer_load(alloc, case),

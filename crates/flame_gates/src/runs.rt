@@ -1,4 +1,4 @@
-//! Runs and traces with two workers.
+//! Runs and traces, most with two workers.
 
 use flame_outside::{Gate, MemDepot, MemSink, OpenGate};
 use flame_rows::NoMemory;
@@ -53,6 +53,18 @@ fn is_ended_so<Rt: Threads + Wait + Sync, G: Gate>(
     Ok(ended.status == status && err.bytes() == line.as_bytes())
 }
 
+/// Whether a run with these words over these files, whose workers call this gate, is carried out.
+pub(crate) fn is_carried_out_so<Rt: Threads + Wait + Sync, G: Gate>(
+    rt: &Rt,
+    alloc: Global,
+    given: &Given,
+    words: &[&str],
+    gate: &G,
+) -> Result<bool, NoMemory> {
+    let mut depot = depot_of(alloc, given)?;
+    is_ended_so(rt, alloc, words, &mut depot, gate, 0, "")
+}
+
 /// Whether a run of one iteration over these files is carried out by two workers, who wait as this says and call this gate.
 pub(crate) fn is_carried_out<Rt: Threads + Wait + Sync, G: Gate>(
     rt: &Rt,
@@ -61,7 +73,6 @@ pub(crate) fn is_carried_out<Rt: Threads + Wait + Sync, G: Gate>(
     way: &str,
     gate: &G,
 ) -> Result<bool, NoMemory> {
-    let mut depot = depot_of(alloc, given)?;
     let words = [
         "run",
         "m.json",
@@ -73,7 +84,7 @@ pub(crate) fn is_carried_out<Rt: Threads + Wait + Sync, G: Gate>(
         "--sync",
         way,
     ];
-    is_ended_so(rt, alloc, &words, &mut depot, gate, 0, "")
+    is_carried_out_so(rt, alloc, given, &words, gate)
 }
 
 /// The words of a trace by two workers.

@@ -1,5 +1,5 @@
-//! Iterations run by nodes: the agents that take a function are parted, each node runs its part in a thread of its own, and
-//! what the nodes send back is gathered.
+//! Iterations run by nodes: the agents that take a function are parted, each node runs its part in a thread of its own, but the
+//! last, which is the caller, and what the nodes send back is gathered.
 #![tactic(auto)]
 
 mod columns;

@@ -18,7 +18,8 @@ use std::vec::IntoIter;
 pub enum Parting {
     /// In turn: the taker in place j in content order goes to node j mod nodes.
     Rounds,
-    /// By the numbers in this column: the takers in the order of these numbers, ties by content, in runs of equal length.
+    /// By the numbers in this column: the takers in the order of these numbers, ties by content, in runs as long as an equal share
+    /// is, rounded up.
     Ranges(u32),
 }
 

@@ -15,7 +15,8 @@ use std::sync::Wait;
 use std::thread::Threads;
 
 /// Runs iterations by nodes: the functions run one after another in model order; the agents that take a function are parted among
-/// so many nodes, each of which runs its part in a thread of its own and sends back what they leave.
+/// so many nodes, each of which runs its part in a thread of its own, but the last, which is the caller, and sends back what they
+/// leave.
 #[derive(Drop)]
 pub struct Nodes<'g, G: Gate> {
     gate: &'g G,

@@ -1,4 +1,4 @@
-//! Nodes: each runs its piece in a thread of its own, and sends its share.
+//! Nodes: each runs its piece in a thread of its own, but the last, which is the caller, and sends its share.
 
 ghost use Rattle.std.specs.Prelude.{◌≡◌, ◌<◌, IfOk, length, map};
 ghost use Rattle.std.specs.List.{All};

@@ -1,0 +1,2 @@
+-- Functions of the model with their types, as they were found.
+pub mod PiecePlaces
