@@ -116,12 +116,12 @@ OrdersText (Ok (Code model)) = Unit {0}
 OrdersText (Ok (Replay model pop trace)) = Unit {0}
 OrdersText answer = ⊥
 
--- nothing was read, put or printed [own]
+-- all outside is as it was: nothing was put or printed, and no read failed [own]
 pub record LeavesAll (files : ℕ) (old new : Outside) : Type 0 where
   pub none : files ≡ 0
   pub same : new ≡ old
 
--- nothing was read or put [own]
+-- the depot is as it was: nothing was put, and no read failed [own]
 pub record LeavesDepot (files : ℕ) (old new : Outside) : Type 0 where
   pub none : files ≡ 0
   pub depot : new.depot ≡ old.depot

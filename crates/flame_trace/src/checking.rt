@@ -176,7 +176,7 @@ fn begun<'a>(
 
 /// The verdict on a text that is to tell the iteration which comes next in the start, whose world fits the model: the
 /// answer of its first line that has one, as `Verdict` says; Yes where none has. The text has at most 67108864 bytes, and an
-/// iteration may follow. The error is want of memory. The text is gone over once, and each event comes to a core once.
+/// iteration may follow. The error is want of memory. No earlier line is gone back to, and each event comes to a core once.
 pub fn replay(
     alloc: Global,
     program: &Program,
