@@ -132,7 +132,9 @@ class Epidemic(FolderTest):
         os.chmod("slow", 0o755)
         self.write("sweep.json", {"model": "epidemic.json", "population": "start.json", "iterations": 1, "out": "sweep", "repetitions": 4})
         words = [sys.executable, str(TOP / "flamekit"), "sweep", "sweep.json", "--flame", "./slow", "--at-once", "2"]
-        process = subprocess.Popen(words, stdout=subprocess.PIPE, stderr=subprocess.PIPE, text=True)
+        # Tests that a shell has begun behind & ignore SIGINT, and the sweep would ignore it too.
+        process = subprocess.Popen(words, stdout=subprocess.PIPE, stderr=subprocess.PIPE, text=True,
+                                   preexec_fn=lambda: signal.signal(signal.SIGINT, signal.SIG_DFL))
         until = time.monotonic() + 60
         while not (os.path.exists("started") and len(self.read("started").split()) == 2) and time.monotonic() < until:
             time.sleep(0.05)
