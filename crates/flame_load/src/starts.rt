@@ -67,8 +67,8 @@ fn start_in(alloc: Global, value: &Value, program: &Program, turns: u32) -> Resu
     }
 }
 
-/// The start that the bytes of a population hold for the program's model: read by their tokens where they are written as a
-/// writer does, and else as a value.
+/// The start that the bytes of a population hold for the program's model: read by their tokens where they are of format 1,
+/// without messages, and written as a writer does, and else as a value.
 #[tactic(auto, using(crate::proofs::StartSteps::held_gives, crate::proofs::StartSteps::held_start, crate::proofs::StartSteps::value_gives, crate::proofs::StartSteps::json_stops))]
 fn start_of(alloc: Global, bytes: &[u8], program: &Program, turns: u32) -> Result<Start, StartFail>
     ensures gives { (told : Files) (name : List ℕ) → file_in told population_limit name ≡ Ok bytes.now

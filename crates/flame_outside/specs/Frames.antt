@@ -21,7 +21,7 @@ pub record OnlyReads (old new : SeenDepot) : Type 0 where
   pub reads : old.read_faults ≤ new.read_faults
   pub calm : StaysCalm old new
 
--- nothing but puts was made: files may have changed, and only the count of puts may have risen [own]
+-- as puts leave it: no read failed, the count of failed puts did not fall, and files may be others [own]
 pub record OnlyPuts (old new : SeenDepot) : Type 0 where
   pub reads : new.read_faults ≡ old.read_faults
   pub puts : old.put_faults ≤ new.put_faults

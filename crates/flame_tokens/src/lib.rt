@@ -1,4 +1,4 @@
-//! Populations as writers write them, read by the tokens of their texts.
+//! Populations of format 1 without messages, as writers write them, read by the tokens of their texts.
 #![tactic(auto)]
 
 mod agents;

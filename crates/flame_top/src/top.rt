@@ -51,10 +51,10 @@ pub struct Ended {
 /// W is how many workers there are, 1 to 64; F is how many turns of loops and calls of helpers each call of a
 /// function may take, 0 to 1,000,000,000. Without an option it is `--workers 1`, `--fuel 1000000`, `--sync layers`
 /// and `--format 1`. The agents of functions run in pieces that the W workers share, who call `gate` just before they run a
-/// piece; where a thread cannot be started, the others do its work. By `layers` the functions of a layer run side by side,
-/// and the layers one after another; by `flow` a function runs as soon as all that stand before it are done; by `nodes`
-/// functions run one after another, each worker with a part of the agents of its own: dealt out in turn or, where their type
-/// has a variable VARIABLE that is no array, in ranges of it.
+/// piece; where a thread cannot be started, the others do its work, by `nodes` without a call of `gate`. By `layers` the
+/// functions of a layer run side by side, and the layers one after another; by `flow` a function runs as soon as all that
+/// stand before it are done; by `nodes` functions run one after another, each worker with a part of the agents of its own:
+/// dealt out in turn or, where their type has a variable VARIABLE that is no array, in ranges of it.
 ///
 /// All inputs are read before anything is put or printed: the model file MODEL and those nested in it, at most 64,
 /// then their function files, each of at most 4,194,304 bytes, then POP and then TRACE, each of at most 67,108,864. A run

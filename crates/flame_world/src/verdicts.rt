@@ -9,7 +9,7 @@ pub enum Verdict {
     Yes(u32),
     /// This line has not the form that a trace has there, lacks its line feed, is missing, or stands behind a fault.
     Form(u32),
-    /// This line, which is the first, tells another iteration than the one that comes next in the world.
+    /// This line, which is the first, tells another iteration than the one that comes next.
     OtherStart(u32),
     /// The event of this line is not legal after those before it.
     Illegal(u32),
