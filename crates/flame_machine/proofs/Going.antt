@@ -1,8 +1,8 @@
 -- How runs go on, call helpers, begin and end.
 use Rattle.std.proofs.Common.{◌≡◌, ℕ, zero, suc, ◌+◌, ◌-◌, ◌<◌, ◌≤◌, ◌==◌, true, List, [], ◌∷◌, ◌++◌, length, take, drop, Some, refl, sym, ap, ◌∙◌, subst, arith}
 use Rattle.std.specs.Prelude.{ℤ, pos, slice_get, replicate, reverse}
-use Rattle.std.proofs.lemmas.Bool.{eqb-true}
-use Rattle.std.proofs.lemmas.List.{length-map}
+use Rattle.std.proofs.lemmas.Bool.{and_parts, eqb-true}
+use Rattle.std.proofs.lemmas.List.{length-map, length-take-le}
 use Rattle.std.proofs.lemmas.Option.{slice_get_within}
 use Rattle.flame_rows.proofs.Lists.{list_all-at}
 use Rattle.flame_spec.specs.declared.faults.Fault.{Fault}
@@ -16,13 +16,13 @@ use Rattle.flame_code.specs.Meanings.{Runs, more, back, fall, entry, resumed, be
 use Rattle.flame_code.specs.OnPath.{IsOnPath}
 use Rattle.flame_code.proofs.Endings.{call_named, blind_inputs, entry_stands, begun_stands}
 use Rattle.flame_code.proofs.Safety.{left, path_within, on_stands, on_falls, on_less, back_stands, back_named, back_less, back_falls}
-use Rattle.flame_machine.specs.declared.endings.Finish.{Finish}
-use Rattle.flame_machine.specs.declared.endings.Finish.TheVariants as finish
+use Rattle.flame_machine.specs.declared.frames.Frame.{Frame}
 use Rattle.flame_machine.specs.declared.endings.Called.{Called}
 use Rattle.flame_machine.specs.declared.endings.Called.TheVariants as called
-use Rattle.flame_machine.specs.MachineFrames.{Framed, Additions, nothing_added, config}
-use Rattle.flame_machine.specs.Running.{SeeConstants, Suits, Ready, Finishes, called_of, Returns, CallEnds}
-use Rattle.flame_machine.specs.MachineSteps.{seen}
+use Rattle.flame_machine.specs.MachineFrames.{held, Framed, framed, Additions, nothing_added, config}
+use Rattle.flame_machine.specs.Running.{SeeConstants, Suits, Ready, unused, Finishes, Returns, CallEnds}
+use Rattle.flame_machine.specs.MachineSteps.{seen, told, adds_nothing}
+use Rattle.flame_machine.proofs.Arms.{told-none}
 use Rattle.flame_machine.proofs.Standing.{rows-length}
 use Rattle.flame_machine.proofs.Zeros.{first_locals-zeros, length-filled}
 
@@ -35,40 +35,43 @@ helper_suits helpers g h r are alike at = record {
   alike = alike;
 }
 
+-- a helper adds nothing
+pub blind_adds : (r : Routine) → sees_nothing r ≡ true → adds_nothing r.widths ≡ true
+blind_adds r blind = (and_parts _ _ (and_parts _ _ blind).1).1
+
 -- ---- begins
 
-module _ (r : Routine) (frame : Framed) (args locals : List ℤ) (room fuel : ℕ) where
-  abbrev At : List ℤ → Type 0
-  At memory = frame ≡ record { stack = []; room = room; locals = locals; memory = memory; fuel = fuel }
-
+module _ (r : Routine) (args locals memory : List ℤ) (room fuel : ℕ) where
   abbrev Filled : Type 0
   Filled = locals ≡ args ++ replicate (locals_of r.instrs - length args) (pos 0)
 
   filled_at : Filled → locals_of r.instrs ≤ length locals
   filled_at fill = subst (λ (l : List ℤ). locals_of r.instrs ≤ length l) (sym fill) (length-filled args (locals_of r.instrs))
 
-  config_at : (memory : List ℤ) (added : Additions) (feeds : List Fed) → At memory → Filled
-      → config 0 frame added feeds ≡ record { place = 0; stack = []; locals = first_locals args; memory = memory; sent = added.sent; born = added.born; feeds = feeds; fuel = fuel }
-  config_at memory added feeds at fill =
-      ap (λ (x : Framed). config 0 x added feeds) at
-      ∙ ap (λ (g : Locals). let c : Config = record { place = 0; stack = []; locals = g; memory = memory; sent = added.sent; born = added.born; feeds = feeds; fuel = fuel } in c)
+  config_at : (added : Additions) (feeds : List Fed) → Filled
+      → config 0 (unused room locals memory fuel) added feeds ≡ record { place = 0; stack = []; locals = first_locals args; memory = memory; sent = added.sent; born = added.born; feeds = feeds; fuel = fuel }
+  config_at added feeds fill =
+      ap (λ (g : Locals). let c : Config = record { place = 0; stack = []; locals = g; memory = memory; sent = added.sent; born = added.born; feeds = feeds; fuel = fuel } in c)
       (ap first_locals fill ∙ first_locals-zeros args (locals_of r.instrs - length args))
 
   none_seen : (n : ℕ) (feeds : List Fed) → n ≡ 0 → take n feeds ≡ []
   none_seen n feeds e = ap (λ k. take k feeds) e
 
-  pub helper_begins : (memory : List ℤ) (feeds : List Fed) → At memory → Filled → memory ≡ [] → sees_nothing r ≡ true → config 0 frame nothing_added (seen r.widths feeds) ≡ entry args fuel
-  helper_begins memory feeds at fill empty blind =
-      config_at memory nothing_added (seen r.widths feeds) at fill
+  pub helper_begins : (added : Additions) (feeds : List Fed) → Filled → memory ≡ [] → sees_nothing r ≡ true
+      → config 0 (unused room locals memory fuel) (told r.widths added) (seen r.widths feeds) ≡ entry args fuel
+  helper_begins added feeds fill empty blind =
+      ap (λ (a : Additions). config 0 (unused room locals memory fuel) a (seen r.widths feeds)) (told-none r.widths added (blind_adds r blind))
+      ∙ config_at nothing_added (seen r.widths feeds) fill
       ∙ ap (λ (m : List ℤ). let c : Config = record { place = 0; stack = []; locals = first_locals args; memory = m; sent = []; born = []; feeds = seen r.widths feeds; fuel = fuel } in c) empty
       ∙ ap (λ (fs : List Fed). let c : Config = record { place = 0; stack = []; locals = first_locals args; memory = []; sent = []; born = []; feeds = fs; fuel = fuel } in c)
       (none_seen (length r.widths.inputs) feeds (blind_inputs r blind))
 
-  pub helper_ready : (memory : List ℤ) (feeds : List Fed) → At memory → Filled → memory ≡ [] → sees_nothing r ≡ true → length r.instrs ≤ room → Ready r 0 frame nothing_added feeds
-  helper_ready memory feeds at fill empty blind enough = record {
-    stands = subst (IsOnPath r) (sym (helper_begins memory feeds at fill empty blind)) (entry_stands r args fuel blind);
-    locals = let le = filled_at fill in let e = ap (λ (x : Framed). length x.locals) at in omega arith;
-    room = let e = ap (λ (x : Framed). x.room) at in omega arith;
+  pub helper_ready : (added : Additions) (feeds : List Fed) → Filled → memory ≡ [] → sees_nothing r ≡ true → length r.instrs ≤ room
+      → Ready r 0 (unused room locals memory fuel) (told r.widths added) feeds
+  helper_ready added feeds fill empty blind enough = record {
+    stands = subst (IsOnPath r) (sym (helper_begins added feeds fill empty blind)) (entry_stands r args fuel blind);
+    locals = filled_at fill;
+    room = enough;
     inputs = let e = blind_inputs r blind in omega arith;
   }
 
@@ -81,18 +84,18 @@ all_seen (x ∷ xs) (suc n) e = ap (λ l. x ∷ l) (all_seen xs n (omega arith))
 input_count : (r : Routine) (feeds : List Fed) → HaveWidths r.widths.inputs (rows_of feeds) → length r.widths.inputs ≡ length feeds
 input_count r feeds rows = sym rows.count ∙ length-map feeds (λ (x : Fed). x.rows)
 
-module _ (r : Routine) (frame : Framed) (locals : List ℤ) (room fuel : ℕ) (memory : List ℤ) (feeds : List Fed) (rows : HaveWidths r.widths.inputs (rows_of feeds)) where
-  pub code_begins : At r frame [] locals room fuel memory → Filled r frame [] locals room fuel → config 0 frame nothing_added (seen r.widths feeds) ≡ begun memory feeds fuel
-  code_begins at fill =
-      config_at r frame [] locals room fuel memory nothing_added (seen r.widths feeds) at fill
+module _ (r : Routine) (locals memory : List ℤ) (room fuel : ℕ) (feeds : List Fed) (rows : HaveWidths r.widths.inputs (rows_of feeds)) where
+  pub code_begins : Filled r [] locals memory room fuel → config 0 (unused room locals memory fuel) nothing_added (seen r.widths feeds) ≡ begun memory feeds fuel
+  code_begins fill =
+      config_at r [] locals memory room fuel nothing_added (seen r.widths feeds) fill
       ∙ ap (λ (fs : List Fed). let c : Config = record { place = 0; stack = []; locals = first_locals []; memory = memory; sent = []; born = []; feeds = fs; fuel = fuel } in c)
       (all_seen feeds (length r.widths.inputs) (input_count r feeds rows))
 
-  pub code_ready : At r frame [] locals room fuel memory → Filled r frame [] locals room fuel → length memory ≡ r.widths.memory → length r.instrs ≤ room → Ready r 0 frame nothing_added feeds
-  code_ready at fill wide enough = record {
-    stands = subst (IsOnPath r) (sym (code_begins at fill)) (begun_stands r memory feeds fuel wide rows);
-    locals = let le = filled_at r frame [] locals room fuel fill in let e = ap (λ (x : Framed). length x.locals) at in omega arith;
-    room = let e = ap (λ (x : Framed). x.room) at in omega arith;
+  pub code_ready : Filled r [] locals memory room fuel → length memory ≡ r.widths.memory → length r.instrs ≤ room → Ready r 0 (unused room locals memory fuel) nothing_added feeds
+  code_ready fill wide enough = record {
+    stands = subst (IsOnPath r) (sym (code_begins fill)) (begun_stands r memory feeds fuel wide rows);
+    locals = filled_at r [] locals memory room fuel fill;
+    room = enough;
     inputs = let e = input_count r feeds rows in omega arith;
   }
 
@@ -132,22 +135,23 @@ module _ (g : Given) (helpers : List Routine) (r : Routine) (valid : IsValid r) 
 pub unseen : (r : Routine) (before after : List Fed) → sees_nothing r ≡ true → drop (length r.widths.inputs) after ≡ drop (length r.widths.inputs) before → after ≡ before
 unseen r before after blind same = subst (λ n. drop n after ≡ drop n before) (blind_inputs r blind) same
 
-pub call_ends : (g : Given) (helpers : List Routine) (r inner : Routine) (h : ℕ) (args : List ℤ) (fuel : ℕ) (c : Config) (f : Finish) (gained : Additions) (after : List Fed) (given : Called)
-    → slice_get helpers h ≡ Some r → slice_get helpers h ≡ Some inner → c ≡ entry args fuel → Finishes g helpers r c f gained after → given ≡ called_of f → CallEnds g helpers inner args fuel given
-call_ends g helpers r inner h args fuel c (finish.Returned v frame) gained after given found at begins finishes same =
-    let is : r ≡ inner = let e : Some r ≡ Some inner = sym found ∙ at in cc in
-    let end = config finishes.place frame gained after in
-    subst (CallEnds g helpers inner args fuel) (sym same) (record {
-      end = end;
-      fuel = refl;
-      runs = subst (λ (x : Routine). Runs g helpers x (entry args fuel) (returned v end)) is
-          (subst (λ (x : Config). Runs g helpers r x (returned v end)) begins finishes.runs);
-    })
-call_ends g helpers r inner h args fuel c (finish.Faulted fault) gained after given found at begins finishes same =
-    let is : r ≡ inner = let e : Some r ≡ Some inner = sym found ∙ at in cc in
-    subst (CallEnds g helpers inner args fuel) (sym same)
-    (subst (λ (x : Routine). Runs g helpers x (entry args fuel) (faulted fault)) is
-    (subst (λ (x : Config). Runs g helpers r x (faulted fault)) begins finishes.runs))
+pub call_ends : (g : Given) (helpers : List Routine) (r : Routine) (args : List ℤ) (fuel : ℕ) (c : Config) (given : Called) (memory : List ℤ) (gained : Additions) (after : List Fed)
+    → c ≡ entry args fuel → Finishes g helpers r c given memory gained after → CallEnds g helpers r args fuel given
+call_ends g helpers r args fuel c (called.Returned v left) memory gained after begins finishes = record {
+  end = config finishes.place (record finishes.frame { memory = memory; fuel = left }) gained after;
+  fuel = refl;
+  runs = subst (λ (x : Config). Runs g helpers r x (returned v (config finishes.place (record finishes.frame { memory = memory; fuel = left }) gained after))) begins finishes.runs;
+}
+call_ends g helpers r args fuel c (called.Faulted fault) memory gained after begins finishes =
+    subst (λ (x : Config). Runs g helpers r x (faulted fault)) begins finishes.runs
+
+-- the first locals of a helper are its arguments, and the others are 0
+pub filled_with : (r : Routine) (cells front : List ℤ) (count locals : ℕ) → count ≤ length cells → locals - count ≡ locals_of r.instrs - count
+    → front ≡ take count cells ++ replicate (locals - count) (pos 0)
+    → front ≡ take count cells ++ replicate (locals_of r.instrs - length (take count cells)) (pos 0)
+filled_with r cells front count locals le least fill =
+    let long = length-take-le count cells le in
+    fill ∙ ap (λ n. take count cells ++ replicate n (pos 0)) (least ∙ ap (λ k. locals_of r.instrs - k) (sym long))
 
 module _ (g : Given) (helpers : HelperCodes) (are : AreHelpers helpers) (r : Routine) (valid : IsValid r) (fit : calls_fit helpers.parameters r ≡ true)
     (c d : Config) (h : ℕ) (args : List ℤ) (stands : IsOnPath r c) (e : step g r c ≡ calls h args d) where
@@ -176,6 +180,18 @@ module _ (g : Given) (helpers : HelperCodes) (are : AreHelpers helpers) (r : Rou
     inputs = inputs;
   }
 
+-- what a run holds behind a call, whose cells below this one are as they were
+pub behind_call : (frame : Frame) (cells later locals memory stack : List ℤ) (base rest room n : ℕ) (v : ℤ)
+    → frame ≡ record { height = base; top = v; fuel = rest } → take base later ≡ take base cells → length later ≡ room
+    → take base (v ∷ reverse (take base cells)) ≡ v ∷ drop n stack
+    → framed (held frame later) locals memory ≡ record { stack = v ∷ drop n stack; room = room; locals = locals; memory = memory; fuel = rest }
+behind_call frame cells later locals memory stack base rest room n v is below long behind =
+    let with : List ℤ → ℕ → Framed = λ l k. record { stack = l; room = k; locals = locals; memory = memory; fuel = rest } in
+    ap (λ (f : Frame). framed (held f later) locals memory) is
+    ∙ ap (λ (l : List ℤ). with (take base (v ∷ reverse l)) (length later)) below
+    ∙ ap (λ (l : List ℤ). with l (length later)) behind
+    ∙ ap (with (v ∷ drop n stack)) long
+
 -- what a call with these arguments and this fuel comes to
 pub ends_as : (g : Given) (helpers : List Routine) (h : ℕ) (items args : List ℤ) (fuel paid : ℕ) (given other : Called) → items ≡ args → fuel ≡ paid → given ≡ other
     → ((inner : Routine) → slice_get helpers h ≡ Some inner → CallEnds g helpers inner items fuel given)
@@ -184,9 +200,6 @@ ends_as g helpers h items args fuel paid given other a f o ends inner at =
     subst (CallEnds g helpers inner args paid) o
     (subst (λ k. CallEnds g helpers inner args k given) f
     (subst (λ (l : List ℤ). CallEnds g helpers inner l fuel given) a (ends inner at)))
-
-pub row_is : (empty row args : List ℤ) → row ≡ empty ++ args → empty ≡ [] → row ≡ args
-row_is empty row args e f = e ∙ ap (λ (l : List ℤ). l ++ args) f
 
 module _ (g : Given) (helpers : HelperCodes) (are : AreHelpers helpers) (r : Routine) (valid : IsValid r) (fit : calls_fit helpers.parameters r ≡ true)
     (place : ℕ) (old new : Framed) (added more : Additions) (feeds after : List Fed) (ready : Ready r place old added feeds) (h n : ℕ)
@@ -204,39 +217,30 @@ module _ (g : Given) (helpers : HelperCodes) (are : AreHelpers helpers) (r : Rou
       → Runs g helpers.routines r (config place old added (seen r.widths feeds)) (faulted fault)
   arm_faults fault ends = fall_runs g helpers are r valid fit (config place old added (seen r.widths feeds)) Behind h (reverse (take n new.stack)) ready.stands e fault ends
 
-  module _ (kept dropped set pushed : Framed) (v : ℤ) (rest : ℕ) (later : List Fed) (k : kept ≡ new) (d : dropped ≡ record kept { stack = drop n kept.stack })
-      (s : set ≡ record dropped { fuel = rest }) (p : pushed ≡ record set { stack = v ∷ set.stack }) (same : later ≡ after)
-      (here : ℕ) (is : here ≡ place + 1) where
-    pushed_is : pushed ≡ record new { stack = v ∷ drop n new.stack; fuel = rest }
-    pushed_is =
-        p ∙ ap (λ (x : Framed). record x { stack = v ∷ x.stack })
-        (s ∙ ap (λ (x : Framed). record x { fuel = rest })
-        (d ∙ ap (λ (x : Framed). record x { stack = drop n x.stack }) k))
-
-    resumes : config (place + 1) pushed more (seen r.widths later) ≡ resumed v rest Behind
+  module _ (pushed : Framed) (v : ℤ) (rest : ℕ) (put : Additions) (later : List Fed) (p : pushed ≡ record new { stack = v ∷ drop n new.stack; fuel = rest })
+      (quiet : put ≡ more) (same : later ≡ after) (here : ℕ) (is : here ≡ place + 1) where
+    resumes : config (place + 1) pushed put (seen r.widths later) ≡ resumed v rest Behind
     resumes =
-        ap (λ (x : Framed). config (place + 1) x more (seen r.widths later)) pushed_is
+        ap (λ (x : Framed). config (place + 1) x put (seen r.widths later)) p
+        ∙ ap (λ (a : Additions). config (place + 1) (record new { stack = v ∷ drop n new.stack; fuel = rest }) a (seen r.widths later)) quiet
         ∙ ap (λ (fs : List Fed). config (place + 1) (record new { stack = v ∷ drop n new.stack; fuel = rest }) more (seen r.widths fs)) same
-
-    pub arm_fuel : pushed.fuel ≡ rest
-    arm_fuel = ap (λ (x : Framed). x.fuel) pushed_is
 
     pub arm_falls : rest ≤ new.fuel → left r here pushed.fuel < left r place old.fuel
     arm_falls le =
         subst (λ k. left r k pushed.fuel < left r place old.fuel) (sym is)
-        (subst (λ (x : Framed). left r (place + 1) x.fuel < left r place old.fuel) (sym pushed_is)
+        (subst (λ (x : Framed). left r (place + 1) x.fuel < left r place old.fuel) (sym p)
         (back_falls r valid g (config place old added (seen r.widths feeds)) Behind h (reverse (take n new.stack)) ready.stands e rest le))
 
-    pub arm_ready : length new.locals ≡ length old.locals → new.room ≡ old.room → rows_of after ≡ rows_of feeds → Ready r here pushed more later
+    pub arm_ready : length new.locals ≡ length old.locals → new.room ≡ old.room → rows_of after ≡ rows_of feeds → Ready r here pushed put later
     arm_ready locals room rows =
-        subst (λ k. Ready r k pushed more later) (sym is)
-        (ready_back g helpers are r valid fit (config place old added (seen r.widths feeds)) Behind h (reverse (take n new.stack)) ready.stands e (place + 1) pushed more later v rest resumes
-        (let le = ready.locals in let same_locals = ap (λ (x : Framed). length x.locals) pushed_is in omega arith)
-        (let le = ready.room in let same_room = ap (λ (x : Framed). x.room) pushed_is in omega arith)
+        subst (λ k. Ready r k pushed put later) (sym is)
+        (ready_back g helpers are r valid fit (config place old added (seen r.widths feeds)) Behind h (reverse (take n new.stack)) ready.stands e (place + 1) pushed put later v rest resumes
+        (let le = ready.locals in let same_locals = ap (λ (x : Framed). length x.locals) p in omega arith)
+        (let le = ready.room in let same_room = ap (λ (x : Framed). x.room) p in omega arith)
         (let le = ready.inputs in let count = rows-length after feeds rows in let same_count = ap length same in omega arith))
 
     pub arm_comes : ((inner : Routine) → slice_get helpers.routines h ≡ Some inner → CallEnds g helpers.routines inner (reverse (take n new.stack)) new.fuel (called.Returned v rest))
-        → (end : End) → Runs g helpers.routines r (config here pushed more (seen r.widths later)) end → Runs g helpers.routines r (config place old added (seen r.widths feeds)) end
+        → (end : End) → Runs g helpers.routines r (config here pushed put (seen r.widths later)) end → Runs g helpers.routines r (config place old added (seen r.widths feeds)) end
     arm_comes ends end runs =
         back_runs g helpers are r valid fit (config place old added (seen r.widths feeds)) Behind h (reverse (take n new.stack)) ready.stands e v rest ends end
-        (subst (λ (x : Config). Runs g helpers.routines r x end) (ap (λ k. config k pushed more (seen r.widths later)) is ∙ resumes) runs)
+        (subst (λ (x : Config). Runs g helpers.routines r x end) (ap (λ k. config k pushed put (seen r.widths later)) is ∙ resumes) runs)

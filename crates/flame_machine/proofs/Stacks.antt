@@ -1,6 +1,8 @@
 -- A stack with its top apart, and the values below it in the first of some cells.
 use Rattle.std.proofs.Common.{◌≡◌, ℕ, zero, suc, ◌+◌, ◌-◌, ◌<◌, ◌≤◌, List, [], ◌∷◌, ◌++◌, length, take, drop, get_or, refl, sym, ap, ◌∙◌, arith, length-drop}
 use Rattle.std.specs.Prelude.{ℤ, slice_set, slice_range, reverse}
+use Rattle.flame_machine.specs.declared.frames.Frame.{Frame}
+use Rattle.flame_machine.specs.MachineFrames.{held}
 use Rattle.std.proofs.Math.Seq.{take-append_seam, drop-append_seam}
 use Rattle.std.proofs.lemmas.List.{reverse-append, take_more_set, take_more, reverse-reverse, length-reverse, length-take-le}
 
@@ -65,7 +67,7 @@ kept_off xs top last d h le =
 pub kept_tall : (xs : List ℤ) (top : ℕ) (last : ℤ) → top ≤ length xs → length (take top (last ∷ reverse (take top xs))) ≡ top
 kept_tall xs top last h = let t = tall xs top h in length-take-le top (last ∷ reverse (take top xs)) (omega arith)
 
-take_take : (xs : List ℤ) (n top : ℕ) → n ≤ top → take n (take top xs) ≡ take n xs
+pub take_take : (xs : List ℤ) (n top : ℕ) → n ≤ top → take n (take top xs) ≡ take n xs
 take_take xs zero top le = refl
 take_take xs (suc n) zero le = absurd (omega arith)
 take_take [] (suc n) (suc top) le = refl
@@ -81,10 +83,16 @@ drop_take [] (suc n) (suc top) le = none (suc top - suc n)
     none (suc c) = refl
 drop_take (x ∷ xs) (suc n) (suc top) le = let e : suc top - suc n ≡ top - n = omega arith in drop_take xs n top (omega arith) ∙ sym (ap (λ k. take k (drop n xs)) e)
 
+set_long : (xs : List ℤ) (k : ℕ) (v : ℤ) → length (slice_set xs k v) ≡ length xs
+set_long [] zero v = refl
+set_long [] (suc k) v = refl
+set_long (x ∷ xs) zero v = refl
+set_long (x ∷ xs) (suc k) v = ap suc (set_long xs k v)
+
 -- the values in the uppermost cells, where the top lies above the others
-pub row_of : (xs : List ℤ) (top n : ℕ) (last : ℤ) → top < length xs → n ≤ top → top + 1 ≤ length (slice_set xs top last) → slice_range (slice_set xs top last) (top + 1 - n) (top + 1) ≡ reverse (take n (take top (last ∷ reverse (take top xs))))
-row_of xs top n last h le size =
-    args_of (slice_set xs top last) (top + 1) n size (omega arith)
+pub row_of : (xs : List ℤ) (top n : ℕ) (last : ℤ) → top < length xs → n ≤ top → slice_range (slice_set xs top last) (top + 1 - n) (top + 1) ≡ reverse (take n (take top (last ∷ reverse (take top xs))))
+row_of xs top n last h le =
+    args_of (slice_set xs top last) (top + 1) n (omega (arith, set_long xs top last)) (omega arith)
     ∙ ap (λ l. reverse (take n l)) (pushed_on xs top last h)
     ∙ ap reverse (sym (take_take (last ∷ reverse (take top xs)) n top le))
 
@@ -103,3 +111,26 @@ rest_of xs top (suc n) last d some le h =
     drop_take (last ∷ reverse (take top xs)) (suc n) top le
     ∙ ap (take (top - suc n)) (sym (dropped_off xs top n h (omega arith)) ∙ popped_off xs (top - n) d (omega arith) (omega arith))
     ∙ ap (λ j. take (top - suc n) (get_or xs j d ∷ reverse (take j xs))) k
+
+-- ---- the cells of a call
+
+-- the values in the cells from a place on
+pub args_from : (xs : List ℤ) (top n : ℕ) (last : ℤ) → top < length xs → n ≤ top
+    → take n (drop (top + 1 - n) (slice_set xs top last)) ≡ reverse (take n (take top (last ∷ reverse (take top xs))))
+args_from xs top n last h le =
+    let e : top + 1 - (top + 1 - n) ≡ n = omega arith in
+    sym (ap (λ k. take k (drop (top + 1 - n) (slice_set xs top last))) e) ∙ row_of xs top n last h le
+
+-- the stack behind a call, whose value is the top
+pub stack_behind : (xs : List ℤ) (top n : ℕ) (last v : ℤ) → top < length xs → n ≤ top
+    → take (top + 1 - n) (v ∷ reverse (take (top + 1 - n) (slice_set xs top last))) ≡ v ∷ drop n (take top (last ∷ reverse (take top xs)))
+stack_behind xs top n last v h le =
+    let e : top + 1 - n ≡ suc (top - n) = omega arith in
+    ap (λ k. take k (v ∷ reverse (take (top + 1 - n) (slice_set xs top last)))) e
+    ∙ ap (λ l. v ∷ take (top - n) l)
+    (dropped_off (slice_set xs top last) (top + 1) n (omega (arith, set_long xs top last)) (omega arith) ∙ ap (drop n) (pushed_on xs top last h))
+    ∙ ap (λ l. v ∷ l) (sym (drop_take (last ∷ reverse (take top xs)) n top le))
+
+-- the height of the stack
+pub as_tall : (frame : Frame) (cells : List ℤ) → frame.height ≤ length cells → length (held frame cells).stack ≡ frame.height
+as_tall frame cells h = kept_tall cells frame.height frame.top h

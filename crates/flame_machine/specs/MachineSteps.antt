@@ -1,5 +1,6 @@
 -- What the program's step comes to.
-use Rattle.std.specs.Prelude.{◌≡◌, ℕ, ◌+◌, ◌<◌, ◌≤◌, List, length, take, drop, reverse, IsSome}
+use Rattle.std.specs.Prelude.{◌≡◌, ℕ, ◌+◌, ◌<◌, ◌≤◌, ◌==◌, ◌&&◌, Bool, if◌then◌else◌, ℤ, IsSome}
+use Rattle.std.specs.Prelude.{List, length, take, drop, reverse}
 use Rattle.flame_spec.specs.declared.outcomes.Widths.{Widths}
 use Rattle.flame_code.specs.declared.instrs.Instr.{Instr}
 use Rattle.flame_code.specs.declared.instrs.Instr.TheVariants.{Field, FieldAt}
@@ -7,11 +8,20 @@ use Rattle.flame_code.specs.Feeds.{Fed, field}
 use Rattle.flame_code.specs.Machine.{Config, returned, faulted, StepEnd, on, over, calls}
 use Rattle.flame_machine.specs.declared.steps.MachineStep.{MachineStep}
 use Rattle.flame_machine.specs.declared.steps.MachineStep.TheVariants as turned
-use Rattle.flame_machine.specs.MachineFrames.{Framed, Additions, config}
+use Rattle.flame_machine.specs.MachineFrames.{Held, Framed, framed, Additions, nothing_added, config}
 
 -- the inputs that a code with these widths sees: a helper sees none, also where the code that calls it has some [own]
 abbrev pub seen : Widths → List Fed → List Fed
 seen w feeds = take (length w.inputs) feeds
+
+-- a code with these widths adds nothing, since it sees no messages and no agent types [own]
+abbrev pub adds_nothing : Widths → Bool
+adds_nothing w = (length w.messages == 0) && (length w.agents == 0)
+
+-- the messages and births of a run of a code with these widths: a helper has none, also where the code that calls it has
+-- some [own]
+unfoldable pub told : Widths → Additions → Additions
+told w added = if adds_nothing w then nothing_added else added
 
 -- the program's step at this place came to this turn; at a call the arguments still lie on the stack, and there is room
 -- on it [own]
@@ -25,11 +35,12 @@ Stepped place turn new added feeds (turned.Calls h n) =
     × (n ≤ length new.stack) × (length new.stack < new.room)
 Stepped place turn new added feeds turned.Full = Unit {0}
 
--- the step came to this turn, which changes neither messages and births nor inputs [own]
-abbrev pub StepsBy : (Config → StepEnd) → Framed → Framed → MachineStep → Type 0
+-- the step came to this turn, which changes neither locals, memory, messages and births nor inputs [own]
+abbrev pub StepsBy : (Config → StepEnd) → Held → Held → MachineStep → Type 0
 StepsBy turn old new result =
-    (place : ℕ) (added : Additions) (feeds : List Fed)
-    → Stepped place (turn (config place old added feeds)) new added feeds result
+    (place : ℕ) (locals memory : List ℤ) (added : Additions) (feeds : List Fed)
+    → Stepped place (turn (config place (framed old locals memory) added feeds))
+    (framed new locals memory) added feeds result
 
 -- the numbers that the instruction may read of a current row are there [own]
 abbrev pub HasFields : Instr → List Fed → Type 0

@@ -1,5 +1,5 @@
 -- How the program's runs begin and end.
-use Rattle.std.specs.Prelude.{◌≡◌, ℕ, ◌-◌, ◌≤◌, ◌==◌, ℤ, List, length, drop, true}
+use Rattle.std.specs.Prelude.{◌≡◌, ℕ, ◌-◌, ◌≤◌, ◌==◌, ℤ, List, [], length, drop, true}
 use Rattle.std.specs.List.{list_all}
 use Rattle.flame_code.specs.declared.instrs.Instr.{Instr}
 use Rattle.flame_code.specs.Feeds.{Fed}
@@ -8,8 +8,6 @@ use Rattle.flame_code.specs.Routines.{Routine, locals_of}
 use Rattle.flame_code.specs.Machine.{Given, Config, End, returned, faulted}
 use Rattle.flame_code.specs.Meanings.{Runs, entry}
 use Rattle.flame_code.specs.OnPath.{IsOnPath}
-use Rattle.flame_machine.specs.declared.endings.Finish.{Finish}
-use Rattle.flame_machine.specs.declared.endings.Finish.TheVariants as finish
 use Rattle.flame_machine.specs.declared.endings.Called.{Called}
 use Rattle.flame_machine.specs.declared.endings.Called.TheVariants as called
 use Rattle.flame_machine.specs.MachineFrames.{Framed, Additions, config}
@@ -40,31 +38,27 @@ pub record Ready (r : Routine) (place : ℕ) (frame : Framed) (added : Additions
   pub room : length r.instrs ≤ frame.room
   pub inputs : length r.widths.inputs ≤ length feeds
 
--- how a run ends that finished so at this place, with what it added and the inputs that it leaves [own]
-abbrev pub end_of : ℕ → Finish → Additions → List Fed → End
-end_of place (finish.Returned v frame) added feeds = returned v (config place frame added feeds)
-end_of place (finish.Faulted fault) added feeds = faulted fault
+-- where a run begins with this room for its stack, with these locals, this memory and this fuel [own]
+abbrev pub unused : ℕ → List ℤ → List ℤ → ℕ → Framed
+unused room locals memory fuel = record { stack = []; room = room; locals = locals; memory = memory; fuel = fuel }
 
--- the code's run from here ends as one that finished so, with what it added and the inputs that it leaves [own]
-pub record Finishes (g : Given) (helpers : List Routine) (r : Routine) (from : Config) (finish : Finish)
-    (added : Additions) (feeds : List Fed) : Type 0 where
+-- how a run ends at this place that came to this and left so the memory, what it added and the inputs [own]
+abbrev pub end_of : ℕ → Framed → Called → List ℤ → Additions → List Fed → End
+end_of place frame (called.Returned v left) memory added feeds =
+    returned v (config place (record frame { memory = memory; fuel = left }) added feeds)
+end_of place frame (called.Faulted fault) memory added feeds = faulted fault
+
+-- the code's run from here ends as one that came to this and left so the memory, what it added and the inputs [own]
+pub record Finishes (g : Given) (helpers : List Routine) (r : Routine) (from : Config) (called : Called)
+    (memory : List ℤ) (added : Additions) (feeds : List Fed) : Type 0 where
   pub place : ℕ
-  pub runs : Runs g helpers r from (end_of place finish added feeds)
+  pub frame : Framed
+  pub runs : Runs g helpers r from (end_of place frame called memory added feeds)
 
 -- it leaves no more fuel than this [own]
-abbrev pub FinishFell : Finish → ℕ → Type 0
-FinishFell (finish.Returned v frame) fuel = frame.fuel ≤ fuel
-FinishFell (finish.Faulted fault) fuel = Unit {0}
-
--- what a helper that finished so gives back [own]
-abbrev pub called_of : Finish → Called
-called_of (finish.Returned v frame) = called.Returned v frame.fuel
-called_of (finish.Faulted fault) = called.Faulted fault
-
--- a call leaves no more fuel than this [own]
-abbrev pub CallFell : Called → ℕ → Type 0
-CallFell (called.Returned v left) fuel = left ≤ fuel
-CallFell (called.Faulted fault) fuel = Unit {0}
+abbrev pub Fell : Called → ℕ → Type 0
+Fell (called.Returned v left) fuel = left ≤ fuel
+Fell (called.Faulted fault) fuel = Unit {0}
 
 -- the helper's run with these arguments and this fuel returns the value and leaves so much fuel [own]
 pub record Returns (g : Given) (helpers : List Routine) (helper : Routine) (args : List ℤ) (paid : ℕ) (v : ℤ) (left : ℕ)

@@ -79,6 +79,20 @@ impl Added {
         ensures same_sent { OnErr result (sent.new.items ≡ sent.old.items) }
         ensures same_born { OnErr result (born.new.items ≡ born.old.items) }
     {
+        if self.sent.is_empty() && self.born.is_empty() {
+            return Ok(());
+        }
+        self.give_some(sent, born)
+    }
+
+    /// The same, where there is a message or a birth.
+    #[inline(never)]
+    fn give_some(&mut self, sent: &mut Vec<Sent>, born: &mut Vec<Born>) -> Result<(), NoMemory>
+        ensures sent { OnOk result (sent.new.items ≡ sent.old.items ++ self.old.sent) }
+        ensures born { OnOk result (born.new.items ≡ born.old.items ++ self.old.born) }
+        ensures same_sent { OnErr result (sent.new.items ≡ sent.old.items) }
+        ensures same_born { OnErr result (born.new.items ≡ born.old.items) }
+    {
         let count = sent.len();
         sent.append(&mut self.sent)?;
         if born.append(&mut self.born).is_err() {

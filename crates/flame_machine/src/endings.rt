@@ -4,7 +4,6 @@ ghost use Rattle.std.specs.Prelude.{◌≡◌, IfOk};
 ghost use Rattle.flame_code.specs.Meanings.{memory_after as after};
 ghost use Rattle.flame_machine.specs.RunsInto.{outcome_of_all};
 
-use crate::frames::Frame;
 use flame_rows::{NoMemory, Row, Seq};
 use flame_spec::{Born, Effect, Fault, Outcome, Sent};
 use std::alloc::Global;
@@ -19,16 +18,7 @@ pub enum Ending {
     Faulted(Fault),
 }
 
-/// How a run ended.
-#[derive(Drop)]
-pub enum Finish {
-    /// It returned the value, and left its frame.
-    Returned(i32, Frame),
-    /// It faulted.
-    Faulted(Fault),
-}
-
-/// What a helper gives back.
+/// What a run of a code came to.
 #[derive(Drop)]
 pub enum Called {
     /// Its value, and the fuel that is left.

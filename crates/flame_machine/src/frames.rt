@@ -1,163 +1,129 @@
-//! One run of a code: what it holds beside its place.
+//! One run of a code: what it holds beside its place, its locals and its memory.
 
-ghost use Rattle.std.specs.Prelude.{◌≡◌, ◌+◌, ◌<◌, ◌≤◌, ◌^◌, [], ◌∷◌, ◌++◌, length, reverse, take, drop, slice_set, IfOk, OnOk};
+ghost use Rattle.std.specs.Prelude.{◌≡◌, ◌+◌, ◌<◌, ◌≤◌, ℤ, pos, ◌∷◌, length, reverse, take, drop, slice_set, IfOk};
 ghost use Rattle.flame_spec.specs.Conditions.{number_at};
+ghost use Rattle.flame_machine.specs.MachineFrames.{held, with_value, without};
 
 use flame_rows::{NoMemory, Row};
 use std::alloc::Global;
-use std::marker::Model;
 
-/// A run's stack, locals, memory and fuel. Its lists are taken once at their greatest size, so that no step
-/// allocates. The top of the stack stands in a field of its own, and the values below it in the cells from 1 on.
+/// The height of a run's stack, its top and the run's fuel. The values below the top lie in cells that are lent to the run,
+/// from 1 on, as many as the stack is ever high. So no step allocates.
 #[derive(Drop)]
 pub struct Frame {
     height: usize,
     top: i32,
     fuel: u32,
-    cells: Vec<i32>,
-    locals: Vec<i32>,
-    memory: Vec<i32>,
 }
 
-impl Model for Frame {
-    ghost use Rattle.std.specs.Prelude.{◌∷◌, reverse, take, length, ◌≤◌};
-    ghost use Rattle.flame_machine.specs.MachineFrames.{Framed};
+/// The number in this place of a list.
+#[inline(always)]
+pub fn number_in(numbers: &[i32], place: usize) -> i32
+    requires { place < length numbers.now }
+    ensures { result ≡ number_at numbers.now place }
+{
+    numbers[place]
+}
 
-    ghost Value = { Framed };
-
-    ghost view = { λ f. record {
-      stack = take f.height (f.top ∷ reverse (take f.height f.cells.items));
-      room = length f.cells.items;
-      locals = f.locals.items;
-      memory = f.memory.items;
-      fuel = f.fuel;
-    } };
-
-    ghost invariant = { λ f. f.height ≤ length f.cells.items };
+/// Changes the number in this place of a list.
+#[inline(always)]
+pub fn set_number(numbers: &mut [i32], place: usize, value: i32)
+    requires { place < length numbers.old }
+    ensures { numbers.new ≡ slice_set numbers.old place value }
+{
+    numbers[place] = value;
 }
 
 impl Frame {
-    /// At the begin of a code, with room for as many values as there are cells.
-    pub fn begin(cells: Vec<i32>, locals: Vec<i32>, memory: Vec<i32>, fuel: u32) -> Frame
-        ensures { result ≡ record {
-          stack = [];
-          room = length cells.items;
-          locals = locals.items;
-          memory = memory.items;
-          fuel = fuel;
-        } }
+    /// At the begin of a code.
+    pub fn begin(fuel: u32) -> Frame
+        ensures { result ≡ record { height = 0; top = pos 0; fuel = fuel } }
     {
         Frame {
             height: 0,
             top: 0,
             fuel,
-            cells,
-            locals,
-            memory,
         }
+    }
+
+    /// Behind a call, with so many values on the stack, of which this one is the top, and with this fuel.
+    #[inline(always)]
+    pub fn resumed(height: usize, top: i32, fuel: u32) -> Frame
+        ensures { result ≡ record { height = height; top = top; fuel = fuel } }
+    {
+        Frame { height, top, fuel }
     }
 
     /// Puts the value on the stack, which has room for it.
     #[inline(always)]
-    #[tactic(auto, using(crate::proofs::Stacks::kept_on, crate::proofs::Stacks::kept_tall))]
-    pub fn push(&mut self, value: i32)
-        requires { length self.old.stack < self.old.room }
-        ensures { self.new ≡ record self.old { stack = value ∷ self.old.stack } }
+    #[tactic(auto, using(crate::proofs::Stacks::kept_on))]
+    pub fn push(&mut self, cells: &mut [i32], value: i32)
+        requires { self.old.height < length cells.old }
+        ensures stack { held self.new cells.new ≡ with_value value (held self.old cells.old) }
+        ensures height { self.new.height ≡ self.old.height + 1 }
     {
-        self.cells[self.height] = self.top;
+        cells[self.height] = self.top;
         self.top = value;
         self.height += 1;
     }
 
     /// Takes the top from the stack.
     #[inline(always)]
-    #[tactic(auto, using(crate::proofs::Stacks::kept_off, crate::proofs::Stacks::kept_tall))]
-    pub fn pop(&mut self) -> i32
-        requires { 0 < length self.old.stack }
-        ensures { self.old ≡ record self.new { stack = result ∷ self.new.stack } }
+    #[tactic(auto, using(crate::proofs::Stacks::kept_off))]
+    pub fn pop(&mut self, cells: &[i32]) -> i32
+        requires some { 1 ≤ self.old.height }
+        requires fits { self.old.height ≤ length cells.now }
+        ensures stack { held self.old cells.now ≡ with_value result (held self.new cells.now) }
+        ensures height { self.old.height ≡ self.new.height + 1 }
     {
         let value = self.top;
         self.height -= 1;
-        self.top = self.cells[self.height];
+        self.top = cells[self.height];
         value
-    }
-
-    /// Adds so many values of the stack to the end of the row, the top as the last one.
-    #[inline(always)]
-    #[tactic(auto, using(crate::proofs::Stacks::row_of, crate::proofs::Stacks::kept_tall, crate::proofs::Stacks::kept_below))]
-    pub fn copy_row(&mut self, count: usize, row: &mut Vec<i32>) -> Result<(), NoMemory>
-        requires count { count ≤ length self.old.stack }
-        requires room { length self.old.stack < self.old.room }
-        ensures row { OnOk result (row.new.items ≡ row.old.items ++ reverse (take count self.old.stack)) }
-        ensures same { self.new ≡ self.old }
-    {
-        self.cells[self.height] = self.top;
-        let end = self.height + 1;
-        row.extend_from_slice(&self.cells[end - count..end])?;
-        Ok(())
     }
 
     /// The row of so many values of the stack, the top as the last one. A short row takes no memory.
     #[inline(always)]
-    #[tactic(auto, using(crate::proofs::Stacks::row_of, crate::proofs::Stacks::kept_tall, crate::proofs::Stacks::kept_below))]
-    pub fn row(&mut self, alloc: Global, count: usize) -> Result<Row, NoMemory>
-        requires count { count ≤ length self.old.stack }
-        requires room { length self.old.stack < self.old.room }
-        ensures row { IfOk result (λ row. row ≡ reverse (take count self.old.stack)) }
-        ensures same { self.new ≡ self.old }
+    #[tactic(auto, using(crate::proofs::Stacks::kept_below))]
+    pub fn row(&self, cells: &mut [i32], alloc: Global, count: usize) -> Result<Row, NoMemory>
+        requires count { count ≤ self.now.height }
+        requires room { self.now.height < length cells.old }
+        ensures row { IfOk result (λ row. row ≡ reverse (take count (held self.now cells.old).stack)) }
+        ensures same { held self.now cells.new ≡ held self.now cells.old }
     {
-        self.cells[self.height] = self.top;
+        cells[self.height] = self.top;
         let end = self.height + 1;
-        Row::of_slice(alloc, &self.cells[end - count..end])
+        Row::of_slice(alloc, &cells[end - count..end])
     }
 
     /// Takes so many values from the stack.
     #[inline(always)]
-    #[tactic(auto, using(crate::proofs::Stacks::rest_of, crate::proofs::Stacks::kept_tall))]
-    pub fn drop_row(&mut self, count: usize)
-        requires { count ≤ length self.old.stack }
-        ensures { self.new ≡ record self.old { stack = drop count self.old.stack } }
+    pub fn drop_row(&mut self, cells: &[i32], count: usize)
+        requires count { count ≤ self.old.height }
+        requires fits { self.old.height ≤ length cells.now }
+        ensures stack { held self.new cells.now ≡ without count (held self.old cells.now) }
+        ensures height { self.new.height + count ≡ self.old.height }
     {
         if count > 0 {
             self.height -= count;
-            self.top = self.cells[self.height];
+            self.top = cells[self.height];
         }
     }
 
-    /// The local of this number.
+    /// The cell from which on so many values of the stack lie, the top as the last one: a helper whose arguments they are
+    /// has its first locals there. It is the height of the stack behind the call.
     #[inline(always)]
-    pub fn local(&self, local: u32) -> i32
-        requires { local < length self.now.locals }
-        ensures { result ≡ number_at self.now.locals local }
+    pub fn lent(&self, cells: &mut [i32], count: usize) -> usize
+        requires count { count ≤ self.now.height }
+        requires room { self.now.height < length cells.old }
+        ensures place { result + count ≡ self.now.height + 1 }
+        ensures within { result + count ≤ length cells.new }
+        ensures args { take count (drop result cells.new) ≡ reverse (take count (held self.now cells.old).stack) }
+        ensures behind { (v : ℤ) → take result (v ∷ reverse (take result cells.new))
+            ≡ v ∷ drop count (held self.now cells.old).stack }
     {
-        self.locals[local as usize]
-    }
-
-    /// Sets the local of this number.
-    #[inline(always)]
-    pub fn set_local(&mut self, local: u32, value: i32)
-        requires { local < length self.old.locals }
-        ensures { self.new ≡ record self.old { locals = slice_set self.old.locals local value } }
-    {
-        self.locals[local as usize] = value;
-    }
-
-    /// The number in a column of the memory.
-    #[inline(always)]
-    pub fn column(&self, column: usize) -> i32
-        requires { column < length self.now.memory }
-        ensures { result ≡ number_at self.now.memory column }
-    {
-        self.memory[column]
-    }
-
-    /// Sets the number in a column of the memory.
-    #[inline(always)]
-    pub fn set_column(&mut self, column: usize, value: i32)
-        requires { column < length self.old.memory }
-        ensures { self.new ≡ record self.old { memory = slice_set self.old.memory column value } }
-    {
-        self.memory[column] = value;
+        cells[self.height] = self.top;
+        self.height + 1 - count
     }
 
     /// The fuel that is left.
@@ -174,20 +140,5 @@ impl Frame {
         ensures { self.new ≡ record self.old { fuel = fuel } }
     {
         self.fuel = fuel;
-    }
-
-    /// The lists, given back: the cells, the locals and the memory.
-    pub fn end(self) -> (Vec<i32>, Vec<i32>, Vec<i32>)
-        ensures { (result.2).items ≡ self.memory }
-    {
-        let Frame {
-            height: _,
-            top: _,
-            fuel: _,
-            cells,
-            locals,
-            memory,
-        } = self;
-        (cells, locals, memory)
     }
 }

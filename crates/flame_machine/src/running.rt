@@ -1,25 +1,28 @@
 //! The steps of runs, and the calls of helpers.
 
-ghost use Rattle.std.specs.Prelude.{◌≡◌, ◌<◌, ◌≤◌, length, drop, List, slice_get, Some, true, IfOk};
-ghost use Rattle.flame_code.specs.Feeds.{Fed};
+ghost use Rattle.std.specs.Prelude.{◌≡◌, ◌++◌, ◌+◌, ◌-◌, ◌<◌, ◌≤◌, length, drop, take, replicate, pos, slice_get, Some, true, IfOk};
 ghost use Rattle.flame_code.specs.HelperCodes.{AreHelpers, sees_nothing};
 ghost use Rattle.flame_code.specs.InputRows.{rows_of};
 ghost use Rattle.flame_code.specs.Machine.{step};
-ghost use Rattle.flame_code.specs.Meanings.{entry};
-ghost use Rattle.flame_code.specs.Routines.{Routine};
+ghost use Rattle.flame_code.specs.Routines.{Routine, locals_of};
 ghost use Rattle.flame_code.specs.Validity.{IsValid};
-ghost use Rattle.flame_machine.specs.MachineFrames.{config, nothing_added};
-ghost use Rattle.flame_machine.specs.Running.{SeeConstants, Suits, place_of, IsRest, Ready, Finishes, called_of, FinishFell, CallFell, CallEnds};
-ghost use Rattle.flame_machine.specs.MachineSteps.{seen, Stepped};
+ghost use Rattle.flame_machine.specs.MachineFrames.{held, framed, config};
+ghost use Rattle.flame_machine.specs.Running.{SeeConstants, Suits, place_of, IsRest, Ready, unused, Finishes, Fell, CallEnds};
+ghost use Rattle.flame_machine.specs.MachineSteps.{seen, told, adds_nothing, Stepped};
 
 use crate::additions::Added;
-use crate::endings::{Called, Finish};
+use crate::endings::Called;
 use crate::frames::Frame;
 use crate::givens::Given;
-use crate::pools::{Pool, filled};
+use crate::pools::fill;
 use crate::steps::{MachineStep, apply};
 use flame_code::{Code, Feed, Helpers, Instr};
 use flame_rows::NoMemory;
+use std::alloc::Global;
+
+/// How many cells there are for helpers above those that a run needs for its own stack. A helper for which they do not
+/// suffice gets cells of its own.
+pub const SPARE: usize = 1000;
 
 /// The first of the instructions that are left.
 #[inline(always)]
@@ -54,86 +57,101 @@ fn turn<F: Feed>(
     code: &Code,
     rest: &[Instr],
     frame: &mut Frame,
+    locals: &mut [i32],
+    cells: &mut [i32],
+    memory: &mut [i32],
     added: &mut Added,
     feed: &mut F,
     given: &Given,
 ) -> MachineStep
     requires left { IsRest code.now rest.now }
     requires valid { IsValid code.now }
-    requires ready { Ready code.now (place_of code.now rest.now) frame.old added.old (F.feeds feed.old) }
+    requires fits { frame.old.height ≤ length cells.old }
+    requires ready { Ready code.now (place_of code.now rest.now)
+        (framed (held frame.old cells.old) locals.old memory.old) (told code.now.widths added.old) (F.feeds feed.old) }
     requires constants { length given.now.constants ≡ code.now.widths.constants }
     ensures does { Stepped (place_of code.now rest.now) (step given.now code.now
-        (config (place_of code.now rest.now) frame.old added.old (seen code.now.widths (F.feeds feed.old))))
-        frame.new added.new (seen code.now.widths (F.feeds feed.new)) result }
-    ensures locals { length frame.new.locals ≡ length frame.old.locals }
-    ensures room { frame.new.room ≡ frame.old.room }
+        (config (place_of code.now rest.now) (framed (held frame.old cells.old) locals.old memory.old)
+        (told code.now.widths added.old) (seen code.now.widths (F.feeds feed.old))))
+        (framed (held frame.new cells.new) locals.new memory.new) (told code.now.widths added.new)
+        (seen code.now.widths (F.feeds feed.new)) result }
+    ensures fits { frame.new.height ≤ length cells.new }
+    ensures quiet { adds_nothing code.now.widths ≡ true → added.new ≡ added.old }
     ensures rows { rows_of (F.feeds feed.new) ≡ rows_of (F.feeds feed.old) }
     ensures others { drop (length code.now.widths.inputs) (F.feeds feed.new) ≡
         drop (length code.now.widths.inputs) (F.feeds feed.old) }
 {
     let instr = first_of(rest);
-    apply(frame, added, feed, given, code.widths(), instr)
+    apply(
+        frame,
+        locals,
+        cells,
+        memory,
+        added,
+        feed,
+        given,
+        code.widths(),
+        instr,
+    )
 }
 
-/// What a helper that finished so gives back. Its lists are kept for the next one.
-fn given_back(pool: &mut Pool, finish: Finish) -> Result<Called, NoMemory>
-    ensures { IfOk result (λ called. called ≡ called_of finish) }
-{
-    match finish {
-        Finish::Returned(value, frame) => {
-            let fuel = frame.fuel();
-            let (cells, locals, _) = frame.end();
-            pool.put_back(cells)?;
-            pool.put_back(locals)?;
-            Ok(Called::Returned(value, fuel))
-        }
-        Finish::Faulted(fault) => Ok(Called::Faulted(fault)),
-    }
-}
-
-/// Runs the code from its begin. It calls itself through `call` for each helper that is open, so at most as
-/// deep as helpers are high.
+/// Runs the code from its begin with these locals, on these cells and on this memory. The cells above its stack serve the
+/// helpers that it calls. It calls itself through `call` for each helper that is open, so at most as deep as helpers are
+/// high.
 #[cycle(go)]
 pub fn go<F: Feed>(
-    pool: &mut Pool,
+    locals: &mut [i32],
+    cells: &mut [i32],
+    memory: &mut [i32],
     code: &Code,
     helpers: &Helpers,
     given: &Given,
     added: &mut Added,
     feed: &mut F,
-    frame: Frame,
-) -> Result<Finish, NoMemory>
+    fuel: u32,
+) -> Result<Called, NoMemory>
     requires among { AreHelpers helpers.now }
     requires suits { Suits helpers.now given.now code.now }
-    requires ready { Ready code.now 0 frame added.old (F.feeds feed.old) }
-    ensures runs { IfOk result (λ finish. Finishes given.now helpers.now.routines code.now
-        (config 0 frame added.old (seen code.now.widths (F.feeds feed.old)))
-        finish added.new (seen code.now.widths (F.feeds feed.new))) }
-    ensures fell { IfOk result (λ finish. FinishFell finish frame.fuel) }
+    requires ready { Ready code.now 0 (unused (length cells.old) locals.old memory.old fuel)
+        (told code.now.widths added.old) (F.feeds feed.old) }
+    ensures runs { IfOk result (λ called. Finishes given.now helpers.now.routines code.now
+        (config 0 (unused (length cells.old) locals.old memory.old fuel)
+        (told code.now.widths added.old) (seen code.now.widths (F.feeds feed.old)))
+        called memory.new (told code.now.widths added.new) (seen code.now.widths (F.feeds feed.new))) }
+    ensures fell { IfOk result (λ called. Fell called fuel) }
+    ensures quiet { adds_nothing code.now.widths ≡ true → added.new ≡ added.old }
     ensures rows { rows_of (F.feeds feed.new) ≡ rows_of (F.feeds feed.old) }
     ensures others { drop (length code.now.widths.inputs) (F.feeds feed.new) ≡
         drop (length code.now.widths.inputs) (F.feeds feed.old) }
 {
     let instrs = code.instrs();
     let mut rest = instrs;
-    let mut frame = frame;
+    let mut frame = Frame::begin(fuel);
     'steps: loop {
-        match turn(code, rest, &mut frame, added, feed, given) {
+        match turn(
+            code, rest, &mut frame, locals, cells, memory, added, feed, given,
+        ) {
             MachineStep::On => rest = behind_first(rest),
             MachineStep::To(place) => rest = starting_at(instrs, place),
-            MachineStep::Ended(value) => return Ok(Finish::Returned(value, frame)),
-            MachineStep::Faulted(fault) => return Ok(Finish::Faulted(fault)),
+            MachineStep::Ended(value) => return Ok(Called::Returned(value, frame.fuel())),
+            MachineStep::Faulted(fault) => return Ok(Called::Faulted(fault)),
             MachineStep::Calls(helper, count) => {
-                let mut args = pool.empty();
-                frame.copy_row(count as usize, &mut args)?;
-                frame.drop_row(count as usize);
-                match call(pool, helpers, given, feed, helper, args, frame.fuel())? {
+                let base = frame.lent(cells, count as usize);
+                match call(
+                    &mut cells[base..],
+                    helpers,
+                    given,
+                    added,
+                    feed,
+                    helper,
+                    count as usize,
+                    frame.fuel(),
+                )? {
                     Called::Returned(value, fuel) => {
-                        frame.set_fuel(fuel);
-                        frame.push(value);
+                        frame = Frame::resumed(base, value, fuel);
                         rest = behind_first(rest);
                     }
-                    Called::Faulted(fault) => return Ok(Finish::Faulted(fault)),
+                    Called::Faulted(fault) => return Ok(Called::Faulted(fault)),
                 }
             }
             MachineStep::Full => return Err(NoMemory),
@@ -153,41 +171,156 @@ fn helper_of<'a>(helpers: &'a Helpers, given: &Given, helper: u32) -> &'a Code
     helpers.code(helper)
 }
 
-/// The frame of a helper with these arguments, at its begin.
-fn opened(pool: &mut Pool, code: &Code, args: Vec<i32>, fuel: u32) -> Result<Frame, NoMemory>
-    requires { sees_nothing code.now ≡ true }
-    ensures fuel { IfOk result (λ frame. frame.fuel ≡ fuel) }
-    ensures ready { IfOk result (λ frame. (feeds : List Fed) → Ready code.now 0 frame nothing_added feeds) }
-    ensures begins { IfOk result (λ frame. (feeds : List Fed) →
-        config 0 frame nothing_added (seen code.now.widths feeds) ≡ entry args.items fuel) }
+/// How many locals the code has that is called with so many arguments.
+#[inline(always)]
+fn locals_with(code: &Code, count: usize) -> usize
+    ensures code { locals_of code.now.instrs ≤ result }
+    ensures args { count ≤ result }
+    ensures least { result - count ≡ locals_of code.now.instrs - count }
 {
-    let locals = filled(args, code.locals())?;
-    let cells = pool.cells(code.instrs().len())?;
-    Ok(Frame::begin(cells, locals, pool.nothing(), fuel))
+    code.locals().max(count)
 }
 
-/// Runs a helper. It reads no input, so the feed stays as it was.
+/// Whether there are cells for so many locals and for the code's stack.
+#[inline(always)]
+fn has_room(cells: &[i32], locals: usize, code: &Code) -> bool
+    ensures { result ≡ true → locals + length code.now.instrs ≤ length cells.now }
+{
+    locals <= cells.len() && code.instrs().len() <= cells.len() - locals
+}
+
+/// Fills the locals behind the arguments with 0.
+#[inline(always)]
+fn clear(cells: &mut [i32], count: usize, locals: usize)
+    requires args { count ≤ locals }
+    requires room { locals ≤ length cells.old }
+    ensures { take locals cells.new ≡ take count cells.old ++ replicate (locals - count) (pos 0) }
+{
+    if count < locals {
+        cells[count..locals].fill(0);
+    }
+}
+
+/// Runs a helper whose arguments lie in the first cells. It reads no input, so the feed stays as it was.
 #[cycle(go)]
+#[inline(always)]
 fn call<F: Feed>(
-    pool: &mut Pool,
+    cells: &mut [i32],
     helpers: &Helpers,
     given: &Given,
+    added: &mut Added,
     feed: &mut F,
     helper: u32,
-    args: Vec<i32>,
+    count: usize,
+    fuel: u32,
+) -> Result<Called, NoMemory>
+    requires there { helper < length helpers.now.routines }
+    requires alike { SeeConstants given.now helpers.now }
+    requires args { count ≤ length cells.old }
+    ensures ends { IfOk result (λ called. (inner : Routine) → slice_get helpers.now.routines helper ≡ Some inner
+        → CallEnds given.now helpers.now.routines inner (take count cells.old) fuel called) }
+    ensures fell { IfOk result (λ called. Fell called fuel) }
+    ensures quiet { added.new ≡ added.old }
+    ensures feeds { F.feeds feed.new ≡ F.feeds feed.old }
+{
+    let code = helper_of(helpers, given, helper);
+    let locals = locals_with(code, count);
+    if has_room(cells, locals, code) {
+        return opened(
+            cells, locals, code, helpers, given, added, feed, count, fuel,
+        );
+    }
+    apart(&cells[..count], helpers, given, added, feed, helper, fuel)
+}
+
+/// Runs the code of a helper, for whose locals, so many, and stack there is room. Its arguments lie in the first cells.
+#[cycle(go)]
+#[inline(always)]
+fn opened<F: Feed>(
+    cells: &mut [i32],
+    locals: usize,
+    code: &Code,
+    helpers: &Helpers,
+    given: &Given,
+    added: &mut Added,
+    feed: &mut F,
+    count: usize,
+    fuel: u32,
+) -> Result<Called, NoMemory>
+    requires among { AreHelpers helpers.now }
+    requires suits { Suits helpers.now given.now code.now }
+    requires blind { sees_nothing code.now ≡ true }
+    requires args { count ≤ locals }
+    requires enough { locals_of code.now.instrs ≤ locals }
+    requires least { locals - count ≡ locals_of code.now.instrs - count }
+    requires room { locals + length code.now.instrs ≤ length cells.old }
+    ensures ends { IfOk result (λ called.
+        CallEnds given.now helpers.now.routines code.now (take count cells.old) fuel called) }
+    ensures fell { IfOk result (λ called. Fell called fuel) }
+    ensures quiet { added.new ≡ added.old }
+    ensures feeds { F.feeds feed.new ≡ F.feeds feed.old }
+{
+    clear(cells, count, locals);
+    let (locals, cells) = cells.split_at_mut(locals);
+    go(
+        locals,
+        cells,
+        &mut [],
+        code,
+        helpers,
+        given,
+        added,
+        feed,
+        fuel,
+    )
+}
+
+/// Cells with these arguments in the first ones, and room for so many locals and for the code's stack.
+fn roomy(alloc: Global, args: &[i32], locals: usize, code: &Code) -> Result<Vec<i32>, NoMemory>
+    ensures args { IfOk result (λ cells. take (length args.now) cells.items ≡ args.now) }
+    ensures room { IfOk result (λ cells. locals + length code.now.instrs ≤ length cells.items) }
+{
+    let Some(room) = locals.checked_add(code.instrs().len() + SPARE) else {
+        return Err(NoMemory);
+    };
+    let mut cells = Vec::new(alloc);
+    cells.extend_from_slice(args)?;
+    fill(&mut cells, room)?;
+    Ok(cells)
+}
+
+/// Runs a helper with these arguments on cells of its own.
+#[cycle(go)]
+fn apart<F: Feed>(
+    args: &[i32],
+    helpers: &Helpers,
+    given: &Given,
+    added: &mut Added,
+    feed: &mut F,
+    helper: u32,
     fuel: u32,
 ) -> Result<Called, NoMemory>
     requires there { helper < length helpers.now.routines }
     requires alike { SeeConstants given.now helpers.now }
     ensures ends { IfOk result (λ called. (inner : Routine) → slice_get helpers.now.routines helper ≡ Some inner
-        → CallEnds given.now helpers.now.routines inner args.items fuel called) }
-    ensures fell { IfOk result (λ called. CallFell called fuel) }
+        → CallEnds given.now helpers.now.routines inner args.now fuel called) }
+    ensures fell { IfOk result (λ called. Fell called fuel) }
+    ensures quiet { added.new ≡ added.old }
     ensures feeds { F.feeds feed.new ≡ F.feeds feed.old }
 {
     let code = helper_of(helpers, given, helper);
-    let frame = opened(pool, code, args, fuel)?;
-    let mut added = pool.added();
-    let finish = go(pool, code, helpers, given, &mut added, feed, frame)?;
-    let called = given_back(pool, finish)?;
-    Ok(called)
+    let count = args.len();
+    let locals = locals_with(code, count);
+    let mut list = roomy(added.alloc(), args, locals, code)?;
+    opened(
+        list.as_mut_slice(),
+        locals,
+        code,
+        helpers,
+        given,
+        added,
+        feed,
+        count,
+        fuel,
+    )
 }

@@ -1,16 +1,16 @@
 //! The step of the machine.
 
-ghost use Rattle.std.specs.Prelude.{◌≡◌, ◌≢◌, ◌+◌, ◌<◌, ◌≤◌, ◌^◌, ◌∷◌, List, length, take, drop, reverse, slice_index, Some, IfSome, IsSome, ℕ};
+ghost use Rattle.std.specs.Prelude.{◌≡◌, ◌+◌, ◌<◌, ◌≤◌, List, length, drop, slice_index, true, Some, IfSome, IsSome, ℕ, ℤ};
 ghost use Rattle.flame_spec.specs.declared.outcomes.Widths.{Widths as Wide};
 ghost use Rattle.flame_code.specs.Feeds.{Fed, has_next, at_start, at_next, field};
 ghost use Rattle.flame_code.specs.InputRows.{rows_of};
 ghost use Rattle.flame_code.specs.Routines.{takes, IsWithin, locals_for};
 ghost use Rattle.flame_code.specs.Machine.{Given as Whole, act, operate as operating, push_held, pay as paying, next as going, deliver, element_of as element};
-ghost use Rattle.flame_machine.specs.MachineFrames.{Additions, config};
-ghost use Rattle.flame_machine.specs.MachineSteps.{seen, Stepped, StepsBy, HasFields};
+ghost use Rattle.flame_machine.specs.MachineFrames.{Additions, held as holding, with_value, framed, config};
+ghost use Rattle.flame_machine.specs.MachineSteps.{seen, adds_nothing, told, Stepped, StepsBy, HasFields};
 
 use crate::additions::Added;
-use crate::frames::Frame;
+use crate::frames::{Frame, number_in, set_number};
 use crate::givens::Given;
 use flame_code::{Feed, Instr};
 use flame_ops::{Cause, Op, apply as apply_op, negate};
@@ -36,12 +36,13 @@ pub enum MachineStep {
 
 /// On to the next place with the value on the stack.
 #[inline(always)]
-fn pushed(frame: &mut Frame, value: i32) -> MachineStep
-    requires room { length frame.old.stack < frame.old.room }
+fn pushed(frame: &mut Frame, cells: &mut [i32], value: i32) -> MachineStep
+    requires room { frame.old.height < length cells.old }
     ensures on { result ≡ MachineStep.On }
-    ensures moved { frame.new ≡ record frame.old { stack = value ∷ frame.old.stack } }
+    ensures moved { holding frame.new cells.new ≡ with_value value (holding frame.old cells.old) }
+    ensures fits { frame.new.height ≤ length cells.new }
 {
-    frame.push(value);
+    frame.push(cells, value);
     MachineStep::On
 }
 
@@ -55,43 +56,43 @@ fn fault(cause: Cause, line: u32) -> MachineStep
 
 /// The value on the stack, or a fault.
 #[inline(always)]
-fn held(frame: &mut Frame, value: Result<i32, Cause>, line: u32) -> MachineStep
-    requires room { length frame.old.stack < frame.old.room }
-    ensures does { StepsBy (push_held line value frame.old.stack) frame.old frame.new result }
-    ensures locals { length frame.new.locals ≡ length frame.old.locals }
-    ensures room { frame.new.room ≡ frame.old.room }
+fn held(frame: &mut Frame, cells: &mut [i32], value: Result<i32, Cause>, line: u32) -> MachineStep
+    requires room { frame.old.height < length cells.old }
+    ensures does { StepsBy (push_held line value (holding frame.old cells.old).stack)
+        (holding frame.old cells.old) (holding frame.new cells.new) result }
+    ensures fits { frame.new.height ≤ length cells.new }
 {
     match value {
-        Ok(value) => pushed(frame, value),
+        Ok(value) => pushed(frame, cells, value),
         Err(cause) => fault(cause, line),
     }
 }
 
 /// The value of an operator in place of its operands.
 #[inline(always)]
-fn operate(frame: &mut Frame, op: Op, line: u32) -> MachineStep
-    requires room { length frame.old.stack < frame.old.room }
-    requires pops { 2 ≤ length frame.old.stack }
-    ensures does { StepsBy (operating op line) frame.old frame.new result }
-    ensures locals { length frame.new.locals ≡ length frame.old.locals }
-    ensures room { frame.new.room ≡ frame.old.room }
+fn operate(frame: &mut Frame, cells: &mut [i32], op: Op, line: u32) -> MachineStep
+    requires room { frame.old.height < length cells.old }
+    requires pops { 2 ≤ frame.old.height }
+    ensures does { StepsBy (operating op line)
+        (holding frame.old cells.old) (holding frame.new cells.new) result }
+    ensures fits { frame.new.height ≤ length cells.new }
 {
-    let right = frame.pop();
-    let left = frame.pop();
-    held(frame, apply_op(op, left, right), line)
+    let right = frame.pop(cells);
+    let left = frame.pop(cells);
+    held(frame, cells, apply_op(op, left, right), line)
 }
 
 /// The top with the other sign.
 #[inline(always)]
-fn opposite(frame: &mut Frame, line: u32) -> MachineStep
-    requires room { length frame.old.stack < frame.old.room }
-    requires pops { 1 ≤ length frame.old.stack }
-    ensures does { (g : Whole) (w : Wide) → StepsBy (act g w (Some (Instr.Neg line))) frame.old frame.new result }
-    ensures locals { length frame.new.locals ≡ length frame.old.locals }
-    ensures room { frame.new.room ≡ frame.old.room }
+fn opposite(frame: &mut Frame, cells: &mut [i32], line: u32) -> MachineStep
+    requires room { frame.old.height < length cells.old }
+    requires pops { 1 ≤ frame.old.height }
+    ensures does { (g : Whole) (w : Wide) → StepsBy (act g w (Some (Instr.Neg line)))
+        (holding frame.old cells.old) (holding frame.new cells.new) result }
+    ensures fits { frame.new.height ≤ length cells.new }
 {
-    let value = frame.pop();
-    held(frame, negate(value), line)
+    let value = frame.pop(cells);
+    held(frame, cells, negate(value), line)
 }
 
 /// The column of an element of the array of so many columns from this one on, where the index is one of its.
@@ -114,20 +115,28 @@ fn element_of(index: i32, column: u32, count: u32) -> Option<usize>
 
 /// The element of the memory's array whose index is on the stack, in its place.
 #[inline(always)]
-fn load(frame: &mut Frame, line: u32, column: u32, count: u32) -> MachineStep
-    requires room { length frame.old.stack < frame.old.room }
-    requires pops { 1 ≤ length frame.old.stack }
-    requires within { column + count ≤ length frame.old.memory }
-    ensures does { (g : Whole) (w : Wide) →
-        StepsBy (act g w (Some (Instr.MemAt line column count))) frame.old frame.new result }
-    ensures locals { length frame.new.locals ≡ length frame.old.locals }
-    ensures room { frame.new.room ≡ frame.old.room }
+fn load(
+    frame: &mut Frame,
+    cells: &mut [i32],
+    memory: &[i32],
+    line: u32,
+    column: u32,
+    count: u32,
+) -> MachineStep
+    requires room { frame.old.height < length cells.old }
+    requires pops { 1 ≤ frame.old.height }
+    requires within { column + count ≤ length memory.now }
+    ensures does { (g : Whole) (w : Wide) (place : ℕ) (locals : List ℤ) (added : Additions) (feeds : List Fed)
+        → Stepped place (act g w (Some (Instr.MemAt line column count))
+        (config place (framed (holding frame.old cells.old) locals memory.now) added feeds))
+        (framed (holding frame.new cells.new) locals memory.now) added feeds result }
+    ensures fits { frame.new.height ≤ length cells.new }
 {
-    let index = frame.pop();
+    let index = frame.pop(cells);
     match element_of(index, column, count) {
         Some(place) => {
-            let value = frame.column(place);
-            pushed(frame, value)
+            let value = number_in(memory, place);
+            pushed(frame, cells, value)
         }
         None => fault(Cause::BadIndex, line),
     }
@@ -135,19 +144,28 @@ fn load(frame: &mut Frame, line: u32, column: u32, count: u32) -> MachineStep
 
 /// The value on the stack into the element of the memory's array whose index lies under it.
 #[inline(always)]
-fn store(frame: &mut Frame, line: u32, column: u32, count: u32) -> MachineStep
-    requires pops { 2 ≤ length frame.old.stack }
-    requires within { column + count ≤ length frame.old.memory }
-    ensures does { (g : Whole) (w : Wide) →
-        StepsBy (act g w (Some (Instr.SetMemAt line column count))) frame.old frame.new result }
-    ensures locals { length frame.new.locals ≡ length frame.old.locals }
-    ensures room { frame.new.room ≡ frame.old.room }
+fn store(
+    frame: &mut Frame,
+    cells: &mut [i32],
+    memory: &mut [i32],
+    line: u32,
+    column: u32,
+    count: u32,
+) -> MachineStep
+    requires room { frame.old.height < length cells.old }
+    requires pops { 2 ≤ frame.old.height }
+    requires within { column + count ≤ length memory.old }
+    ensures does { (g : Whole) (w : Wide) (place : ℕ) (locals : List ℤ) (added : Additions) (feeds : List Fed)
+        → Stepped place (act g w (Some (Instr.SetMemAt line column count))
+        (config place (framed (holding frame.old cells.old) locals memory.old) added feeds))
+        (framed (holding frame.new cells.new) locals memory.new) added feeds result }
+    ensures fits { frame.new.height ≤ length cells.new }
 {
-    let value = frame.pop();
-    let index = frame.pop();
+    let value = frame.pop(cells);
+    let index = frame.pop(cells);
     match element_of(index, column, count) {
         Some(place) => {
-            frame.set_column(place, value);
+            set_number(memory, place, value);
             MachineStep::On
         }
         None => fault(Cause::BadIndex, line),
@@ -156,27 +174,28 @@ fn store(frame: &mut Frame, line: u32, column: u32, count: u32) -> MachineStep
 
 /// The top once more.
 #[inline(always)]
-fn again(frame: &mut Frame) -> MachineStep
-    requires room { length frame.old.stack < frame.old.room }
-    requires pops { 1 ≤ length frame.old.stack }
-    ensures does { (g : Whole) (w : Wide) → StepsBy (act g w (Some Instr.Dup)) frame.old frame.new result }
-    ensures locals { length frame.new.locals ≡ length frame.old.locals }
-    ensures room { frame.new.room ≡ frame.old.room }
+fn again(frame: &mut Frame, cells: &mut [i32]) -> MachineStep
+    requires room { frame.old.height < length cells.old }
+    requires pops { 1 ≤ frame.old.height }
+    ensures does { (g : Whole) (w : Wide) → StepsBy (act g w (Some Instr.Dup))
+        (holding frame.old cells.old) (holding frame.new cells.new) result }
+    ensures fits { frame.new.height ≤ length cells.new }
 {
-    let value = frame.pop();
-    frame.push(value);
-    pushed(frame, value)
+    let value = frame.pop(cells);
+    frame.push(cells, value);
+    pushed(frame, cells, value)
 }
 
 /// To the place where the top is 0, else on.
 #[inline(always)]
-fn jump_zero(frame: &mut Frame, to: u32) -> MachineStep
-    requires pops { 1 ≤ length frame.old.stack }
-    ensures does { (g : Whole) (w : Wide) → StepsBy (act g w (Some (Instr.JumpZero to))) frame.old frame.new result }
-    ensures locals { length frame.new.locals ≡ length frame.old.locals }
-    ensures room { frame.new.room ≡ frame.old.room }
+fn jump_zero(frame: &mut Frame, cells: &mut [i32], to: u32) -> MachineStep
+    requires room { frame.old.height < length cells.old }
+    requires pops { 1 ≤ frame.old.height }
+    ensures does { (g : Whole) (w : Wide) → StepsBy (act g w (Some (Instr.JumpZero to)))
+        (holding frame.old cells.old) (holding frame.new cells.new) result }
+    ensures fits { frame.new.height ≤ length cells.new }
 {
-    if frame.pop() == 0 {
+    if frame.pop(cells) == 0 {
         MachineStep::To(to)
     } else {
         MachineStep::On
@@ -185,14 +204,15 @@ fn jump_zero(frame: &mut Frame, to: u32) -> MachineStep
 
 /// To the place where the top is not 0, else on.
 #[inline(always)]
-fn jump_not_zero(frame: &mut Frame, to: u32) -> MachineStep
-    requires pops { 1 ≤ length frame.old.stack }
+fn jump_not_zero(frame: &mut Frame, cells: &mut [i32], to: u32) -> MachineStep
+    requires room { frame.old.height < length cells.old }
+    requires pops { 1 ≤ frame.old.height }
     ensures does { (g : Whole) (w : Wide) →
-        StepsBy (act g w (Some (Instr.JumpNotZero to))) frame.old frame.new result }
-    ensures locals { length frame.new.locals ≡ length frame.old.locals }
-    ensures room { frame.new.room ≡ frame.old.room }
+        StepsBy (act g w (Some (Instr.JumpNotZero to)))
+        (holding frame.old cells.old) (holding frame.new cells.new) result }
+    ensures fits { frame.new.height ≤ length cells.new }
 {
-    if frame.pop() == 0 {
+    if frame.pop(cells) == 0 {
         MachineStep::On
     } else {
         MachineStep::To(to)
@@ -202,9 +222,9 @@ fn jump_not_zero(frame: &mut Frame, to: u32) -> MachineStep
 /// One unit of fuel is paid, or there is none.
 #[inline(always)]
 fn pay(frame: &mut Frame, line: u32) -> MachineStep
-    ensures does { StepsBy (λ c. paying line c (λ d. going d.stack d)) frame.old frame.new result }
-    ensures locals { length frame.new.locals ≡ length frame.old.locals }
-    ensures room { frame.new.room ≡ frame.old.room }
+    ensures does { (cells : List ℤ) → StepsBy (λ c. paying line c (λ d. going d.stack d))
+        (holding frame.old cells) (holding frame.new cells) result }
+    ensures height { frame.new.height ≡ frame.old.height }
 {
     let fuel = frame.fuel();
     if fuel == 0 {
@@ -218,12 +238,11 @@ fn pay(frame: &mut Frame, line: u32) -> MachineStep
 #[inline(always)]
 #[tactic(auto, using(crate::proofs::Pops::row_there))]
 fn pay_call(frame: &mut Frame, line: u32, helper: u32, count: u32) -> MachineStep
-    requires room { length frame.old.stack < frame.old.room }
-    requires pops { count ≤ length frame.old.stack }
-    ensures does { (g : Whole) (w : Wide) →
-        StepsBy (act g w (Some (Instr.Call line helper count))) frame.old frame.new result }
-    ensures locals { length frame.new.locals ≡ length frame.old.locals }
-    ensures room { frame.new.room ≡ frame.old.room }
+    requires pops { count ≤ frame.old.height }
+    ensures does { (g : Whole) (w : Wide) (cells : List ℤ) → frame.old.height < length cells →
+        StepsBy (act g w (Some (Instr.Call line helper count)))
+        (holding frame.old cells) (holding frame.new cells) result }
+    ensures height { frame.new.height ≡ frame.old.height }
 {
     let fuel = frame.fuel();
     if fuel == 0 {
@@ -235,23 +254,31 @@ fn pay_call(frame: &mut Frame, line: u32, helper: u32, count: u32) -> MachineSte
 
 /// A number of the current row.
 #[inline(always)]
-fn read_field<F: Feed>(frame: &mut Frame, feed: &F, input: u32, column: u32) -> MachineStep
-    requires room { length frame.old.stack < frame.old.room }
+fn read_field<F: Feed>(
+    frame: &mut Frame,
+    cells: &mut [i32],
+    feed: &F,
+    input: u32,
+    column: u32,
+) -> MachineStep
+    requires room { frame.old.height < length cells.old }
     requires there { IsSome (field input column (F.feeds feed.now)) }
     ensures does { (g : Whole) (w : Wide) (feeds : List Fed)
         → field input column feeds ≡ field input column (F.feeds feed.now)
-        → (place : ℕ) (added : Additions) → Stepped place (act g w (Some (Instr.Field input column))
-        (config place frame.old added feeds)) frame.new added feeds result }
-    ensures locals { length frame.new.locals ≡ length frame.old.locals }
-    ensures room { frame.new.room ≡ frame.old.room }
+        → (place : ℕ) (locals memory : List ℤ) (added : Additions)
+        → Stepped place (act g w (Some (Instr.Field input column))
+        (config place (framed (holding frame.old cells.old) locals memory) added feeds))
+        (framed (holding frame.new cells.new) locals memory) added feeds result }
+    ensures fits { frame.new.height ≤ length cells.new }
 {
-    pushed(frame, feed.value(input, column))
+    pushed(frame, cells, feed.value(input, column))
 }
 
 /// The element of the current row's array whose index is on the stack, in its place. The width is the row's.
 #[inline(always)]
 fn load_field<F: Feed>(
     frame: &mut Frame,
+    cells: &mut [i32],
     feed: &F,
     line: u32,
     input: u32,
@@ -259,22 +286,23 @@ fn load_field<F: Feed>(
     count: u32,
     width: u32,
 ) -> MachineStep
-    requires room { length frame.old.stack < frame.old.room }
-    requires pops { 1 ≤ length frame.old.stack }
+    requires room { frame.old.height < length cells.old }
+    requires pops { 1 ≤ frame.old.height }
     requires within { column + count ≤ width }
     requires there { (v : ℕ) → column ≤ v → v < column + count → IsSome (field input v (F.feeds feed.now)) }
     ensures does { (g : Whole) (w : Wide) (feeds : List Fed)
         → ((v : ℕ) → field input v feeds ≡ field input v (F.feeds feed.now))
-        → (place : ℕ) (added : Additions) → Stepped place (act g w (Some (Instr.FieldAt line input column count))
-        (config place frame.old added feeds)) frame.new added feeds result }
-    ensures locals { length frame.new.locals ≡ length frame.old.locals }
-    ensures room { frame.new.room ≡ frame.old.room }
+        → (place : ℕ) (locals memory : List ℤ) (added : Additions)
+        → Stepped place (act g w (Some (Instr.FieldAt line input column count))
+        (config place (framed (holding frame.old cells.old) locals memory) added feeds))
+        (framed (holding frame.new cells.new) locals memory) added feeds result }
+    ensures fits { frame.new.height ≤ length cells.new }
 {
-    let index = frame.pop();
+    let index = frame.pop(cells);
     match element_of(index, column, count) {
         Some(place) => {
             let value = feed.value(input, place as u32);
-            pushed(frame, value)
+            pushed(frame, cells, value)
         }
         None => fault(Cause::BadIndex, line),
     }
@@ -284,10 +312,10 @@ fn load_field<F: Feed>(
 #[inline(always)]
 fn next_row<F: Feed>(frame: &mut Frame, feed: &mut F, line: u32, input: u32, to: u32) -> MachineStep
     requires there { input < length (F.feeds feed.old) }
-    ensures does { StepsBy (deliver (has_next input (F.feeds feed.old)) line to) frame.old frame.new result }
+    ensures does { (cells : List ℤ) → StepsBy (deliver (has_next input (F.feeds feed.old)) line to)
+        (holding frame.old cells) (holding frame.new cells) result }
     ensures moved { F.feeds feed.new ≡ at_next input (F.feeds feed.old) }
-    ensures locals { length frame.new.locals ≡ length frame.old.locals }
-    ensures room { frame.new.room ≡ frame.old.room }
+    ensures height { frame.new.height ≡ frame.old.height }
 {
     if feed.advance(input) {
         return pay(frame, line);
@@ -298,20 +326,27 @@ fn next_row<F: Feed>(frame: &mut Frame, feed: &mut F, line: u32, input: u32, to:
 /// The message that lies on the stack is sent.
 #[inline(always)]
 #[tactic(auto, using(crate::proofs::Pops::row_there))]
-fn send(frame: &mut Frame, added: &mut Added, widths: &Widths, message: u32) -> MachineStep
-    requires room { length frame.old.stack < frame.old.room }
+fn send(
+    frame: &mut Frame,
+    cells: &mut [i32],
+    added: &mut Added,
+    widths: &Widths,
+    message: u32,
+) -> MachineStep
+    requires room { frame.old.height < length cells.old }
     requires there { message < length widths.now.messages }
-    requires pops { slice_index widths.now.messages message ≤ length frame.old.stack }
-    ensures does { (g : Whole) (place : ℕ) (feeds : List Fed) → Stepped place (act g widths.now (Some (Instr.Send message))
-        (config place frame.old added.old feeds)) frame.new added.new feeds result }
-    ensures locals { length frame.new.locals ≡ length frame.old.locals }
-    ensures room { frame.new.room ≡ frame.old.room }
+    requires pops { slice_index widths.now.messages message ≤ frame.old.height }
+    ensures does { (g : Whole) (place : ℕ) (locals memory : List ℤ) (feeds : List Fed)
+        → Stepped place (act g widths.now (Some (Instr.Send message))
+        (config place (framed (holding frame.old cells.old) locals memory) added.old feeds))
+        (framed (holding frame.new cells.new) locals memory) added.new feeds result }
+    ensures fits { frame.new.height ≤ length cells.new }
 {
     let count = widths.messages.items()[message as usize] as usize;
-    let Ok(row) = frame.row(added.alloc(), count) else {
+    let Ok(row) = frame.row(cells, added.alloc(), count) else {
         return MachineStep::Full;
     };
-    frame.drop_row(count);
+    frame.drop_row(cells, count);
     if added.send(message, row).is_err() {
         return MachineStep::Full;
     }
@@ -321,20 +356,27 @@ fn send(frame: &mut Frame, added: &mut Added, widths: &Widths, message: u32) -> 
 /// The agent whose memory lies on the stack is born.
 #[inline(always)]
 #[tactic(auto, using(crate::proofs::Pops::row_there))]
-fn bear(frame: &mut Frame, added: &mut Added, widths: &Widths, agent: u32) -> MachineStep
-    requires room { length frame.old.stack < frame.old.room }
+fn bear(
+    frame: &mut Frame,
+    cells: &mut [i32],
+    added: &mut Added,
+    widths: &Widths,
+    agent: u32,
+) -> MachineStep
+    requires room { frame.old.height < length cells.old }
     requires there { agent < length widths.now.agents }
-    requires pops { slice_index widths.now.agents agent ≤ length frame.old.stack }
-    ensures does { (g : Whole) (place : ℕ) (feeds : List Fed) → Stepped place (act g widths.now (Some (Instr.Bear agent))
-        (config place frame.old added.old feeds)) frame.new added.new feeds result }
-    ensures locals { length frame.new.locals ≡ length frame.old.locals }
-    ensures room { frame.new.room ≡ frame.old.room }
+    requires pops { slice_index widths.now.agents agent ≤ frame.old.height }
+    ensures does { (g : Whole) (place : ℕ) (locals memory : List ℤ) (feeds : List Fed)
+        → Stepped place (act g widths.now (Some (Instr.Bear agent))
+        (config place (framed (holding frame.old cells.old) locals memory) added.old feeds))
+        (framed (holding frame.new cells.new) locals memory) added.new feeds result }
+    ensures fits { frame.new.height ≤ length cells.new }
 {
     let count = widths.agents.items()[agent as usize] as usize;
-    let Ok(row) = frame.row(added.alloc(), count) else {
+    let Ok(row) = frame.row(cells, added.alloc(), count) else {
         return MachineStep::Full;
     };
-    frame.drop_row(count);
+    frame.drop_row(cells, count);
     if added.bear(agent, row).is_err() {
         return MachineStep::Full;
     }
@@ -346,82 +388,87 @@ fn bear(frame: &mut Frame, added: &mut Added, widths: &Widths, agent: u32) -> Ma
 #[inline(always)]
 pub fn apply<F: Feed>(
     frame: &mut Frame,
+    locals: &mut [i32],
+    cells: &mut [i32],
+    memory: &mut [i32],
     added: &mut Added,
     feed: &mut F,
     given: &Given,
     widths: &Widths,
     instr: &Instr,
 ) -> MachineStep
-    requires room { length frame.old.stack < frame.old.room }
-    requires pops { takes widths.now instr.now ≤ length frame.old.stack }
+    requires room { frame.old.height < length cells.old }
+    requires pops { takes widths.now instr.now ≤ frame.old.height }
     requires within { IsWithin widths.now instr.now }
-    requires locals { locals_for instr.now ≤ length frame.old.locals }
-    requires memory { length frame.old.memory ≡ widths.now.memory }
+    requires locals { locals_for instr.now ≤ length locals.old }
+    requires memory { length memory.old ≡ widths.now.memory }
     requires constants { length given.now.constants ≡ widths.now.constants }
     requires inputs { length widths.now.inputs ≤ length (F.feeds feed.old) }
     requires fields { HasFields instr.now (F.feeds feed.old) }
     ensures does { (place : ℕ) → Stepped place (act given.now widths.now (Some instr.now)
-        (config place frame.old added.old (seen widths.now (F.feeds feed.old))))
-        frame.new added.new (seen widths.now (F.feeds feed.new)) result }
-    ensures locals { length frame.new.locals ≡ length frame.old.locals }
-    ensures room { frame.new.room ≡ frame.old.room }
+        (config place (framed (holding frame.old cells.old) locals.old memory.old)
+        (told widths.now added.old) (seen widths.now (F.feeds feed.old))))
+        (framed (holding frame.new cells.new) locals.new memory.new)
+        (told widths.now added.new) (seen widths.now (F.feeds feed.new)) result }
+    ensures fits { frame.new.height ≤ length cells.new }
+    ensures quiet { adds_nothing widths.now ≡ true → added.new ≡ added.old }
     ensures rows { rows_of (F.feeds feed.new) ≡ rows_of (F.feeds feed.old) }
     ensures others { drop (length widths.now.inputs) (F.feeds feed.new) ≡
         drop (length widths.now.inputs) (F.feeds feed.old) }
 {
     match *instr {
-        Instr::Push(number) => pushed(frame, number),
-        Instr::Dup => again(frame),
+        Instr::Push(number) => pushed(frame, cells, number),
+        Instr::Dup => again(frame, cells),
         Instr::Drop => {
-            let _dropped = frame.pop();
+            let _dropped = frame.pop(cells);
             MachineStep::On
         }
         Instr::Loc(local) => {
-            let value = frame.local(local);
-            pushed(frame, value)
+            let value = number_in(locals, local as usize);
+            pushed(frame, cells, value)
         }
         Instr::SetLoc(local) => {
-            let value = frame.pop();
-            frame.set_local(local, value);
+            let value = frame.pop(cells);
+            set_number(locals, local as usize, value);
             MachineStep::On
         }
         Instr::Mem(column) => {
-            let value = frame.column(column as usize);
-            pushed(frame, value)
+            let value = number_in(memory, column as usize);
+            pushed(frame, cells, value)
         }
         Instr::SetMem(column) => {
-            let value = frame.pop();
-            frame.set_column(column as usize, value);
+            let value = frame.pop(cells);
+            set_number(memory, column as usize, value);
             MachineStep::On
         }
-        Instr::MemAt(line, column, count) => load(frame, line, column, count),
-        Instr::SetMemAt(line, column, count) => store(frame, line, column, count),
-        Instr::Const(constant) => pushed(frame, given.constant(constant)),
-        Instr::Iter => pushed(frame, given.iteration()),
-        Instr::Field(input, column) => read_field(frame, feed, input, column),
+        Instr::MemAt(line, column, count) => load(frame, cells, memory, line, column, count),
+        Instr::SetMemAt(line, column, count) => store(frame, cells, memory, line, column, count),
+        Instr::Const(constant) => pushed(frame, cells, given.constant(constant)),
+        Instr::Iter => pushed(frame, cells, given.iteration()),
+        Instr::Field(input, column) => read_field(frame, cells, feed, input, column),
         Instr::FieldAt(line, input, column, count) => {
             let width = widths.inputs.items()[input as usize];
-            load_field(frame, feed, line, input, column, count, width)
+            load_field(frame, cells, feed, line, input, column, count, width)
         }
-        Instr::Neg(line) => opposite(frame, line),
+        Instr::Neg(line) => opposite(frame, cells, line),
         Instr::Not => {
-            let value = frame.pop();
-            pushed(frame, i32::from(value == 0))
+            let value = frame.pop(cells);
+            pushed(frame, cells, i32::from(value == 0))
         }
-        Instr::Add(line) => operate(frame, Op::Add, line),
-        Instr::Sub(line) => operate(frame, Op::Sub, line),
-        Instr::Mul(line) => operate(frame, Op::Mul, line),
-        Instr::Div(line) => operate(frame, Op::Div, line),
-        Instr::Rem(line) => operate(frame, Op::Rem, line),
-        Instr::Lt => operate(frame, Op::Lt, 0),
-        Instr::Gt => operate(frame, Op::Gt, 0),
-        Instr::Le => operate(frame, Op::Le, 0),
-        Instr::Ge => operate(frame, Op::Ge, 0),
-        Instr::Eq => operate(frame, Op::Eq, 0),
-        Instr::Ne => operate(frame, Op::Ne, 0),
+        Instr::Add(line) => operate(frame, cells, Op::Add, line),
+        Instr::Sub(line) => operate(frame, cells, Op::Sub, line),
+        Instr::Mul(line) => operate(frame, cells, Op::Mul, line),
+        Instr::Div(line) => operate(frame, cells, Op::Div, line),
+        Instr::Rem(line) => operate(frame, cells, Op::Rem, line),
+        Instr::Lt => operate(frame, cells, Op::Lt, 0),
+        Instr::Gt => operate(frame, cells, Op::Gt, 0),
+        Instr::Le => operate(frame, cells, Op::Le, 0),
+        Instr::Ge => operate(frame, cells, Op::Ge, 0),
+        Instr::Eq => operate(frame, cells, Op::Eq, 0),
+        Instr::Ne => operate(frame, cells, Op::Ne, 0),
         Instr::Jump(to) => MachineStep::To(to),
-        Instr::JumpZero(to) => jump_zero(frame, to),
-        Instr::JumpNotZero(to) => jump_not_zero(frame, to),
+        Instr::JumpZero(to) => jump_zero(frame, cells, to),
+        Instr::JumpNotZero(to) => jump_not_zero(frame, cells, to),
         Instr::Pay(line) => pay(frame, line),
         Instr::Enter(input) => {
             feed.begin(input);
@@ -429,9 +476,9 @@ pub fn apply<F: Feed>(
         }
         Instr::Next(line, input, to) => next_row(frame, feed, line, input, to),
         Instr::Leave(_) => MachineStep::On,
-        Instr::Send(message) => send(frame, added, widths, message),
-        Instr::Bear(agent) => bear(frame, added, widths, agent),
+        Instr::Send(message) => send(frame, cells, added, widths, message),
+        Instr::Bear(agent) => bear(frame, cells, added, widths, agent),
         Instr::Call(line, helper, count) => pay_call(frame, line, helper, count),
-        Instr::Return => MachineStep::Ended(frame.pop()),
+        Instr::Return => MachineStep::Ended(frame.pop(cells)),
     }
 }

@@ -10,4 +10,4 @@ returns-clause-does c =
     let right : SFits w32 c.pop-right.result = search rules in
     let left : SFits w32 c.pop-left.result = search rules in
     let same = rw (to_z-of_z w32 c.pop-right.result right, to_z-of_z w32 c.pop-left.result left) at c.apply.ensures in
-    operated _ _ _ _ _ _ c.args.op c.args.line _ _ c.pop-right.ensures c.pop-left.ensures same c.held.ensures.does
+    operated _ _ _ _ _ _ c.args.op c.args.line _ _ c.pop-right.ensures.stack c.pop-left.ensures.stack same c.held.ensures.does

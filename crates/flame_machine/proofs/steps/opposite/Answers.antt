@@ -9,4 +9,4 @@ pub returns-clause-does : goal.returns-clause-does
 returns-clause-does c given w =
     let fits : SFits w32 c.pop-value.result = search rules in
     let same = rw (to_z-of_z w32 c.pop-value.result fits) at c.negate.ensures in
-    negated_top given w _ _ _ _ c.args.line _ _ c.pop-value.ensures same c.held.ensures.does
+    negated_top given w _ _ _ _ c.args.line _ _ c.pop-value.ensures.stack same c.held.ensures.does
