@@ -2,3 +2,4 @@ pub mod PeriodLemmas
 pub mod FormTruths
 pub mod Lengths
 pub mod EqualTruths
+pub mod RowTruths

@@ -3,5 +3,8 @@ pub mod TestForms
 pub mod Said
 -- Which filters fix a column, and which read no memory.
 pub mod Equalities
+-- What a filter asks of a row alone, once a memory was read.
+pub mod RowTests
 -- The words that only bodies and proofs use.
 pub mod Tests
+pub mod ColumnTests

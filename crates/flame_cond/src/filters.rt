@@ -5,10 +5,12 @@ ghost use Rattle.flame_spec.specs.Conditions.{IsReadable, input_scope};
 ghost use Rattle.flame_cond.specs.TestForms.{form_of};
 ghost use Rattle.flame_cond.specs.Said.{passes, IsWrittenFilter, SaysFilter};
 ghost use Rattle.flame_cond.specs.Equalities.{first_equality, is_one_equality, reads_memory};
+ghost use Rattle.flame_cond.specs.RowTests.{AsksTheSame};
 
 use crate::equalities::Equality;
 use crate::forms::Test;
 use crate::reading::test;
+use crate::row_tests::RowTest;
 use flame_rows::{NoMemory, Row};
 use flame_spec::{AgentType, Condition, MessageType};
 use std::alloc::Global;
@@ -59,6 +61,21 @@ impl Filter {
         ensures { result ≡ passes self.now memory.now row.now }
     {
         self.test.answer(memory.values(), row.values(), 0)
+    }
+
+    /// What it asks of a row, for an agent with this memory: the same rows pass as by `passes`. For who asks of many rows:
+    /// the first comparison of a column of the row with a number or a column of the memory, where the filter is one or
+    /// reaches one through AND alone, is told apart, and that column of the memory is read here.
+    pub fn row_test<'a>(&'a self, memory: &'a Row) -> RowTest<'a>
+        ensures { AsksTheSame result self.now memory.now }
+    {
+        if let Some(test) = self.test.only_column_test(memory.values()) {
+            return RowTest::Column(test);
+        }
+        match self.test.first_column_test(memory.values()) {
+            Some(test) => RowTest::ColumnFirst(test, self, memory),
+            None => RowTest::Whole(self, memory),
+        }
     }
 
     /// The first EQ from the left between a column of the row and a number or a column of the memory, where the filter is

@@ -46,7 +46,8 @@ fn value(term: Term, memory: &[i32], row: &[i32]) -> i32
     }
 }
 
-fn compare(op: Op, a: i32, b: i32) -> bool
+#[inline(always)]
+pub fn compare(op: Op, a: i32, b: i32) -> bool
     ensures { result ≡ compares op a b }
 {
     match op {

@@ -11,9 +11,11 @@ mod names;
 mod numbers;
 mod periods;
 mod reading;
+mod row_tests;
 
 pub use conditions::Cond;
 pub use equalities::{EqualTo, Equality};
 pub use filters::Filter;
 pub use keys::SortBy;
 pub use numbers::number_at;
+pub use row_tests::{ColumnTest, RowTest};

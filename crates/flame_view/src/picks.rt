@@ -1,19 +1,30 @@
 //! Rows that pass a filter, and rows that are sorted.
 
-ghost use Rattle.std.specs.Prelude.{◌≡◌, map, Some, IfOk};
+ghost use Rattle.std.specs.Prelude.{◌≡◌, ℤ, List, map, Some, IfOk};
 ghost use Rattle.std.specs.Option.{option_copied};
 ghost use Rattle.flame_rows.specs.Sorted.{sorted_by};
 ghost use Rattle.flame_spec.specs.Views.{view_order};
+ghost use Rattle.flame_cond.specs.RowTests.{row_passes};
 ghost use Rattle.flame_cond.specs.Said.{key_by};
-ghost use Rattle.flame_view.specs.Compiled.{picked_by};
+ghost use Rattle.flame_view.specs.Compiled.{is_read_by, picked_by};
 ghost use Rattle.flame_view.specs.ViewWays.{in_order_of};
 
 use crate::lists::Lists;
 use crate::order::compare;
 use crate::shown::View;
-use flame_cond::{Filter, SortBy};
+use flame_cond::{Filter, RowTest, SortBy};
 use flame_rows::{NoMemory, Row};
 use std::cmp::Ordering;
+
+/// What the filter asks of a row, for an agent with this memory; without one nothing.
+fn asked<'a>(filter: Option<&'a Filter>, memory: &'a Row) -> RowTest<'a>
+    ensures { (row : List ℤ) → row_passes result row ≡ is_read_by (option_copied filter.entry) memory.now row }
+{
+    match filter {
+        Some(filter) => filter.row_test(memory),
+        None => RowTest::Every,
+    }
+}
 
 /// The rows of a view that pass the filter with this memory, in its order, in one of the lists.
 fn picked<'a>(
@@ -25,10 +36,11 @@ fn picked<'a>(
     ensures { IfOk result (λ picked.
         map (λ row. row.now) picked.items ≡ picked_by (option_copied filter.entry) memory.now rows.now) }
 {
+    let test = asked(filter, memory);
     let mut picked = lists.empty();
     for place in 0..rows.len() {
         let row = rows.row(place);
-        if filter.is_none_or(|filter| filter.passes(memory, row)) {
+        if test.passes(row) {
             picked.push(row)?;
         }
     }

@@ -4,13 +4,14 @@ use Rattle.std.proofs.lemmas.Grind.{common_steps}
 use Rattle.flame_view.specs.Compiled.{is_read_by}
 use Rattle.flame_view.proofs.Narrowed.{filter-next}
 use Rattle.flame_view.proofs.picks.picked.Goals as goal
-use Rattle.flame_view.proofs.picks.picked.Goals.{then-is_none_or+in_ok-push, else-is_none_or}
+use Rattle.flame_view.proofs.picks.picked.Goals.{then-passes+in_ok-push, else-passes}
 
 pub loop-place-preserved : goal.loop-place-preserved
 loop-place-preserved c =
     let next =
     filter-next (is_read_by (option_copied c.args.filter) c.args.memory.now) c.args.rows.now c.loop-place.place c.row-row.result.now c.row-row.ensures in
-    elim c.if-is_none_or.branch [
-      | then-is_none_or+in_ok-push w ↦ grind (arith, common_steps, next)
-      | else-is_none_or w ↦ grind (arith, common_steps, next)
+    let same = c.asked-test.ensures c.row-row.result.now in
+    elim c.if-passes.branch [
+      | then-passes+in_ok-push w ↦ grind (arith, common_steps, next, same)
+      | else-passes w ↦ grind (arith, common_steps, next, same)
     ]
