@@ -15,3 +15,4 @@ mod DoneJobs
 mod LongerLanes
 mod RunTasks
 mod SentParts
+mod RunChoices

@@ -226,7 +226,7 @@ pub(crate) fn run_layer<G: Gate, R: Threads + Wait + Sync>(
     parts_make_the_whole();
     names_differ();
     layers_fit();
-    let opened = open_all(alloc, round, functions, crew.workers, field)?;
+    let opened = open_all(rt, alloc, crew.workers, round, functions, field)?;
     let Opened { readings, tasks } = opened;
     let lefts = run_tasks(
         rt,

@@ -3,6 +3,7 @@
 
 mod alone;
 mod bringing;
+mod choosing;
 mod iterations;
 mod layers;
 mod openings;

@@ -16,15 +16,17 @@ ghost use Rattle.flame_layers.specs.LayerFields.{all_takers, left_by_all, left_b
 ghost use Rattle.flame_layerrun.specs.LayerTasks.{AreRead, FitsTask};
 ghost use Rattle.flame_lanes.specs.LaneTasks.{agents_at};
 
+use crate::choosing::choose_all;
 use crate::schedules::Ranked;
 use flame_field::{Field, share};
 use flame_index::Frozen;
 use flame_lanes::{Task, add_tasks};
 use flame_layers::laws::layers_fit;
-use flame_round::{Round, choose, leave, route_of};
+use flame_round::{Round, leave, route_of};
 use flame_rows::{NoMemory, Row, Seq};
 use std::alloc::Global;
 use std::sync::Arc;
+use std::thread::Threads;
 
 /// A function that runs in a layer, with the boards that its agents read.
 #[derive(Drop)]
@@ -47,12 +49,15 @@ pub(crate) struct Opened {
 }
 
 /// The takers of the function leave, in any order, and it reads these boards.
-fn open(
+fn open<R: Threads + Sync>(
+    rt: &R,
     alloc: Global,
+    workers: u32,
     round: &Round<'_>,
     ranked: Ranked,
     field: &mut Field,
 ) -> Result<(Vec<Row>, Reading), NoMemory>
+    requires some { 1 ≤ workers }
     requires there { ranked.function < function_count round.now.program.now.model }
     requires known { length round.now.constants.now ≡ length round.now.program.now.model.constants }
     requires fits { FitsField round.now.program.now.model (field_of field.old) }
@@ -70,7 +75,15 @@ fn open(
     ensures dealt { OnOk result (AreDealt (choice_at round.now.program.now.model round.now.iteration) field.new.pools) }
 {
     let route = route_of(round, ranked.function);
-    choose(alloc, round, ranked.function, route, &mut field.pools)?;
+    choose_all(
+        rt,
+        alloc,
+        workers,
+        round,
+        ranked.function,
+        route,
+        &mut field.pools,
+    )?;
     let takers = leave(alloc, route, &mut field.pools);
     let boards = share(alloc, &mut field.boards, route.inputs.items(), round.wants)?;
     let reading = Reading {
@@ -81,16 +94,18 @@ fn open(
     Ok((takers, reading))
 }
 
-/// All these functions of a layer begin, one after another: their takers leave, in at most so many tasks for each.
-pub(crate) fn open_all(
+/// All these functions of a layer begin, one after another: their takers leave, in at most as many tasks for each as there are
+/// workers.
+pub(crate) fn open_all<R: Threads + Sync>(
+    rt: &R,
     alloc: Global,
+    workers: u32,
     round: &Round<'_>,
     functions: &[Ranked],
-    pieces: u32,
     field: &mut Field,
 ) -> Result<Opened, NoMemory>
     requires there { All (λ ranked. ranked.function < function_count round.now.program.now.model) functions.now }
-    requires some { 1 ≤ pieces }
+    requires some { 1 ≤ workers }
     requires known { length round.now.constants.now ≡ length round.now.program.now.model.constants }
     requires fits { FitsField round.now.program.now.model (field_of field.old) }
     requires dealt { AreDealt (choice_at round.now.program.now.model round.now.iteration) field.old.pools }
@@ -112,8 +127,8 @@ pub(crate) fn open_all(
     let mut tasks = Vec::new(alloc);
     for ranked in functions {
         let place = readings.len();
-        let (takers, reading) = open(alloc, round, *ranked, field)?;
-        add_tasks(alloc, &mut tasks, place, ranked.function, takers, pieces)?;
+        let (takers, reading) = open(rt, alloc, workers, round, *ranked, field)?;
+        add_tasks(alloc, &mut tasks, place, ranked.function, takers, workers)?;
         readings.push(reading)?;
     }
     Ok(Opened { readings, tasks })

@@ -14,6 +14,6 @@ pub use closing::closed;
 pub use opening::opened;
 pub use parting::{choose, count_takers, leave};
 pub use rounds::Round;
-pub use routes::route_of;
+pub use routes::{out_of, route_of};
 pub use takers::run_over;
 pub use wants::wants_of;

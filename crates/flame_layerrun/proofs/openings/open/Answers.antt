@@ -23,19 +23,19 @@ use Rattle.flame_layers.specs.LayerFields.{left_at, takers_at}
 use Rattle.flame_layerrun.proofs.OpenedTasks.{each-sorted}
 use Rattle.flame_layerrun.proofs.openings.open.Goals as goal
 
-pub choose-requires-clause-pools : goal.choose-requires-clause-pools
-choose-requires-clause-pools c =
+pub choose_all-requires-clause-pools : goal.choose_all-requires-clause-pools
+choose_all-requires-clause-pools g c κs within =
     has-route c.args.round.now.program.now.model c.args.ranked.function c.route_of-route.result.now (field_of c.args.field.now)
     c.route_of-route.ensures c.requires.fits
 
 pub leave-takers-requires-clause-pools : goal.leave-takers-requires-clause-pools
-leave-takers-requires-clause-pools c =
-    subst (λ (pools : List (List (List (List ℤ)))). HasRoute pools c.route_of-route.result.now) (sym c.in_ok-choose.ensures.same)
+leave-takers-requires-clause-pools g c =
+    subst (λ (pools : List (List (List (List ℤ)))). HasRoute pools c.route_of-route.result.now) (sym c.in_ok-choose_all.ensures.same)
     (has-route c.args.round.now.program.now.model c.args.ranked.function c.route_of-route.result.now (field_of c.args.field.now)
     c.route_of-route.ensures c.requires.fits)
 
 pub share-requires : goal.share-requires
-share-requires c =
+share-requires g c =
     let model = c.args.round.now.program.now.model in
     let goes = c.route_of-route.ensures in
     let all = numbers-within model goes.place.function.inputs c.route_of-route.result.now.inputs goes.routed.inputs in
@@ -46,17 +46,17 @@ share-requires c =
     (subst (λ list. All (λ number. number < length model.messages) list) (sym c.items.ensures) all)
 
 pub returns-clause-takers : goal.returns-clause-takers
-returns-clause-takers c =
+returns-clause-takers g c =
     let round = round_of c.args.round.now in
     let function = c.args.ranked.function in
     let field = field_of c.args.field.now in
     let goes = c.route_of-route.ensures in
     c.leave-takers.ensures.takers round function goes.place field goes goes.there
-    (c.in_ok-choose.ensures.dealt c.requires.dealt) (sym c.in_ok-choose.ensures.same)
+    (c.in_ok-choose_all.ensures.dealt c.requires.dealt) (sym c.in_ok-choose_all.ensures.same)
     ∙ sym (ap (λ (p : Option Place). takers_at p round function field) goes.there)
 
 pub returns-clause-boards : goal.returns-clause-boards
-returns-clause-boards c =
+returns-clause-boards g c =
     let source = c.args.round.now.program.now in
     let goes = c.route_of-route.ensures in
     let all = map board_bag c.args.field.now.boards.items in
@@ -65,7 +65,7 @@ returns-clause-boards c =
     ∙ frozen-named source c.args.ranked.function goes.place c.route_of-route.result.now.inputs all _ goes.there goes.routed.inputs read
 
 pub returns-clause-fits : goal.returns-clause-fits
-returns-clause-fits c =
+returns-clause-fits g c =
     let model = c.args.round.now.program.now.model in
     let round = round_of c.args.round.now in
     let function = c.args.ranked.function in
@@ -75,7 +75,7 @@ returns-clause-fits c =
     let read = ap (map shared_messages) c.of.ensures
     ∙ c.in_ok-boards.ensures.read ∙ ap (map (λ message. slice_index_or all message [])) c.items.ensures in
     let whole = c.leave-takers.ensures.takers round function goes.place (field_of c.args.field.now) goes goes.there
-    (c.in_ok-choose.ensures.dealt c.requires.dealt) (sym c.in_ok-choose.ensures.same) in
+    (c.in_ok-choose_all.ensures.dealt c.requires.dealt) (sym c.in_ok-choose_all.ensures.same) in
     record {
       place = goes.place;
       there = goes.there;
@@ -88,14 +88,14 @@ returns-clause-fits c =
     }
 
 pub returns-clause-field : goal.returns-clause-field
-returns-clause-field c =
+returns-clause-field g c =
     let round = round_of c.args.round.now in
     let function = c.args.ranked.function in
     let field = field_of c.args.field.now in
     let goes = c.route_of-route.ensures in
-    let pools = c.leave-takers.ensures.others round function goes.place goes goes.there (c.in_ok-choose.ensures.dealt c.requires.dealt)
+    let pools = c.leave-takers.ensures.others round function goes.place goes goes.there (c.in_ok-choose_all.ensures.dealt c.requires.dealt)
     ∙ ap (changed_pool goes.place.agent (state_place goes.place.type goes.place.function.current) (staying round function goes.place))
-    c.in_ok-choose.ensures.same in
+    c.in_ok-choose_all.ensures.same in
     let born = ap (joined (births_of c.args.field.now.born.items)) (pools_long c.args.field.now.pools c.leave-takers.new.pools _ _ _ pools) in
     let after : Standing = record {
       pools = changed_pool goes.place.agent (state_place goes.place.type goes.place.function.current) (staying round function goes.place) field.pools;
@@ -107,6 +107,6 @@ returns-clause-field c =
     same ∙ sym (ap (λ (p : Option Place). left_at p round function field) goes.there)
 
 pub returns-clause-dealt : goal.returns-clause-dealt
-returns-clause-dealt c =
+returns-clause-dealt g c =
     c.leave-takers.ensures.dealt (choice_at c.args.round.now.program.now.model c.args.round.now.iteration)
-    (c.in_ok-choose.ensures.dealt c.requires.dealt)
+    (c.in_ok-choose_all.ensures.dealt c.requires.dealt)

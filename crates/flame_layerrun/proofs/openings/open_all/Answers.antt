@@ -13,7 +13,7 @@ use Rattle.flame_layerrun.proofs.OpenedFunctions.{HaveBegun, all-begun, more-beg
 use Rattle.flame_layerrun.proofs.openings.open_all.Goals as goal
 
 pub loop-ranked-preserved : goal.loop-ranked-preserved
-loop-ranked-preserved c =
+loop-ranked-preserved g c =
     let round = c.args.round.now in
     let functions = c.args.functions.now in
     let i = c.loop-ranked.ranked-index in
@@ -36,11 +36,11 @@ loop-ranked-preserved c =
     subst (λ field. FitsField round.program.now.model field) (sym c.in_ok-takers.ensures.field)
     (c.layers_fit.ensures.left (round_of round) one.function now old.fits) in
     let new = more-begun round numbers (map (λ (ranked : Ranked). ranked.function) rest) one.function start now after readings tasks reading takers
-    c.args.pieces old c.requires.some c.in_ok-takers.ensures.takers c.in_ok-takers.ensures.function c.in_ok-takers.ensures.boards
+    c.args.workers old c.requires.some c.in_ok-takers.ensures.takers c.in_ok-takers.ensures.function c.in_ok-takers.ensures.boards
     c.in_ok-takers.ensures.fits c.in_ok-takers.ensures.field fits in
     let items : c.push.new.self.items ≡ readings ++ reading ∷ [] = c.in_ok-push.ensures.items in
-    let added : c.add_tasks.new.tasks.items ≡ tasks ++ tasks_of (length readings) one.function (cut c.args.pieces takers) =
-    c.in_ok-add_tasks.ensures ∙ ap (λ p. tasks ++ tasks_of p one.function (cut c.args.pieces takers)) place in
+    let added : c.add_tasks.new.tasks.items ≡ tasks ++ tasks_of (length readings) one.function (cut c.args.workers takers) =
+    c.in_ok-add_tasks.ensures ∙ ap (λ p. tasks ++ tasks_of p one.function (cut c.args.workers takers)) place in
     record {
       begun =
           subst (λ (list : List Reading). HaveBegun round numbers (map (λ (ranked : Ranked). ranked.function) rest) start after list c.add_tasks.new.tasks.items)
@@ -58,7 +58,7 @@ loop-ranked-preserved c =
     }
 
 pub returns-clause-tasks : goal.returns-clause-tasks
-returns-clause-tasks c place =
+returns-clause-tasks g c place =
     let functions = c.args.functions.now in
     let numbers = map (λ (ranked : Ranked). ranked.function) functions in
     let rest = ap (map (λ (ranked : Ranked). ranked.function)) (drop_all c.loop-ranked.ranked-index functions c.loop-ranked-test.false) in

@@ -8,7 +8,7 @@ use Rattle.flame_layerrun.proofs.OpenedFunctions.{HaveBegun}
 use Rattle.flame_layerrun.proofs.openings.open_all.Given as goal
 
 abbrev pub invariant-loop-ranked : goal.invariant-loop-ranked
-invariant-loop-ranked l = record {
+invariant-loop-ranked g l = record {
   begun : HaveBegun l.round (map (λ (ranked : Ranked). ranked.function) l.functions)
       (map (λ (ranked : Ranked). ranked.function) (drop l.ranked-index l.functions))
       (field_of l.fn.field) (field_of l.field) l.readings.items l.tasks.items;
