@@ -14,4 +14,4 @@ pub mod AllInputs
 pub mod FrontInputs
 pub mod SameInputs
 pub mod PlainLoads
-pub mod StartSteps
+pub mod Origin

@@ -52,17 +52,17 @@ fault_is_found model (Starts fault) is =
 
 -- ---- the source
 
-pub planned_source_given :
+pub planned_given :
     (source : Source) (plan : Plan) → IsPlan source.model plan → (planned_source source).answer ≡ Ok source
-planned_source_given source plan is =
+planned_given source plan is =
     none_refuses (λ fault. of_model (Depend fault) source.model) (depend_fault source.model) source
     (plan_has_no_fault source.model plan is)
 
-pub planned_source_refused :
+pub planned_refused :
     (source : Source) (fault : DependFault)
     → IsFault source.model fault
     → (planned_source source).answer ≡ Err (of_model (Depend fault) source.model)
-planned_source_refused source fault is =
+planned_refused source fault is =
     refuses (λ fault. of_model (Depend fault) source.model) (depend_fault source.model) source fault
     (fault_is_found source.model fault is)
 

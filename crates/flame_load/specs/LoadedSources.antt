@@ -1,6 +1,6 @@
 -- The source that files stand for, or their first refusal: the model files from the root on, the names of the flat model,
 -- its function files in order, their check, and the order and the start states of functions.
-use Rattle.std.specs.Prelude.{ℕ, List, Option, Some, None, option_map, Result, Ok, Err}
+use Rattle.std.specs.Prelude.{ℕ, List, Option, Some, None, option_map}
 use Rattle.flame_outside.specs.Files.{Files}
 use Rattle.flame_spec.specs.declared.models.Model.{Model}
 use Rattle.flame_spec.specs.declared.outcomes.Source.{Source}

@@ -46,7 +46,7 @@ fn made(alloc: Global, source: Source, checked: Checked, plan: Plan) -> Result<P
 }
 
 /// The program of a source that stands but for the order of its functions and the starts of its agents.
-#[tactic(auto, using(crate::proofs::OrderFaults::planned_source_given, crate::proofs::OrderFaults::planned_source_refused, crate::proofs::OrderFaults::fault_is_found))]
+#[tactic(auto, using(crate::proofs::OrderFaults::planned_given, crate::proofs::OrderFaults::planned_refused, crate::proofs::OrderFaults::fault_is_found))]
 fn planned(alloc: Global, source: Source, checked: Checked) -> Result<Program, LoadFail>
     requires formed { IsTrue (is_well_formed source.model) }
     requires counted { IsTrue (is_counted source.model) }

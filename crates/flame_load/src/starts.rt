@@ -54,7 +54,7 @@ fn start_fail(fail: FileFail) -> StartFail
 }
 
 /// The start that the value holds for the program's model.
-#[tactic(auto, using(crate::proofs::KnownOrRefused::faultless, crate::proofs::KnownOrRefused::refuses, crate::proofs::StartSteps::is_held))]
+#[tactic(auto, using(crate::proofs::KnownOrRefused::faultless, crate::proofs::KnownOrRefused::refuses, crate::proofs::Origin::is_held))]
 fn start_in(alloc: Global, value: &Value, program: &Program, turns: u32) -> Result<Start, StartFail>
     ensures gives { GivesStart result (start_in program.now.model turns (view value.now)) }
     ensures held { IfOk result (IsHeld program.now.model turns) }
@@ -67,9 +67,9 @@ fn start_in(alloc: Global, value: &Value, program: &Program, turns: u32) -> Resu
     }
 }
 
-/// The start that the bytes of a population hold for the program's model: read by their tokens where they are of format 1,
-/// without messages, and written as a writer does, and else as a value.
-#[tactic(auto, using(crate::proofs::StartSteps::held_gives, crate::proofs::StartSteps::held_start, crate::proofs::StartSteps::value_gives, crate::proofs::StartSteps::json_stops))]
+/// The start that the bytes of a population hold for the program's model: read by their tokens where they are written as a writer
+/// does, and else as a value.
+#[tactic(auto, using(crate::proofs::Origin::held_gives, crate::proofs::Origin::held, crate::proofs::Origin::value_gives, crate::proofs::Origin::json_stops))]
 fn start_of(alloc: Global, bytes: &[u8], program: &Program, turns: u32) -> Result<Start, StartFail>
     ensures gives { (told : Files) (name : List ℕ) → file_in told population_limit name ≡ Ok bytes.now
         → GivesStart result (starting told program.now.model turns name) }
@@ -93,7 +93,7 @@ fn start_of(alloc: Global, bytes: &[u8], program: &Program, turns: u32) -> Resul
 /// `Missing`, `TooLarge`, `NotJson` and `Pop` have the first refusal, in this order; `Pop` has the first fault of the
 /// population. `ReadFault` comes only where the depot's count of failed reads rose. `NoMemory` is want of memory, also where
 /// 32 bits cannot hold the width of a row. Whatever it answers, the depot has only been read.
-#[tactic(auto, using(crate::proofs::StartSteps::file_stops))]
+#[tactic(auto, using(crate::proofs::Origin::file_stops))]
 pub fn start<D: Depot>(
     alloc: Global,
     depot: &mut D,

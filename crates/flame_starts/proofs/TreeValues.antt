@@ -1,5 +1,5 @@
 -- The values that serde_json reads of the trees of populations.
-use Rattle.std.proofs.Common.{◌≡◌, ℕ, suc, ◌^◌, ◌<◌, ◌≤◌, List, [], ◌∷◌, ◌++◌, map, take, drop, length, Bool, true, false, Option, Some, None, option_map, option_and_then, IfSome, codes, refl, sym, ap, ◌∙◌, arith, length-drop, append-nil}
+use Rattle.std.proofs.Common.{◌≡◌, ℕ, suc, ◌^◌, ◌<◌, ◌≤◌, List, [], ◌∷◌, ◌++◌, map, take, drop, length, Bool, true, false, Option, Some, None, option_map, option_and_then, IfSome, codes, refl, sym, ap, subst, ◌∙◌, arith, length-drop, append-nil}
 use Rattle.std.specs.Prelude.{ℤ, pos, negsuc, int_le}
 use Rattle.std.specs.Fmt.{signed_decimal}
 use Rattle.std.specs.List.{AllZip}
@@ -10,13 +10,14 @@ use Rattle.json.specs.Json.{Json}
 use Rattle.json.specs.Lex.{tokens}
 use Rattle.json.specs.Tree.{json_tokens, depth, items_depth, members_depth}
 use Rattle.json.proofs.Printed.Trees.{value-json_tokens}
-use Rattle.serde_json.specs.Data.{Data, number, string, array, object, item, Members, no_members, put}
+use Rattle.serde_json.specs.Data.{Data, number, string, array, object, Items, no_items, item, Members, no_members, put}
 use Rattle.serde_json.specs.Find.{of_integer}
 use Rattle.serde_json.specs.Read.{number_of, of_json, of_items, of_members, read, max_depth}
 use Rattle.serde_json.specs.View.{items_of}
 use Rattle.serde_json.proofs.Numbers.{number_of-decimal, number_of-negative}
 use Rattle.flame_rows.proofs.Lists.{AllZip-append}
 use Rattle.flame_ops.specs.Integers.{least, greatest}
+use Rattle.flame_spec.specs.declared.models.Model.{Model}
 use Rattle.flame_spec.specs.declared.models.AgentType.{AgentType}
 use Rattle.flame_spec.specs.declared.models.Variable.{Variable}
 use Rattle.flame_spec.specs.Columns.{width, width_by, width_of}
@@ -24,10 +25,15 @@ use Rattle.flame_meaning.specs.RangeLaws.{IsInt, AreInts, Each}
 use Rattle.flame_meaning.proofs.Eachs.{each_drop}
 use Rattle.flame_world.proofs.Eachs.{all_each}
 use Rattle.flame_tokens.specs.NumberTrees.{number_tree, items_tree, list_tree, row_tree}
-use Rattle.flame_tokens.specs.MemberTrees.{members_tree, object_tree, variable_tree, variable_trees, memory_tree, named_tree}
+use Rattle.flame_tokens.specs.MemberTrees.{members_tree, object_tree, variable_tree, variable_trees, memory_tree, named_tree, IsWide}
 use Rattle.flame_tokens.specs.AgentTrees.{Listed, IsOfTypes, listed_tree, agents_tree}
-use Rattle.flame_tokens.specs.PopulationTrees.{constant_trees, version_trees, itno_trees, environment_trees, boards_trees, states_trees, population_tree, IsItno, AreConstants}
-use Rattle.flame_popfile.proofs.PopulationValues.{object_of, list_of, int_value, row_value, variable_value, variable_pairs, memory_value, constant_pairs, named_value, agent_value}
+use Rattle.flame_tokens.specs.BagTrees.{rows_tree, bag_tree, bag_trees, AreWide}
+use Rattle.flame_tokens.specs.PassedTrees.{IsPlain, ArePlain, HavePlain, IsPassed}
+use Rattle.flame_tokens.specs.PopulationTrees.{constant_trees, version_number, version_trees, is_two, itno_trees, environment_trees, boards_trees, Contents, states_trees, population_tree}
+use Rattle.flame_tokens.specs.PopulationTrees.{IsItno, AreConstants, AreAgents, AreContents}
+use Rattle.flame_popfile.specs.declared.formats.Format.{Format}
+use Rattle.flame_popfile.specs.declared.formats.Format.TheVariants.{One, Two}
+use Rattle.flame_popfile.proofs.PopulationValues.{object_of, list_of, int_value, row_value, variable_value, variable_pairs, memory_value, constant_pairs, named_value, agent_value, bag_value, environment_value}
 use Rattle.flame_popfile.proofs.PutMembers.{put_all}
 use Rattle.flame_popfile.proofs.WrittenRows.{each_zip, each_take}
 
@@ -170,6 +176,110 @@ reads_agents types deep all are =
     reads_list (suc (suc (suc deep))) (map listed_tree all) (map listed_value all)
     (each_zip (IsOfTypes types) (Reads (suc (suc (suc deep)))) listed_tree listed_value (reads_listed types deep) all are)
 
+-- the members for types with these rows
+abbrev pub bag_values : List AgentType → List (List (List ℤ)) → List Data
+bag_values [] dealt = []
+bag_values (type ∷ types) [] = []
+bag_values (type ∷ types) (rows ∷ dealt) = bag_value type.name rows ∷ bag_values types dealt
+
+reads_bag :
+    (deep : ℕ) (type : AgentType) (rows : List (List ℤ))
+    → AreWide type rows → Reads (suc (suc (suc deep))) (bag_tree type rows) (bag_value type.name rows)
+reads_bag deep type rows are =
+    let wide = width type.memory in
+    reads_named (suc (suc deep)) type.name (codes "rows") (rows_tree rows) (list_of (map row_value rows))
+    (reads_list (suc deep) (map row_tree rows) (map row_value rows)
+    (each_zip (IsWide wide) (Reads (suc deep)) row_tree row_value
+    (λ row is. reads_row deep row (all_each IsInt row is.ints)) rows (all_each (IsWide wide) rows are)))
+
+reads_bags :
+    (deep : ℕ) (types : List AgentType) (dealt : List (List (List ℤ)))
+    → AllZip AreWide types dealt
+    → AllZip (Reads (suc (suc (suc deep)))) (bag_trees types dealt) (bag_values types dealt)
+reads_bags deep [] dealt are = tt
+reads_bags deep (type ∷ types) [] are = tt
+reads_bags deep (type ∷ types) (rows ∷ dealt) are =
+    (reads_bag deep type rows are.0, reads_bags deep types dealt are.1)
+
+-- the value of the agents
+abbrev pub agents_value :
+    (two : Bool) (types : List AgentType) (tree : Json) (dealt : List (List (List ℤ)))
+    → AreAgents two types tree dealt → Data
+agents_value false types tree dealt are = list_of (map listed_value are.all)
+agents_value true types tree dealt are = list_of (bag_values types dealt)
+
+reads_agents_in :
+    (two : Bool) (types : List AgentType) (tree : Json) (dealt : List (List (List ℤ)))
+    → (are : AreAgents two types tree dealt)
+    → Reads 5 tree (agents_value two types tree dealt are)
+reads_agents_in false types tree dealt are =
+    subst (λ (t : Json). Reads 5 t (list_of (map listed_value are.all))) (sym are.tree_is)
+    (reads_agents types 1 are.all (all_each (IsOfTypes types) are.all are.known))
+reads_agents_in true types tree dealt are =
+    subst (λ (t : Json). Reads 5 t (list_of (bag_values types dealt))) (sym are.tree_is)
+    (reads_list 4 (bag_trees types dealt) (bag_values types dealt) (reads_bags 1 types dealt are.wide))
+
+-- ---- values that are passed over
+
+-- the tree is read as some value
+pub record IsRead (tree : Json) : Type 0 where
+  pub value : Data
+  pub same : of_json tree ≡ Some value
+
+record AreRead (trees : json.Items) : Type 0 where
+  values : Items
+  same : of_items trees ≡ Some values
+
+record HaveRead (trees : json.Members) (found : Members) : Type 0 where
+  values : Members
+  same : of_members trees found ≡ Some values
+
+mutual
+  -- all that may be passed over is read as some value
+  pub plain_read : (tree : Json) → IsPlain tree → IsRead tree
+  plain_read json.null is = absurd is
+  plain_read (json.boolean b) is = absurd is
+  plain_read (json.number text) is = record {
+    value = int_value is.number;
+    same =
+        ap (λ s. option_map number (number_of s)) is.same
+        ∙ ap (option_map number) (number_read is.number (small is.number is.int));
+  }
+  plain_read (json.string text) is = record { value = string text; same = refl }
+  plain_read (json.array trees) are =
+      let read = plain_items trees are in
+      record { value = array read.values; same = ap (option_map array) read.same }
+  plain_read (json.object trees) are =
+      let read = plain_members trees no_members are in
+      record { value = object read.values; same = ap (option_map object) read.same }
+
+  plain_items : (trees : json.Items) → ArePlain trees → AreRead trees
+  plain_items json.no_items are = record { values = no_items; same = refl }
+  plain_items (json.item tree trees) are =
+      let first = plain_read tree are.0 in
+      let rest = plain_items trees are.1 in
+      record {
+        values = item first.value rest.values;
+        same =
+            ap (option_and_then (λ d. option_map (item d) (of_items trees))) first.same
+            ∙ ap (option_map (item first.value)) rest.same;
+      }
+
+  plain_members : (trees : json.Members) (found : Members) → HavePlain trees → HaveRead trees found
+  plain_members json.no_members found are = record { values = found; same = refl }
+  plain_members (json.member name tree trees) found are =
+      let first = plain_read tree are.0 in
+      let rest = plain_members trees (put name first.value found) are.1 in
+      record {
+        values = rest.values;
+        same = ap (option_and_then (λ d. of_members trees (put name d found))) first.same ∙ rest.same;
+      }
+
+-- the value of the boards, where they stand there
+abbrev pub boards_value : (boards : Option Json) → IfSome boards (IsPassed 5) → Option Data
+boards_value None is = None
+boards_value (Some tree) is = Some (plain_read tree is.plain).value
+
 -- ---- the whole
 
 reads_constants :
@@ -180,93 +290,121 @@ reads_constants deep (name ∷ names) [] ints = tt
 reads_constants deep (name ∷ names) (value ∷ values) ints =
     ((refl, reads_int deep value ints.0), reads_constants deep names values ints.1)
 
--- the number of the version, where it stands there
-abbrev pub version_pairs : Bool → List (List ℕ × Data)
-version_pairs false = []
-version_pairs true = (codes "version", int_value (pos 1)) ∷ []
+-- version 2, or version 1
+abbrev pub format_by : Bool → Format
+format_by false = One
+format_by true = Two
 
--- the number of the iteration, where it stands there
-abbrev pub itno_pairs : Option ℤ → List (List ℕ × Data)
-itno_pairs None = []
-itno_pairs (Some itno) = (codes "itno", int_value itno) ∷ []
+-- what stands at a name, where it stands there
+abbrev pub pairs_at : List ℕ → Option Data → List (List ℕ × Data)
+pairs_at name None = []
+pairs_at name (Some value) = (name, value) ∷ []
+
+-- the number of the version
+abbrev pub version_value : Bool → Data
+version_value two = int_value (version_number two)
+
+-- the states of these values
+abbrev pub states_value : Option Bool → Option ℤ → Option Data → Data → Option Data → Data
+states_value version itno environment agents boards =
+    object_of
+    (pairs_at (codes "version") (option_map version_value version)
+    ++ (pairs_at (codes "itno") (option_map int_value itno)
+    ++ (pairs_at (codes "environment") environment
+    ++ (codes "agents", agents) ∷ pairs_at (codes "boards") boards)))
+
+reads_version :
+    (version : Option Bool)
+    → AllZip (ReadsMember 5) (version_trees version) (pairs_at (codes "version") (option_map version_value version))
+reads_version None = tt
+reads_version (Some false) = ((refl, reads_int 5 (pos 1) refl), tt)
+reads_version (Some true) = ((refl, reads_int 5 (pos 2) refl), tt)
+
+reads_itno :
+    (itno : Option ℤ)
+    → IfSome itno IsItno
+    → AllZip (ReadsMember 5) (itno_trees itno) (pairs_at (codes "itno") (option_map int_value itno))
+reads_itno None is = tt
+reads_itno (Some itno) is = ((refl, reads_int 5 itno is.int), tt)
 
 -- the environment, where it stands there
-abbrev pub environment_pairs : List (List ℕ) → Option (List ℤ) → List (List ℕ × Data)
-environment_pairs names None = []
-environment_pairs names (Some values) = (codes "environment", object_of (constant_pairs names values)) ∷ []
-
--- boards without messages, where they stand there
-abbrev pub boards_pairs : Bool → List (List ℕ × Data)
-boards_pairs false = []
-boards_pairs true = (codes "boards", list_of []) ∷ []
-
--- the states
-abbrev pub states_value : List (List ℕ) → Bool → Option ℤ → Option (List ℤ) → List Listed → Bool → Data
-states_value names version itno constants all boards =
-    object_of
-    (version_pairs version
-    ++ (itno_pairs itno
-    ++ (environment_pairs names constants ++ (codes "agents", list_of (map listed_value all)) ∷ boards_pairs boards)))
-
--- the whole
-abbrev pub population_value : List (List ℕ) → Bool → Option ℤ → Option (List ℤ) → List Listed → Bool → Data
-population_value names version itno constants all boards =
-    object_of ((codes "states", states_value names version itno constants all boards) ∷ [])
-
-reads_version : (version : Bool) → AllZip (ReadsMember 4) (version_trees version) (version_pairs version)
-reads_version false = tt
-reads_version true = ((refl, reads_int 4 (pos 1) refl), tt)
-
-reads_itno : (itno : Option ℤ) → IfSome itno IsItno → AllZip (ReadsMember 4) (itno_trees itno) (itno_pairs itno)
-reads_itno None is = tt
-reads_itno (Some itno) is = ((refl, reads_int 4 itno is.int), tt)
+abbrev pub environment_data : Bool → List (List ℕ) → Option (List ℤ) → Option Data
+environment_data two names constants = option_map (environment_value (format_by two) names) constants
 
 reads_environment :
-    (names : List (List ℕ)) (constants : Option (List ℤ))
+    (two : Bool) (names : List (List ℕ)) (constants : Option (List ℤ))
     → IfSome constants (AreConstants names)
-    → AllZip (ReadsMember 4) (environment_trees names constants) (environment_pairs names constants)
-reads_environment names None are = tt
-reads_environment names (Some values) are = (
+    → AllZip (ReadsMember 5) (environment_trees two names constants)
+    (pairs_at (codes "environment") (environment_data two names constants))
+reads_environment two names None are = tt
+reads_environment false names (Some values) are = (
   (
     refl,
-    reads_object 3 (constant_trees names values) (constant_pairs names values)
-        (reads_constants 3 names values (all_each IsInt values are.ints)),
+    reads_object 4 (constant_trees names values) (constant_pairs names values)
+        (reads_constants 4 names values (all_each IsInt values are.ints)),
   ),
   tt,
 )
+reads_environment true names (Some values) are = ((refl, reads_row 4 values (all_each IsInt values are.ints)), tt)
 
-reads_boards : (boards : Bool) → AllZip (ReadsMember 4) (boards_trees boards) (boards_pairs boards)
-reads_boards false = tt
-reads_boards true = ((refl, reads_list 3 [] [] tt), tt)
+reads_boards :
+    (boards : Option Json) (is : IfSome boards (IsPassed 5))
+    → AllZip (ReadsMember 5) (boards_trees boards) (pairs_at (codes "boards") (boards_value boards is))
+reads_boards None is = tt
+reads_boards (Some tree) is =
+    ((refl, record { same = (plain_read tree is.plain).same; shallow = is.shallow }), tt)
+
+-- the states that the contents are
+abbrev pub states_of :
+    (model : Model) (contents : Contents) (itno : Option ℤ) (constants : Option (List ℤ))
+    (dealt : List (List (List ℤ)))
+    → AreContents model contents itno constants dealt → Data
+states_of model contents itno constants dealt are =
+    let two = is_two contents.version in
+    states_value contents.version itno (environment_data two model.constants constants)
+    (agents_value two model.agents contents.agents dealt are.agents_are)
+    (boards_value contents.boards are.boards_are)
+
+-- the population of these states
+abbrev pub population_value : Data → Data
+population_value states = object_of ((codes "states", states) ∷ [])
 
 reads_population :
-    (types : List AgentType) (names : List (List ℕ)) (version : Bool) (itno : Option ℤ) (constants : Option (List ℤ))
-    (all : List Listed) (boards : Bool)
-    → IfSome itno IsItno
-    → IfSome constants (AreConstants names)
-    → Each (IsOfTypes types) all
-    → Reads 6 (population_tree names version itno constants all boards)
-    (population_value names version itno constants all boards)
-reads_population types names version itno constants all boards itno_is constants_are known =
-    let last_trees = (codes "agents", agents_tree all) ∷ boards_trees boards in
-    let last_pairs = (codes "agents", list_of (map listed_value all)) ∷ boards_pairs boards in
-    let third_trees = environment_trees names constants ++ last_trees in
-    let third_pairs = environment_pairs names constants ++ last_pairs in
+    (model : Model) (contents : Contents) (itno : Option ℤ) (constants : Option (List ℤ))
+    (dealt : List (List (List ℤ)))
+    → (are : AreContents model contents itno constants dealt)
+    → Reads 7 (population_tree model.constants contents itno constants)
+    (population_value (states_of model contents itno constants dealt are))
+reads_population model contents itno constants dealt are =
+    let names = model.constants in
+    let version = contents.version in
+    let two = is_two version in
+    let agents = agents_value two model.agents contents.agents dealt are.agents_are in
+    let boards = boards_value contents.boards are.boards_are in
+    let last_trees = (codes "agents", contents.agents) ∷ boards_trees contents.boards in
+    let last_pairs = (codes "agents", agents) ∷ pairs_at (codes "boards") boards in
+    let third_trees = environment_trees two names constants ++ last_trees in
+    let third_pairs = pairs_at (codes "environment") (environment_data two names constants) ++ last_pairs in
     let second_trees = itno_trees itno ++ third_trees in
-    let second_pairs = itno_pairs itno ++ third_pairs in
-    reads_object 5 ((codes "states", object_tree (states_trees names version itno constants all boards)) ∷ [])
-    ((codes "states", states_value names version itno constants all boards) ∷ []) (
+    let second_pairs = pairs_at (codes "itno") (option_map int_value itno) ++ third_pairs in
+    reads_object 6 ((codes "states", object_tree (states_trees names contents itno constants)) ∷ [])
+    ((codes "states", states_of model contents itno constants dealt are) ∷ []) (
       (
         refl,
-        reads_object 4 (version_trees version ++ second_trees) (version_pairs version ++ second_pairs)
-            (AllZip-append (ReadsMember 4) (version_trees version) (version_pairs version) second_trees second_pairs
+        reads_object 5 (version_trees version ++ second_trees)
+            (pairs_at (codes "version") (option_map version_value version) ++ second_pairs)
+            (AllZip-append (ReadsMember 5) (version_trees version)
+            (pairs_at (codes "version") (option_map version_value version)) second_trees second_pairs
             (reads_version version)
-            (AllZip-append (ReadsMember 4) (itno_trees itno) (itno_pairs itno) third_trees third_pairs
-            (reads_itno itno itno_is)
-            (AllZip-append (ReadsMember 4) (environment_trees names constants) (environment_pairs names constants)
-            last_trees last_pairs
-            (reads_environment names constants constants_are)
-            ((refl, reads_agents types 0 all known), reads_boards boards)))),
+            (AllZip-append (ReadsMember 5) (itno_trees itno) (pairs_at (codes "itno") (option_map int_value itno))
+            third_trees third_pairs
+            (reads_itno itno are.itno_is)
+            (AllZip-append (ReadsMember 5) (environment_trees two names constants)
+            (pairs_at (codes "environment") (environment_data two names constants)) last_trees last_pairs
+            (reads_environment two names constants are.constants_are) (
+              (refl, reads_agents_in two model.agents contents.agents dealt are.agents_are),
+              reads_boards contents.boards are.boards_are,
+            )))),
       ),
       tt,
     )
@@ -283,15 +421,12 @@ read_as text deep tree value is reads within =
 
 -- a text with the tokens of a population is read as its value
 pub population_read :
-    (text : List ℕ) (types : List AgentType) (names : List (List ℕ)) (version : Bool) (itno : Option ℤ)
-    (constants : Option (List ℤ)) (all : List Listed) (boards : Bool)
-    → tokens text ≡ json_tokens (population_tree names version itno constants all boards)
-    → IfSome itno IsItno
-    → IfSome constants (AreConstants names)
-    → Each (IsOfTypes types) all
-    → read text ≡ Some (population_value names version itno constants all boards)
-population_read text types names version itno constants all boards is itno_is constants_are known =
-    read_as text 6 (population_tree names version itno constants all boards)
-    (population_value names version itno constants all boards) is
-    (reads_population types names version itno constants all boards itno_is constants_are known)
-    (omega arith)
+    (text : List ℕ) (model : Model) (contents : Contents) (itno : Option ℤ) (constants : Option (List ℤ))
+    (dealt : List (List (List ℤ)))
+    → tokens text ≡ json_tokens (population_tree model.constants contents itno constants)
+    → (are : AreContents model contents itno constants dealt)
+    → read text ≡ Some (population_value (states_of model contents itno constants dealt are))
+population_read text model contents itno constants dealt is are =
+    read_as text 7 (population_tree model.constants contents itno constants)
+    (population_value (states_of model contents itno constants dealt are)) is
+    (reads_population model contents itno constants dealt are) (omega arith)

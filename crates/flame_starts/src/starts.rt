@@ -17,10 +17,10 @@ fn leaves_some(itno: i32, turns: u32) -> bool
 }
 
 /// The start that a population's bytes hold for the model of a program, from which `turns` iterations are to follow, where they
-/// write a population of version 1 as a writer does (`flame_tokens::read`) and the number of the last iteration is 2147483647
-/// at most: serde_json reads the bytes as a value, which is a population without faults, and this is the start that it holds.
-/// The value itself is not made. `None` says nothing: the bytes are written in another way, or are no such population, or memory
-/// was not found.
+/// write a population as a writer does (`flame_tokens::read`) and the number of the last iteration is 2147483647 at most:
+/// serde_json reads the bytes as a value, which is a population without faults, and this is the start that it holds. The value
+/// itself is not made. `None` says nothing: the bytes are written in another way, or are no such population, or memory was not
+/// found.
 pub fn start(alloc: Global, bytes: &[u8], program: &Program, turns: u32) -> Option<Start>
     ensures { IfSome result (HoldsStart program.now.model turns bytes.now) }
 {

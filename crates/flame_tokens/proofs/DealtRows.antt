@@ -11,7 +11,8 @@ use Rattle.flame_rows.specs.Bags.{ascending}
 use Rattle.flame_rows.proofs.Lists.{slice_index_or-map}
 use Rattle.flame_spec.specs.declared.models.AgentType.{AgentType}
 use Rattle.flame_tokens.specs.NumberTrees.{begun}
-use Rattle.flame_tokens.specs.AgentTrees.{IsOfTypes, listed_tree, row_for, rows_of, bags_of, IsDealt, IsAdded, AreBegun, AreRead}
+use Rattle.flame_tokens.specs.AgentTrees.{IsOfTypes, listed_tree, agents_tree, row_for, rows_of, bags_of, IsDealt, IsAdded, AreBegun, AreRead}
+use Rattle.flame_tokens.specs.PopulationTrees.{HasAgents}
 use Rattle.flame_tokens.proofs.TokenLists.{mapped_more, list_closed}
 
 written_here :
@@ -136,3 +137,13 @@ bags_of-rows dealt = each_bag dealt.items
         ≡ map ascending (map (λ (rows : Vec (List ℤ) Global). rows.items) all)
     each_bag [] = refl
     each_bag (rows ∷ all) = ap (λ bags. ascending rows.items ∷ bags) (each_bag all)
+
+-- agents that were read one by one
+pub listed_read :
+    (types : List AgentType) (old new : List Token) (dealt : List (List (List ℤ)))
+    → AreRead types old new dealt → HasAgents false types old new dealt
+listed_read types old new dealt read = record {
+  tree = agents_tree read.all;
+  tokens = read.tokens;
+  are = record { all = read.all; tree_is = refl; known = read.known; dealt_are = read.dealt_are };
+}

@@ -1,5 +1,7 @@
 pub mod TokenLists
+pub mod PassedLists
 pub mod MoreValues
 pub mod NamedTypes
 pub mod DealtRows
+pub mod BagLists
 pub mod MoreConstants

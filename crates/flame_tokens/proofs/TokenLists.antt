@@ -16,6 +16,16 @@ mapped_more f (y ∷ xs) x rest =
     ∙ ap (λ ts. json_tokens (f y) ++ ts) (mapped_more f xs x rest)
     ∙ sym (append_assoc (json_tokens (f y)) (begun (map f xs)) (json_tokens (f x) ++ rest))
 
+-- the same of trees
+pub begun_more :
+    (trees : List Json) (tree : Json) (rest : List Token)
+    → begun (trees ++ tree ∷ []) ++ rest ≡ begun trees ++ (json_tokens tree ++ rest)
+begun_more [] tree rest = ap (λ ts. ts ++ rest) (append-nil (json_tokens tree))
+begun_more (other ∷ trees) tree rest =
+    append_assoc (json_tokens other) (begun (trees ++ tree ∷ [])) rest
+    ∙ ap (λ ts. json_tokens other ++ ts) (begun_more trees tree rest)
+    ∙ sym (append_assoc (json_tokens other) (begun trees) (json_tokens tree ++ rest))
+
 -- one member more
 pub keyed_more :
     (pairs : List (List ℕ × Json)) (pair : List ℕ × Json) (rest : List Token)

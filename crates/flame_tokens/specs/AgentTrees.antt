@@ -85,3 +85,10 @@ pub record AreRead (types : List AgentType) (old new : List Token) (dealt : List
   pub tokens : old ≡ json_tokens (agents_tree all) ++ new
   pub known : All (IsOfTypes types) all
   pub dealt_are : AreDealt types all dealt
+
+-- the tree is a list of agents, which are dealt out to their types [own]
+pub record AreListed (types : List AgentType) (tree : Json) (dealt : List (List (List ℤ))) : Type 0 where
+  pub all : List Listed
+  pub tree_is : tree ≡ agents_tree all
+  pub known : All (IsOfTypes types) all
+  pub dealt_are : AreDealt types all dealt

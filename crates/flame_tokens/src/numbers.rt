@@ -12,8 +12,9 @@ use json::{Reader, Token};
 use std::alloc::Global;
 
 /// The whole number of int that the text writes as it is printed: with no sign but a `-`, and no zero before others.
-fn printed(text: &str) -> Option<i32>
-    ensures { IfSome result (λ number. text.now ≡ signed_decimal number) }
+pub(crate) fn printed(text: &str) -> Option<i32>
+    ensures text { IfSome result (λ number. text.now ≡ signed_decimal number) }
+    ensures int { IfSome result (λ number. is_int number ≡ true) }
 {
     let number = text.parse::<i32>().ok()?;
     let mut buffer = Buffer::new();

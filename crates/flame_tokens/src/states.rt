@@ -1,19 +1,22 @@
 //! The states of a population.
 
-ghost use Rattle.std.specs.Prelude.{◌≡◌, ◌++◌, ◌∷◌, codes, option_map, IfSome, OnSome};
-ghost use Rattle.json.specs.Token.{key, end_object};
+ghost use Rattle.std.specs.Prelude.{◌≡◌, ◌++◌, ◌∷◌, codes, false, option_map, IfSome, OnSome};
+ghost use Rattle.json.specs.Token.{key};
 ghost use Rattle.json.specs.Tree.{json_tokens};
 ghost use Rattle.flame_tokens.specs.MemberTrees.{keyed, object_tree};
-ghost use Rattle.flame_tokens.specs.AgentTrees.{rows_of, AreRead};
-ghost use Rattle.flame_tokens.specs.PopulationTrees.{constant_trees, version_trees, itno_trees, environment_trees, boards_trees};
-ghost use Rattle.flame_tokens.specs.PopulationTrees.{IsItno, AreConstants, AreStates, IsWhole};
+ghost use Rattle.flame_tokens.specs.AgentTrees.{rows_of};
+ghost use Rattle.flame_tokens.specs.PopulationTrees.{constant_trees, version_number, version_trees, itno_trees};
+ghost use Rattle.flame_tokens.specs.PopulationTrees.{environment_tree, environment_trees, IsItno, AreConstants};
+ghost use Rattle.flame_tokens.specs.PopulationTrees.{HasAgents, HasBoards, AreStates, IsWhole};
 
 use crate::agents::agents;
+use crate::bags::bags;
 use crate::memories::{closes, opens, passes};
-use crate::numbers::{add, begins, ends, number};
+use crate::numbers::{add, list, number};
+use crate::passing::pass;
 use crate::types::Types;
 use flame_rows::{Row, Text};
-use flame_spec::Model;
+use flame_spec::{AgentType, Model};
 use json::{Reader, Token};
 use std::alloc::Global;
 
@@ -38,20 +41,29 @@ fn next_key<'a>(reader: &mut Reader<'a>) -> Option<&'a str>
     }
 }
 
-/// Whether this key is that of the version, which is then 1, and the key behind it; else this key.
-fn version_at<'a>(reader: &mut Reader<'a>, first: &'a str) -> Option<(bool, &'a str)>
+/// Whether this is the number of version 2, and not that of version 1.
+fn names_two(version: i32) -> Option<bool>
+    ensures { IfSome result (λ two. version ≡ version_number two) }
+{
+    match version {
+        1 => Some(false),
+        2 => Some(true),
+        _ => None,
+    }
+}
+
+/// Whether it is version 2, where this key is that of the version, and the key behind it; else this key.
+fn version_at<'a>(reader: &mut Reader<'a>, first: &'a str) -> Option<(Option<bool>, &'a str)>
     ensures { IfSome result (λ found.
         key first.now ∷ reader.old ≡ keyed (version_trees found.0) ++ key found.1.now ∷ reader.new) }
 {
     if first != "version" {
-        return Some((false, first));
+        return Some((None, first));
     }
     let version = number(reader)?;
-    if version != 1 {
-        return None;
-    }
+    let two = names_two(version)?;
     let next = next_key(reader)?;
-    Some((true, next))
+    Some((Some(two), next))
 }
 
 /// The number of the iteration, where this key is its, and the key behind it; else this key.
@@ -99,16 +111,35 @@ fn constants(alloc: Global, reader: &mut Reader<'_>, names: &[Text]) -> Option<V
     Some(values)
 }
 
+/// The constants that come next: by their names, or in version 2 a row.
+fn environment(
+    alloc: Global,
+    reader: &mut Reader<'_>,
+    names: &[Text],
+    two: bool,
+) -> Option<Vec<i32>>
+    ensures tokens { IfSome result (λ values.
+        reader.old ≡ json_tokens (environment_tree two names.now values.items) ++ reader.new) }
+    ensures constants { IfSome result (λ values. AreConstants names.now values.items) }
+{
+    if two {
+        list(alloc, reader, names.len())
+    } else {
+        constants(alloc, reader, names)
+    }
+}
+
 /// The constants, where this key is that of the environment, and the key behind them; else this key.
 #[tactic(auto, using(crate::proofs::TokenLists::keyed_one))]
 fn environment_at<'a>(
     alloc: Global,
     reader: &mut Reader<'a>,
     model: &Model,
+    two: bool,
     first: &'a str,
 ) -> Option<(Option<Vec<i32>>, &'a str)>
     ensures tokens { IfSome result (λ found. key first.now ∷ reader.old
-        ≡ keyed (environment_trees model.now.constants (option_map (λ values. values.items) found.0))
+        ≡ keyed (environment_trees two model.now.constants (option_map (λ values. values.items) found.0))
         ++ key found.1.now ∷ reader.new) }
     ensures constants { IfSome result (λ found.
         IfSome (option_map (λ values. values.items) found.0) (AreConstants model.now.constants)) }
@@ -116,29 +147,37 @@ fn environment_at<'a>(
     if first != "environment" {
         return Some((None, first));
     }
-    let values = constants(alloc, reader, model.constants.items())?;
+    let values = environment(alloc, reader, model.constants.items(), two)?;
     let next = next_key(reader)?;
     Some((Some(values), next))
 }
 
-/// Passes what may follow the agents, boards without messages, and the brace that closes the states.
-fn boards(reader: &mut Reader<'_>) -> Option<bool>
-    ensures { IfSome result (λ some.
-        reader.old ≡ keyed (boards_trees some) ++ end_object ∷ reader.new) }
+/// Passes what may follow the agents, the boards, and the brace that closes the states.
+fn boards(reader: &mut Reader<'_>) -> Option<()>
+    ensures { OnSome result (HasBoards reader.old reader.new) }
 {
     match reader.next()? {
-        Token::EndObject => Some(false),
+        Token::EndObject => Some(()),
         Token::Key(name) => {
             if name != "boards" {
                 return None;
             }
-            begins(reader)?;
-            ends(reader)?;
+            pass(reader, 5)?;
             closes(reader)?;
-            Some(true)
+            Some(())
         }
         _ => None,
     }
+}
+
+/// The agents of each type that come next one by one.
+fn listed(alloc: Global, reader: &mut Reader<'_>, types: &[AgentType]) -> Option<Vec<Vec<Row>>>
+    ensures { IfSome result (λ dealt.
+        HasAgents false types.now reader.old reader.new (rows_of dealt)) }
+{
+    let table = Types::of(alloc, types)?;
+    let dealt = agents(alloc, reader, &table)?;
+    Some(dealt)
 }
 
 /// The agents of each type that come next, where this key is theirs.
@@ -146,17 +185,21 @@ fn agents_at(
     alloc: Global,
     reader: &mut Reader<'_>,
     model: &Model,
+    two: bool,
     first: &str,
 ) -> Option<Vec<Vec<Row>>>
     ensures key { OnSome result (first.now ≡ codes "agents") }
     ensures agents { IfSome result (λ dealt.
-        AreRead model.now.agents reader.old reader.new (rows_of dealt)) }
+        HasAgents two model.now.agents reader.old reader.new (rows_of dealt)) }
 {
     if first != "agents" {
         return None;
     }
-    let types = Types::of(alloc, model.agents.items())?;
-    agents(alloc, reader, &types)
+    if two {
+        bags(alloc, reader, model.agents.items())
+    } else {
+        listed(alloc, reader, model.agents.items())
+    }
 }
 
 /// The states that come next behind their opening brace.
@@ -165,10 +208,11 @@ fn states_in(alloc: Global, reader: &mut Reader<'_>, model: &Model) -> Option<St
         (option_map (λ values. values.items) found.constants) (rows_of found.agents) reader.old reader.new) }
 {
     let first = next_key(reader)?;
-    let (_, second) = version_at(reader, first)?;
+    let (version, second) = version_at(reader, first)?;
+    let two = version.unwrap_or(false);
     let (itno, third) = itno_at(reader, second)?;
-    let (constants, fourth) = environment_at(alloc, reader, model, third)?;
-    let agents = agents_at(alloc, reader, model, fourth)?;
+    let (constants, fourth) = environment_at(alloc, reader, model, two, third)?;
+    let agents = agents_at(alloc, reader, model, two, fourth)?;
     boards(reader)?;
     Some(States {
         itno,

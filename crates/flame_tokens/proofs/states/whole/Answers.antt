@@ -13,12 +13,10 @@ returns-in-None c =
     let states = c.in_ok-found.ensures in
     let tree =
     object_tree
-    (states_trees c.args.model.now.constants states.version found.itno
-    (option_map (λ values. values.items) found.constants) states.all states.boards) in
+    (states_trees c.args.model.now.constants states.contents found.itno
+    (option_map (λ values. values.items) found.constants)) in
     record {
-      all = states.all;
-      version = states.version;
-      boards = states.boards;
+      contents = states.contents;
       is_read =
           c.in_ok-opens.ensures
           ∙ ap (λ (ts : List Token). begin_object ∷ ts)
@@ -29,5 +27,5 @@ returns-in-None c =
           ∙ ap (λ (ts : List Token). json_tokens tree ++ ts)
           (c.in_ok-closes.ensures
           ∙ ap (λ (ts : List Token). end_object ∷ ts) c.in-None.ensures.value.0)));
-      parts = states.parts;
+      are = states.are;
     }

@@ -101,11 +101,11 @@ held_gives told model turns name bytes start file holds =
     ∙ ap Ok (sym holds.held))
 
 -- it is held
-pub held_start :
+pub held :
     (model : Model) (turns : ℕ) (bytes : List ℕ) (start : Start)
     → HoldsStart model turns bytes start
     → IsHeld model turns start
-held_start model turns bytes start holds = is_held model turns holds.value start holds.faultless holds.held
+held model turns bytes start holds = is_held model turns holds.value start holds.faultless holds.held
 
 -- what the value of the bytes gives is given
 pub value_gives :
