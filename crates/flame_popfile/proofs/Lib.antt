@@ -7,6 +7,8 @@ pub mod TypeTables
 pub mod Firsts
 pub mod PlacePaths
 pub mod VariableTexts
+pub mod TailLists
+pub mod FieldLists
 pub mod MemberFaults
 pub mod Chains
 pub mod StartParts

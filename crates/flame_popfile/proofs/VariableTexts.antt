@@ -1,5 +1,5 @@
 -- The texts of variables, one variable more.
-use Rattle.std.proofs.Common.{◌≡◌, ℕ, ◌+◌, ◌<◌, ◌≤◌, List, [], ◌∷◌, ◌++◌, Bool, true, false, length, take, drop, get_or, codes, sym, ap, ◌∙◌, arith}
+use Rattle.std.proofs.Common.{◌≡◌, ℕ, ◌+◌, ◌<◌, ◌≤◌, List, ◌∷◌, ◌++◌, Bool, true, false, length, take, drop, get_or, codes, sym, ap, ◌∙◌, arith}
 use Rattle.std.proofs.Common.{append_assoc, append-nil, length-drop, Option, Some, None}
 use Rattle.std.specs.Prelude.{ℤ, min, is_some, if◌then◌else◌}
 use Rattle.std.proofs.lemmas.List.{at_drop_more, drop_all, drop-drop, take_min, drop_min}

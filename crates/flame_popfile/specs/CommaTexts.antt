@@ -3,6 +3,7 @@ use Rattle.std.specs.Prelude.{◌≡◌, ℕ, ℤ, ◌+◌, ◌*◌, ◌/◌, �
 use Rattle.std.specs.Fork.{slice_chunk}
 use Rattle.std.specs.Global.{Global}
 use Rattle.flame_rows.specs.declared.fails.NoMemory.{NoMemory}
+use Rattle.flame_spec.specs.declared.models.AgentType.{AgentType}
 use Rattle.flame_popfile.specs.RowTexts.{comma, row_text, object_text, agent_text}
 use Rattle.flame_popfile.specs.declared.forms.Form.{Form}
 use Rattle.flame_popfile.specs.declared.forms.Form.TheVariants as form
@@ -19,6 +20,10 @@ behind more (text ∷ texts) = comma_where more ++ (text ++ behind true texts)
 -- a name and a colon [own]
 abbrev pub name_text : List ℕ → List ℕ
 name_text name = codes "\"" ++ (name ++ codes "\":")
+
+-- what stands before the variables of an agent of this type [own]
+abbrev pub agent_head : AgentType → List ℕ
+agent_head type = codes "{\"name\":\"" ++ (type.name ++ codes "\",\"memory\":{")
 
 -- whether the list has an element [own]
 abbrev pub has_some : {X : Type 0} → List X → Bool

@@ -19,3 +19,7 @@ pub mod PopulationNumbers
 pub mod PopulationTables
 pub mod DealtAgents
 pub mod CommaTexts
+pub mod TailTexts
+pub mod FieldTexts
+pub mod ObjectTexts
+pub mod ShapeTexts

@@ -5,6 +5,7 @@ ghost use Rattle.flame_popfile.specs.CommaTexts.{behind, form_text};
 
 use crate::pieces::push_comma;
 use crate::rows::{push_agent, push_list, push_object};
+use crate::shapes::push_many;
 use flame_rows::{NoMemory, Row};
 use flame_spec::{AgentType, Variable};
 
@@ -18,6 +19,9 @@ pub(crate) enum Form<'a> {
     /// As an agent of this type.
     Agent(&'a AgentType),
 }
+
+/// How many rows a list has at least for which it pays to make a shape.
+const MANY: usize = 8;
 
 /// Adds a row in this form.
 fn push_row(bytes: &mut Vec<u8>, form: Form<'_>, row: &[i32]) -> Result<(), NoMemory>
@@ -37,6 +41,18 @@ pub(crate) fn push_rows(
     rows: &[Row],
     before: bool,
 ) -> Result<(), NoMemory>
+    ensures { OnOk result
+        (bytes.new.items ≡ bytes.old.items ++ behind before (map (form_text form.entry) rows.now)) }
+{
+    if rows.len() < MANY {
+        push_few(bytes, form, rows, before)
+    } else {
+        push_many(bytes, form, rows, before)
+    }
+}
+
+/// The same, one row after another.
+fn push_few(bytes: &mut Vec<u8>, form: Form<'_>, rows: &[Row], before: bool) -> Result<(), NoMemory>
     ensures { OnOk result
         (bytes.new.items ≡ bytes.old.items ++ behind before (map (form_text form.entry) rows.now)) }
 {

@@ -2,7 +2,7 @@
 
 ghost use Rattle.std.specs.Prelude.{◌≡◌, ◌++◌, OnOk};
 ghost use Rattle.std.specs.Fmt.{signed_decimal};
-ghost use Rattle.flame_popfile.specs.CommaTexts.{comma_where};
+ghost use Rattle.flame_popfile.specs.CommaTexts.{comma_where, name_text};
 
 use flame_rows::NoMemory;
 use itoa::Buffer;
@@ -12,6 +12,16 @@ pub(crate) fn push_str(bytes: &mut Vec<u8>, text: &str) -> Result<(), NoMemory>
     ensures { OnOk result (bytes.new.items ≡ bytes.old.items ++ text.now) }
 {
     bytes.extend_from_slice(text.as_bytes())?;
+    Ok(())
+}
+
+/// Adds a name and a colon.
+pub(crate) fn push_name(bytes: &mut Vec<u8>, name: &str) -> Result<(), NoMemory>
+    ensures { OnOk result (bytes.new.items ≡ bytes.old.items ++ name_text name.now) }
+{
+    push_str(bytes, "\"")?;
+    push_str(bytes, name)?;
+    push_str(bytes, "\":")?;
     Ok(())
 }
 

@@ -5,10 +5,10 @@ ghost use Rattle.std.specs.Fmt.{signed_decimal};
 ghost use Rattle.flame_spec.specs.Columns.{width_by, width_of};
 ghost use Rattle.flame_popfile.specs.RowTexts.{numbers_text, row_text, named_text, value_text, variable_texts, object_text};
 ghost use Rattle.flame_popfile.specs.RowTexts.{with_commas, constant_texts, agent_text, agent_texts};
-ghost use Rattle.flame_popfile.specs.CommaTexts.{behind, name_text, has_some};
+ghost use Rattle.flame_popfile.specs.CommaTexts.{behind, has_some};
 
 use crate::forms::Form;
-use crate::pieces::{push_comma, push_number, push_str};
+use crate::pieces::{push_comma, push_name, push_number, push_str};
 use crate::writers::Writer;
 use flame_rows::{Bag, NoMemory, Row, Text};
 use flame_spec::{AgentType, Variable};
@@ -33,16 +33,6 @@ pub(crate) fn push_list(bytes: &mut Vec<u8>, numbers: &[i32]) -> Result<(), NoMe
     push_str(bytes, "[")?;
     push_numbers(bytes, numbers)?;
     push_str(bytes, "]")?;
-    Ok(())
-}
-
-/// Adds a name and a colon.
-fn push_name(bytes: &mut Vec<u8>, name: &str) -> Result<(), NoMemory>
-    ensures { OnOk result (bytes.new.items ≡ bytes.old.items ++ name_text name.now) }
-{
-    push_str(bytes, "\"")?;
-    push_str(bytes, name)?;
-    push_str(bytes, "\":")?;
     Ok(())
 }
 

@@ -10,8 +10,8 @@ use std::alloc::Global;
 use std::thread;
 use std::thread::Threads;
 
-/// How many numbers a list of rows has at least that several workers write: so many take about as long as it takes to start
-/// the threads, four times over.
+/// How many numbers a list of rows has at least that several workers write: so many take two to three times as long as it
+/// takes to start the threads.
 const SHARED_NUMBERS: usize = 8192;
 
 /// The text of these rows.

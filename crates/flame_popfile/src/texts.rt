@@ -14,7 +14,7 @@ use std::thread::Threads;
 
 /// The text of an iteration in a version: its number, the constants and agents of its world, and its boards. It has no
 /// blanks and ends with one LF; it is written into one growing buffer, in time linear in its length. The error is want of
-/// memory.
+/// memory, also where 64 bits cannot hold the width of a row.
 pub fn text(
     alloc: Global,
     program: &Program,

@@ -1,4 +1,4 @@
-use Rattle.std.proofs.Common.{◌++◌, ◌∙◌, get_or, pos, refl, ap, w32, SFits, rules}
+use Rattle.std.proofs.Common.{◌++◌, ◌∙◌, get_or, pos, ap, w32, SFits, rules}
 use Rattle.std.specs.Fmt.{signed_decimal}
 use Rattle.std.proofs.lemmas.Int.{to_z-of_z}
 use Rattle.flame_popfile.proofs.CommaLists.{numbers_more, commas_all}

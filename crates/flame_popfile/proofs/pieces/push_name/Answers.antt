@@ -1,5 +1,5 @@
 use Rattle.std.proofs.Common.{◌++◌, ◌∙◌, codes, ap, append_assoc}
-use Rattle.flame_popfile.proofs.rows.push_name.Goals as goal
+use Rattle.flame_popfile.proofs.pieces.push_name.Goals as goal
 
 pub returns : goal.returns
 returns c =

@@ -1,7 +1,7 @@
 use Rattle.std.proofs.Common.{◌++◌, ◌∙◌, ap}
 use Rattle.flame_popfile.specs.CommaTexts.{form_text}
 use Rattle.flame_popfile.proofs.CommaLists.{commas_more, commas_ended}
-use Rattle.flame_popfile.proofs.forms.push_rows.Goals as goal
+use Rattle.flame_popfile.proofs.forms.push_few.Goals as goal
 
 pub loop-row-preserved : goal.loop-row-preserved
 loop-row-preserved c =
