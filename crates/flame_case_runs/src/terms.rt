@@ -3,7 +3,7 @@
 ghost use Rattle.std.specs.Prelude.{◌≡◌, IfOk};
 
 use flame_case_files::Case;
-use flame_rows::{Bag, NoMemory, Seq};
+use flame_rows::{Copied, NoMemory};
 use flame_world::World;
 use std::alloc::Global;
 
@@ -25,23 +25,12 @@ pub(crate) fn terms_in(case: &Case) -> Terms {
     }
 }
 
-/// The same bags again.
-fn bags_copied(alloc: Global, bags: &[Bag]) -> Result<Seq<Bag>, NoMemory>
-    ensures { IfOk result (λ copies. copies ≡ bags.now) }
-{
-    let mut copies = Vec::new(alloc);
-    for bag in bags {
-        copies.push(bag.copy()?)?;
-    }
-    Ok(Seq::of(copies))
-}
-
 /// The same world again.
 pub(crate) fn world_copied(alloc: Global, world: &World) -> Result<World, NoMemory>
     ensures { IfOk result (λ copy. copy ≡ world.now) }
 {
     Ok(World {
         constants: world.constants.copy()?,
-        agents: bags_copied(alloc, world.agents.items())?,
+        agents: world.agents.copy(alloc)?,
     })
 }

@@ -19,7 +19,6 @@ ghost use Rattle.flame_core.specs.KeptShares.{CanTakeIn, IsFed, IsSettingOf};
 ghost use Rattle.flame_core.specs.KeptReady.{AreDealtIn, Ready};
 ghost use Rattle.flame_round.specs.KeptRounds.{GoesBy, round_of};
 
-use crate::starting::same_rows;
 use flame_field::Board;
 use flame_index::Frozen;
 use flame_pieces::Work;
@@ -37,7 +36,7 @@ fn same_board(board: &Board, read: &Arc<Frozen>) -> bool
     ensures { IsTrue result ↔ (shared_messages read.now ≡ board_bag board.now) }
 {
     match board.frozen() {
-        Some(frozen) => same_rows(read.bag().rows(), frozen.bag().rows()),
+        Some(frozen) => read.bag().same(frozen.bag()),
         None => unreachable!(),
     }
 }
@@ -65,7 +64,7 @@ fn same_boards(boards: &[Board], messages: &[u32], read: &[Arc<Frozen>]) -> bool
 fn is_untouched(work: &Work, piece: &Piece) -> bool
     ensures { IsTrue result ↔ (((kept_work work.now).ran ≡ 0) × (piece.now.agents ≡ (kept_work work.now).agents)) }
 {
-    work.ran == 0 && same_rows(piece.agents.rows(), work.agents.rows())
+    work.ran == 0 && piece.agents.same(&work.agents)
 }
 
 /// Whether the setting is what the agents have before them of the function which goes by this route.

@@ -17,63 +17,15 @@ use flame_pieces::{Status, Waits};
 use flame_program::Program;
 use flame_progress::{Counts, Progress, tell_waiters, wait_for};
 use flame_round::opened;
-use flame_rows::{Bag, NoMemory, Row, Same, Seq};
+use flame_rows::{Bag, NoMemory, Same, Seq};
 use flame_world::World;
 use std::alloc::Global;
-
-/// The same bags again.
-pub(crate) fn bags_copied(alloc: Global, bags: &[Bag]) -> Result<Seq<Bag>, NoMemory>
-    ensures { IfOk result (λ copies. copies ≡ bags.now) }
-{
-    let mut copies = Vec::new(alloc);
-    for bag in bags {
-        copies.push(bag.copy()?)?;
-    }
-    Ok(Seq::of(copies))
-}
-
-/// Whether both have the same rows in the same order.
-pub(crate) fn same_rows(ones: &[Row], twos: &[Row]) -> bool
-    ensures { IsTrue result ↔ (ones.now ≡ twos.now) }
-{
-    if ones.len() != twos.len() {
-        return false;
-    }
-    for i in 0..ones.len() {
-        if !ones[i].same(&twos[i]) {
-            return false;
-        }
-    }
-    true
-}
-
-/// Whether both are the same bag.
-fn same_bag(one: &Bag, two: &Bag) -> bool
-    ensures { IsTrue result ↔ (one.now ≡ two.now) }
-{
-    same_rows(one.rows(), two.rows())
-}
-
-/// Whether both are the same bags in the same order.
-fn same_bags(ones: &[Bag], twos: &[Bag]) -> bool
-    ensures { IsTrue result ↔ (ones.now ≡ twos.now) }
-{
-    if ones.len() != twos.len() {
-        return false;
-    }
-    for i in 0..ones.len() {
-        if !same_bag(&ones[i], &twos[i]) {
-            return false;
-        }
-    }
-    true
-}
 
 /// Whether both have the same constants and the same agents.
 fn same_world(one: &World, two: &World) -> bool
     ensures { IsTrue result ↔ (one.now ≡ two.now) }
 {
-    one.constants.same(&two.constants) && same_bags(one.agents.items(), two.agents.items())
+    one.constants.same(&two.constants) && one.agents.same(&two.agents)
 }
 
 /// With what an iteration begins.

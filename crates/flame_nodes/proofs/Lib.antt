@@ -7,5 +7,4 @@ pub mod LeftShares
 pub mod SharedRuns
 pub mod FirstShares
 pub mod NodeSteps
-pub mod SharedSources
 pub mod SentShares

@@ -15,12 +15,11 @@ use Rattle.flame_world.proofs.pieces.Part.TheSendSync.{the_send as part-send}
 use Rattle.flame_world.proofs.pieces.Rest.TheSendSync.{the_send as rest-send}
 use Rattle.flame_world.specs.contracts.settings.Setting as setting
 use Rattle.flame_world.specs.contracts.shares.Share as share
-use Rattle.flame_share.proofs.SharedPrograms.{program-sync}
+use Rattle.flame_share.proofs.SharedPrograms.{program-sync, source-sync}
 use Rattle.flame_nodes.proofs.working.Outlet.TheSendSync.{the_sync as outlet-sync}
 use Rattle.flame_nodes.specs.contracts.terms.Terms as terms
 use Rattle.flame_nodes.specs.contracts.working.Floor as floor
 use Rattle.flame_nodes.specs.contracts.working.Node as node
-use Rattle.flame_nodes.proofs.SharedSources.{source-sync}
 
 setting-send : (l : NamedLft) → IsSend (setting.the_row l)
 setting-send l = search (declared_send, as_row_send, source-sync, row-sync, seq-sync, frozen-send, frozen-sync, sendable, crosses, rules) depth 20 fits 20000

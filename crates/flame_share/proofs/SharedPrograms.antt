@@ -117,7 +117,7 @@ def-sync = search (declared_sync, variants_sync, as_row_sync, text-sync, seq-syn
 unit-sync : IsSync unit.the_row
 unit-sync = search (seq-sync, def-sync, sendable) depth 20
 
-source-sync : IsSync source.the_row
+pub source-sync : IsSync source.the_row
 source-sync = search (declared_sync, variants_sync, as_row_sync, seq-sync, model-sync, unit-sync, sendable) depth 20
 
 test-sync : IsSync test.the_row

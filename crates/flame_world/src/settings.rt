@@ -24,26 +24,11 @@ pub struct Setting<'a> {
     pub fuel: u32,
 }
 
-/// Whether both have the same rows in the same order.
-fn same_rows(ones: &[Row], twos: &[Row]) -> bool
-    ensures { IsTrue result ↔ (ones.now ≡ twos.now) }
-{
-    if ones.len() != twos.len() {
-        return false;
-    }
-    for i in 0..ones.len() {
-        if !ones[i].same(&twos[i]) {
-            return false;
-        }
-    }
-    true
-}
-
 /// Whether both boards have the same messages.
 fn same_board(one: &Arc<Frozen>, two: &Arc<Frozen>) -> bool
     ensures { IsTrue result ↔ (shared_messages one.now ≡ shared_messages two.now) }
 {
-    same_rows(one.bag().rows(), two.bag().rows())
+    one.bag().same(two.bag())
 }
 
 /// Whether both are the same boards in the same order.

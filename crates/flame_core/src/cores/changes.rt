@@ -17,12 +17,12 @@ use crate::faults::StepFault;
 use crate::happening::happen;
 use crate::inputs::input_boards;
 use crate::ranks::Ranks;
-use crate::starting::{bags_copied, begun, counted};
+use crate::starting::{begun, counted};
 use flame_events::Event;
 use flame_index::Frozen;
 use flame_program::Program;
 use flame_round::{Round, wants_of};
-use flame_rows::{NoMemory, Seq};
+use flame_rows::{Copied, NoMemory, Seq};
 use flame_world::{Share, World};
 use std::alloc::Global;
 use std::sync::Arc;
@@ -55,7 +55,7 @@ impl<'a> Core<'a> {
         if !program.source().model.is_counted() {
             return Err(NoMemory);
         }
-        let agents = bags_copied(alloc, world.agents.items())?;
+        let agents = world.agents.copy(alloc)?;
         let progress = begun(alloc, program, agents)?;
         let counts = counted(alloc, program)?;
         // Each agent makes all of its views.

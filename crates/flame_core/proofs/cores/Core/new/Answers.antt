@@ -30,7 +30,7 @@ counted-requires c =
 
 pub begun-requires : goal.begun-requires
 begun-requires c =
-    subst (λ bags. FitTypes c.args.program.now.model bags) (sym (c.in_ok-agents.ensures ∙ c.items.ensures)) c.requires.fits.agents
+    subst (λ bags. FitTypes c.args.program.now.model bags) (sym c.in_ok-agents.ensures) c.requires.fits.agents
 
 pub invariant_of-result : goal.invariant_of-result
 invariant_of-result c =
@@ -38,7 +38,7 @@ invariant_of-result c =
     let model = source.model in
     let progress = c.in_ok-progress.progress in
     let is : core_of progress ≡ opening_core model c.args.world.agents =
-    c.in_ok-progress.ensures.core ∙ ap (opening_core model) (c.in_ok-agents.ensures ∙ c.items.ensures) in
+    c.in_ok-progress.ensures.core ∙ ap (opening_core model) c.in_ok-agents.ensures in
     let counted : is_counted model ≡ true =
     sym (ap (λ (s : Source). is_counted s.model) c.source.ensures.same) ∙ sym c.if-not-is_counted.ensures in
     let shut : (f : ℕ) → false ≡ is_shut (status_of (core_of progress) f) =
@@ -84,12 +84,12 @@ invariant_of-result c =
 
 pub returns-clause-new : goal.returns-clause-new
 returns-clause-new c =
-    c.in_ok-progress.ensures.core ∙ ap (opening_core c.args.program.now.model) (c.in_ok-agents.ensures ∙ c.items.ensures)
+    c.in_ok-progress.ensures.core ∙ ap (opening_core c.args.program.now.model) c.in_ok-agents.ensures
 
 pub returns-clause-core : goal.returns-clause-core
 returns-clause-core c =
     let model = c.args.program.now.model in
-    let is = c.in_ok-progress.ensures.core ∙ ap (opening_core model) (c.in_ok-agents.ensures ∙ c.items.ensures) in
+    let is = c.in_ok-progress.ensures.core ∙ ap (opening_core model) c.in_ok-agents.ensures in
     let fits : SFits w32 c.args.iteration = search rules in
     λ i. record {
       source = c.args.program.now;
