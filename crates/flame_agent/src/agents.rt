@@ -161,10 +161,10 @@ fn run_over(
 /// as wide as the model declares. `NoMemory` comes where none is found, and where 32 bits cannot number the function's inputs.
 ///
 /// The views that no memory changes are made once, where there are two agents at least, and one room and one list of views
-/// serve all. These keep their lists from agent to agent, also those into which views of an agent's own have picked rows, but
-/// for what the machine has open in a run that faults. So an agent takes memory for long rows, those of the messages and births
-/// that it makes, of the memory that it leaves and of that of a fault that is kept, and for a list that is not there yet or has
-/// too little room; a sort of picked rows takes none.
+/// serve all. These keep their lists from agent to agent, however a run ends, also those into which views of an agent's own
+/// have picked rows. So an agent takes memory for long rows, those of the messages and births that it makes, of the memory
+/// that it leaves and of that of a fault that is kept, for a list that is not there yet or has too little room, and for each
+/// call of a helper for which the cells that are left do not suffice; a sort of picked rows takes none.
 pub fn run_agents(
     alloc: Global,
     program: &Program,

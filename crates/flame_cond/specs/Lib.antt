@@ -5,6 +5,7 @@ pub mod Said
 pub mod Equalities
 -- What a filter asks of a row alone, once a memory was read.
 pub mod RowTests
--- The words that only bodies and proofs use.
+-- When a test holds: what Said is made of.
 pub mod Tests
+-- The words that only bodies and proofs use.
 pub mod ColumnTests

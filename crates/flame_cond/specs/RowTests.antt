@@ -1,4 +1,4 @@
--- Tests of a row alone: what a filter asks of a row, once an agent's memory was read.
+-- Tests of a row alone: what a filter asks of a row, for an agent with a memory that is given.
 use Rattle.std.specs.Prelude.{◌≡◌, ℤ, List, Bool, true, ◌&&◌}
 use Rattle.flame_spec.specs.Conditions.{number_at, compares}
 use Rattle.flame_cond.specs.declared.row_tests.ColumnTest.{ColumnTest}

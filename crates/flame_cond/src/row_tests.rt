@@ -1,4 +1,4 @@
-//! Filters as tests of a row alone, once an agent's memory was read.
+//! Filters as tests of a row alone, for an agent with a memory that is given.
 
 ghost use Rattle.std.specs.Prelude.{◌≡◌};
 ghost use Rattle.flame_cond.specs.TestForms.{form_of};
@@ -22,7 +22,7 @@ pub struct ColumnTest {
     pub number: i32,
 }
 
-/// What a filter asks of a row, for an agent whose memory was read.
+/// What a filter asks of a row, for an agent with a memory that is given.
 #[derive(Drop)]
 pub enum RowTest<'a> {
     /// Nothing: every row passes, as where there is no filter.

@@ -18,8 +18,8 @@ use std::alloc::Global;
 use std::thread;
 use std::thread::Threads;
 
-/// How many agents a worker asks at least, where several do: these choices take some three times as long as it takes to start
-/// a thread.
+/// How many agents a run of choices has at least, but for the last, where several workers ask: these choices take two to ten
+/// times as long as it takes to start a thread.
 const RUN: usize = 16_384;
 
 /// What the agents of each run of these choose, all so long but the last, which may be shorter: each run by a worker of its
@@ -80,7 +80,7 @@ fn joined(alloc: Global, runs: Vec<Seq<u32>>) -> Result<Vec<u32>, NoMemory>
     Ok(choices)
 }
 
-/// How many of these agents each of so many workers asks.
+/// How many agents a run has, so that there are no more runs than workers.
 fn run_size(agents: &[Row], workers: u32) -> usize
     requires { 1 ≤ workers }
     ensures { 0 < result }

@@ -8,7 +8,7 @@ use flame_rows::{NoMemory, Row};
 use std::alloc::Global;
 
 /// The height of a run's stack, its top and the run's fuel. The values below the top lie in cells that are lent to the run,
-/// from 1 on, as many as the stack is ever high. So no step allocates.
+/// from 1 on; of these there are at least as many as the code has instructions. So no push allocates.
 #[derive(Drop)]
 pub struct Frame {
     height: usize,

@@ -20,8 +20,8 @@ use flame_code::{Code, Feed, Helpers, Instr};
 use flame_rows::NoMemory;
 use std::alloc::Global;
 
-/// How many cells there are for helpers above those that a run needs for its own stack. A helper for which they do not
-/// suffice gets cells of its own.
+/// How many cells there are for helpers above those that a run needs for its own stack. A helper for which the cells from its
+/// arguments on do not suffice gets cells of its own.
 pub const SPARE: usize = 1000;
 
 /// The first of the instructions that are left.
@@ -51,7 +51,7 @@ fn starting_at(instrs: &[Instr], place: u32) -> &[Instr]
     &instrs[place as usize..]
 }
 
-/// The first of the instructions that are left.
+/// One step: does the first of the instructions that are left.
 #[inline(always)]
 fn turn<F: Feed>(
     code: &Code,
@@ -95,8 +95,8 @@ fn turn<F: Feed>(
     )
 }
 
-/// Runs the code from its begin with these locals, on these cells and on this memory. The cells above its stack serve the
-/// helpers that it calls. It calls itself through `call` for each helper that is open, so at most as deep as helpers are
+/// Runs the code from its begin with these locals, on these cells and on this memory. The cells from a call's arguments on
+/// serve the helper that is called. It calls itself through `call` for each helper that is open, so at most as deep as helpers are
 /// high.
 #[cycle(go)]
 pub fn go<F: Feed>(

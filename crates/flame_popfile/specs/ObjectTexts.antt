@@ -8,6 +8,6 @@ abbrev pub written_object : Object → List ℤ → List ℕ
 written_object object row =
     object.head.items ++ (with_commas (variable_texts object.variables.now row) ++ codes "}")
 
--- an agent that ends with such an object [own]
+-- an agent: such an object, whose head begins the agent, and a brace behind it [own]
 abbrev pub written_agent : Object → List ℤ → List ℕ
 written_agent object row = written_object object row ++ codes "}"

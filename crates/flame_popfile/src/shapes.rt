@@ -28,7 +28,7 @@ pub(crate) enum Shape<'a> {
     List,
     /// As such objects.
     Object(Object<'a>),
-    /// As agents, of which each ends with such an object.
+    /// As agents: such an object, whose head begins the agent, and a brace behind it.
     Agent(Object<'a>),
 }
 
@@ -82,7 +82,7 @@ fn agent_shape<'a>(alloc: Global, agent: &'a AgentType) -> Result<Shape<'a>, NoM
     }))
 }
 
-/// Puts an agent that ends with such an object before the text.
+/// Puts an agent, such an object and a brace behind it, before the text.
 fn put_agent(tail: &mut Tail, object: &Object<'_>, row: &[i32]) -> Result<(), NoMemory>
     ensures { OnOk result (held tail.new ≡ written_agent object.now row.now ++ held tail.old) }
 {
