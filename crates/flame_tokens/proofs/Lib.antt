@@ -1,5 +1,6 @@
 pub mod TokenLists
 pub mod PassedLists
+pub mod MoreDigits
 pub mod MoreValues
 pub mod NamedTypes
 pub mod DealtRows

@@ -12,19 +12,22 @@ ghost use Rattle.flame_tokens.specs.PopulationTrees.{HasAgents};
 
 use crate::members::name;
 use crate::memories::{closes, opens, passes};
-use crate::numbers::{begins, ends, list};
+use crate::numbers::{begins, ends, fill};
 use flame_lookup::width;
 use flame_rows::Row;
 use flame_spec::AgentType;
 use json::Reader;
 use std::alloc::Global;
 
-/// The row of this width that comes next.
-fn row(alloc: Global, reader: &mut Reader<'_>, wide: usize) -> Option<Row>
+/// The row of this width that comes next. Its numbers are gathered in the vector, whose others they replace.
+#[inline(always)]
+fn row(alloc: Global, reader: &mut Reader<'_>, wide: usize, numbers: &mut Vec<i32>) -> Option<Row>
     ensures tokens { IfSome result (λ row. reader.old ≡ json_tokens (row_tree row) ++ reader.new) }
     ensures wide { IfSome result (λ row. IsWide wide row) }
 {
-    Some(Row::of(list(alloc, reader, wide)?))
+    numbers.clear();
+    fill(reader, wide, numbers)?;
+    Row::of_slice(alloc, numbers.as_slice()).ok()
 }
 
 /// The list of rows of this width that comes next.
@@ -33,12 +36,13 @@ fn rows(alloc: Global, reader: &mut Reader<'_>, wide: usize) -> Option<Vec<Row>>
     ensures wide { IfSome result (λ rows. All (IsWide wide) rows.items) }
 {
     begins(reader)?;
+    let mut numbers = Vec::new(alloc);
     let mut rows = Vec::new(alloc);
     for _turn in 0..u64::MAX {
         if reader.take_end_array() {
             return Some(rows);
         }
-        rows.push(row(alloc, reader, wide)?).ok()?;
+        rows.push(row(alloc, reader, wide, &mut numbers)?).ok()?;
     }
     None
 }

@@ -2,7 +2,7 @@
 use Rattle.std.proofs.Common.{◌≡◌, ◌++◌, length, map, All, true}
 use Rattle.flame_ops.specs.Integers.{is_int}
 use Rattle.flame_tokens.specs.NumberTrees.{number_tree, begun}
-use Rattle.flame_tokens.proofs.numbers.numbers.Given as goal
+use Rattle.flame_tokens.proofs.numbers.fill_numbers.Given as goal
 
 abbrev pub invariant-loop-turn : goal.invariant-loop-turn
 invariant-loop-turn l = record {
