@@ -38,9 +38,10 @@ fn states_of(alloc: Global, text: &str, model: &Model) -> Option<States>
 
 /// The population that the bytes are, where they write one of the model as a writer does: the states alone, and in them, each
 /// once and in this order, the number of the version, that of the iteration, the environment, the agents and the boards, of
-/// which all but the agents may be missing; and each number as it is printed. In version 1 all constants stand by their names in
-/// the order of the model, an agent's name before its memory, and in that all variables in declared order; in version 2 the
-/// constants are a list of their values, and each type stands once, in the order of the model, its name before its rows. The boards are passed over: whole numbers of int, texts, lists and objects, nested 5 deep at most.
+/// which all but the agents may be missing; and each number as it is printed. In version 1 all constants stand by their names
+/// in the order of the model, an agent's name before its memory, and in that all variables in declared order; in version 2 the
+/// constants are a list of their values, and each type stands once, in the order of the model, its name before its rows. The
+/// boards are passed over: whole numbers of int, texts, lists and objects, nested 5 deep at most.
 /// `None` says nothing: the bytes are written in another way, or are no population, or memory was not found.
 pub fn read(alloc: Global, bytes: &[u8], model: &Model) -> Option<Population>
     ensures { IfSome result (λ found.
