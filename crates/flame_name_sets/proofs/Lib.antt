@@ -1,3 +1,3 @@
 pub mod Among
 pub mod Places
-pub mod Looks
+pub mod Tables

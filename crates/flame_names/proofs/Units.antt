@@ -16,7 +16,7 @@ use Rattle.flame_spec.specs.Refusals.{fault_where}
 use Rattle.flame_spec.specs.UnitFaults.{is_long, length_after, unit_faults}
 use Rattle.flame_name_sets.specs.NameTables.{look, names_of}
 use Rattle.flame_names.specs.UnitTables.{floored, measure_at, unit_at, length_of, with_unit}
-use Rattle.flame_name_sets.proofs.Looks.{is_some-look, look-push, names_of-push}
+use Rattle.flame_name_sets.proofs.Tables.{is_some-look, look-push, names_of-push}
 use Rattle.flame_names.proofs.Floors.{is_long-floored, floored-floored}
 
 -- the table has the names of the units, and their lengths

@@ -10,7 +10,7 @@ use Rattle.flame_names.specs.PlacePaths.{text_of}
 use Rattle.flame_names.specs.TableScopes.{declared_of}
 use Rattle.flame_name_sets.specs.NameTables.{look}
 use Rattle.flame_names.proofs.Firsts.{fails_first}
-use Rattle.flame_name_sets.proofs.Looks.{is_some-look}
+use Rattle.flame_name_sets.proofs.Tables.{is_some-look}
 use Rattle.flame_names.proofs.Rests.{fails-append, fails-same}
 use Rattle.flame_names.proofs.Readings.{read_scope, input_faults-known, input_faults-unknown, rest_is}
 use Rattle.flame_names.proofs.functions.add_input.Goals as goal

@@ -8,7 +8,7 @@ use Rattle.flame_names.specs.NameLooks.{message_entry}
 use Rattle.flame_name_sets.specs.NameTables.{look}
 use Rattle.flame_names.proofs.Rests.{fails-member}
 use Rattle.flame_names.proofs.MessageNames.{names_of-messages}
-use Rattle.flame_name_sets.proofs.Looks.{look-none}
+use Rattle.flame_name_sets.proofs.Tables.{look-none}
 use Rattle.flame_names.proofs.messages.add_messages.Goals as goal
 
 pub returns-in_err-variables-clause-first : goal.returns-in_err-variables-clause-first

@@ -5,7 +5,7 @@ use Rattle.std.proofs.lemmas.List.{map_push}
 use Rattle.std.proofs.lemmas.Int.{to_z-of_z}
 use Rattle.indexmap.proofs.CallerLemmas.{insert_entry-new}
 use Rattle.flame_name_sets.specs.NameTables.{look}
-use Rattle.flame_name_sets.proofs.Looks.{look-map}
+use Rattle.flame_name_sets.proofs.Tables.{look-map}
 use Rattle.flame_names.proofs.lengths.Lengths.add.Goals as goal
 
 pub returns : goal.returns

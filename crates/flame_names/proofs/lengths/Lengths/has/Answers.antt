@@ -1,6 +1,6 @@
 use Rattle.std.proofs.Common.{◌∙◌, ap}
 use Rattle.std.specs.Option.{is_some}
-use Rattle.flame_name_sets.proofs.Looks.{is_some-look}
+use Rattle.flame_name_sets.proofs.Tables.{is_some-look}
 use Rattle.flame_names.proofs.lengths.Lengths.has.Goals as goal
 
 pub returns : goal.returns

@@ -1,6 +1,6 @@
 use Rattle.std.proofs.Common.{◌∙◌, sym, ap}
 use Rattle.flame_name_sets.specs.NameTables.{look}
-use Rattle.flame_name_sets.proofs.Looks.{look-map}
+use Rattle.flame_name_sets.proofs.Tables.{look-map}
 use Rattle.flame_names.proofs.lengths.Lengths.of.Goals as goal
 
 pub returns : goal.returns

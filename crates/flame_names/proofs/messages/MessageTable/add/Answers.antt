@@ -4,7 +4,7 @@ use Rattle.std.specs.Str.{bytes_eq}
 use Rattle.std.proofs.lemmas.List.{map_push}
 use Rattle.indexmap.proofs.CallerLemmas.{insert_entry-new}
 use Rattle.flame_name_sets.specs.NameTables.{look}
-use Rattle.flame_name_sets.proofs.Looks.{look-map}
+use Rattle.flame_name_sets.proofs.Tables.{look-map}
 use Rattle.flame_names.proofs.messages.MessageTable.add.Goals as goal
 
 pub returns : goal.returns

@@ -1,7 +1,7 @@
 use Rattle.std.proofs.Common.{◌∙◌, sym, ap}
 use Rattle.std.specs.Option.{is_some}
 use Rattle.flame_rows.proofs.Truths.{is_some-option_copied}
-use Rattle.flame_name_sets.proofs.Looks.{is_some-look}
+use Rattle.flame_name_sets.proofs.Tables.{is_some-look}
 use Rattle.flame_names.proofs.messages.MessageTable.has.Goals as goal
 
 pub returns : goal.returns

@@ -12,7 +12,7 @@ use Rattle.flame_nest.specs.NestFaults.{type_names, is_wide}
 use Rattle.flame_nest.specs.KindTables.{IsKinds}
 use Rattle.flame_name_sets.specs.NameTables.{names_of}
 use Rattle.flame_nest.proofs.Entries.{look-missing}
-use Rattle.flame_name_sets.proofs.Looks.{look-none}
+use Rattle.flame_name_sets.proofs.Tables.{look-none}
 use Rattle.flame_nest.proofs.Unfolding.{IsKinds-push, names_of-table}
 use Rattle.flame_nest.proofs.kinds.Kinds.add.Goals as goal
 
