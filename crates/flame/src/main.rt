@@ -10,6 +10,7 @@ use std::{env, io};
 const NO_ARGUMENTS: u8 = 7;
 
 /// The words after the program's name.
+#[inline(never)]
 fn words(rt: &HostRuntime) -> io::Result<Vec<String>> {
     let mut words = Vec::new(rt.alloc());
     for word in env::args(rt)?.skip(1) {
