@@ -8,7 +8,7 @@ use Rattle.flame_rows.specs.Order.{row_order}
 use Rattle.flame_rows.specs.Sorted.{IsBelowAll, IsAscending}
 use Rattle.flame_rows.specs.Bags.{ascending, merge, merge_all, weigh}
 use Rattle.flame_rows.proofs.Truths.{cases_Option}
-use Rattle.flame_rows.proofs.BagLaws.{IsAscending-ascending, IsAscending-merge, equal_by_weighings, merge_adds_weights, weigh-append, weigh-ascending}
+use Rattle.flame_rows.proofs.BagLaws.{IsAscending-ascending, IsAscending-merge, equal_by_weighings, merge_adds_weights, weigh-append, weigh-ascending, weigh-ones}
 use Rattle.flame_field.specs.declared.gatherings.Gathering.{Gathering}
 use Rattle.flame_field.specs.declared.pools.Pool.{Pool}
 use Rattle.flame_field.proofs.Gathered.{none_left}
@@ -342,16 +342,12 @@ others_are choose place old new none still left =
 
 -- ---- how many they are
 
-pub length-weigh : (rows : Rows) → weigh (λ row. 1) rows ≡ length rows
-length-weigh [] = refl
-length-weigh (row ∷ rows) = omega (arith, length-weigh rows)
-
 pub length-there : (all : List Gathering) (place : ℕ) (own : Gathering) → place < length all → own ≡ get_or all place own
     → length own.rows.items ≡ length (slice_index_or (map bag_of all) place [])
 length-there all place own within at =
-    sym (length-weigh own.rows.items)
+    sym (weigh-ones own.rows.items)
     ∙ sym (weigh-ascending (λ row. 1) own.rows.items)
-    ∙ length-weigh (bag_of own)
+    ∙ weigh-ones (bag_of own)
     ∙ ap length (sym (bag-at all place own (got-there all place own within at)))
 
 -- ---- room for those that choose a place
@@ -422,7 +418,7 @@ apart-moved choose all place old new apart is chose =
     (ap (λ (o : Gathering). weigh (strays choose place) o.rows.items) is ∙ all-strays choose place old.rows.items chose)
 
 pub none_there : (own : Gathering) → bag_of own ≡ [] → own.rows.items ≡ []
-none_there own none = none_left own.rows.items (sym (length-weigh own.rows.items) ∙ weigh-none (λ row. 1) own none)
+none_there own none = none_left own.rows.items (sym (weigh-ones own.rows.items) ∙ weigh-none (λ row. 1) own none)
 
 pub length-push : {X : Type 0} (xs : List X) (x : X) → length (xs ++ x ∷ []) ≡ length xs + 1
 length-push [] x = omega arith

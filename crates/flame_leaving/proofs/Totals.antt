@@ -1,11 +1,11 @@
 -- Survivors, messages and births of parts together: each agent gives its own rows.
-use Rattle.std.proofs.Common.{◌≡◌, ℕ, ◌+◌, List, [], ◌∷◌, ◌++◌, map, length, Option, Some, None, refl, sym, ap, ◌∙◌, arith}
+use Rattle.std.proofs.Common.{◌≡◌, ℕ, ◌+◌, List, [], ◌∷◌, ◌++◌, map, Option, Some, None, refl, sym, ap, ◌∙◌, arith}
 use Rattle.std.specs.Prelude.{ℤ, ◌==◌}
 use Rattle.std.specs.List.{filter, filter_map, flat_map, cons_option}
 use Rattle.std.proofs.lemmas.List.{map-append}
 use Rattle.std.proofs.lemmas.List.Elements.{filter-append}
 use Rattle.flame_rows.specs.Bags.{ascending, merge, weigh}
-use Rattle.flame_rows.proofs.BagLaws.{weigh-append, weigh-ascending, merge_adds_weights}
+use Rattle.flame_rows.proofs.BagLaws.{weigh-append, weigh-ascending, merge_adds_weights, weigh-ones}
 use Rattle.flame_rows.proofs.Merging.{same_bag}
 use Rattle.flame_spec.specs.declared.outcomes.Outcome.{Outcome}
 use Rattle.flame_spec.specs.declared.outcomes.Sent.{Sent}
@@ -53,18 +53,14 @@ given-together gives ones twos all whole =
 
 -- ---- how many
 
-weigh-length : (rows : Rows) → weigh (λ row. 1) rows ≡ length rows
-weigh-length [] = refl
-weigh-length (row ∷ rows) = omega (arith, weigh-length rows)
-
 pub agents_add_up : AgentsAddUp
 agents_add_up ones twos all whole =
     omega (
       arith,
       together-weigh (λ row. 1) ones twos all whole,
-      weigh-length ones,
-      weigh-length twos,
-      weigh-length all,
+      weigh-ones ones,
+      weigh-ones twos,
+      weigh-ones all,
     )
 
 -- ---- what each agent gives

@@ -5,8 +5,8 @@ use Rattle.std.specs.List.{find, list_all, position, position_or_len}
 use Rattle.std.proofs.lemmas.Bool.{eq-eqb, ne_eqb, cases_eq, ltb-true, ltb-false}
 use Rattle.std.proofs.lemmas.List.{length-map}
 use Rattle.std.proofs.lemmas.List.Sums.{sum_by-cons}
-use Rattle.flame_rows.specs.Bags.{ascending, merge, weigh}
-use Rattle.flame_rows.proofs.BagLaws.{weigh-ascending}
+use Rattle.flame_rows.specs.Bags.{ascending, merge}
+use Rattle.flame_rows.proofs.BagLaws.{weigh-ascending, weigh-ones}
 use Rattle.flame_rows.proofs.Lists.{slice_index_or-map}
 use Rattle.flame_rows.proofs.Merging.{merge-ascending}
 use Rattle.flame_spec.specs.Below.{times, HasNoTwice}
@@ -213,10 +213,6 @@ part_kept output rows is = kept output.handed is
     kept false is = cc
 
 -- ---- as many as before
-
-weigh-ones : (rows : List (List ℤ)) → weigh (λ row. 1) rows ≡ length rows
-weigh-ones [] = refl
-weigh-ones (row ∷ rows) = omega (arith, weigh-ones rows)
 
 length-ascending : (rows : List (List ℤ)) → length (ascending rows) ≡ length rows
 length-ascending rows = sym (weigh-ones (ascending rows)) ∙ weigh-ascending (λ row. 1) rows ∙ weigh-ones rows

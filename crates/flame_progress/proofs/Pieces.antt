@@ -5,9 +5,9 @@ use Rattle.std.specs.Prelude.{ℤ, slice_set}
 use Rattle.std.specs.List.{All}
 use Rattle.flame_rows.specs.Order.{row_order}
 use Rattle.flame_rows.specs.Sorted.{IsAscending}
-use Rattle.flame_rows.specs.Bags.{ascending, weigh}
+use Rattle.flame_rows.specs.Bags.{ascending}
 use Rattle.flame_rows.specs.Cuts.{runs}
-use Rattle.flame_rows.proofs.BagLaws.{ascending-IsAscending, weigh-ascending}
+use Rattle.flame_rows.proofs.BagLaws.{ascending-IsAscending, weigh-ascending, weigh-ones}
 use Rattle.flame_rows.proofs.Subsequences.{IsAscending-front}
 use Rattle.flame_events.specs.CoreStates.{Work}
 use Rattle.flame_events.specs.EventSteps.{fresh_work}
@@ -153,10 +153,6 @@ all_alike f y (x ∷ xs) (z ∷ more) same all (suc k) d less =
     all_alike f y xs more rest (λ j e there. all (suc j) e (omega (arith, there))) k d (omega (arith, less))
 
 -- ---- a run stands in order
-
-weigh-ones : (rows : Rows) → weigh (λ row. 1) rows ≡ length rows
-weigh-ones [] = refl
-weigh-ones (row ∷ rows) = omega (arith, weigh-ones rows)
 
 pub length-ascending : (rows : Rows) → length (ascending rows) ≡ length rows
 length-ascending rows = sym (weigh-ones (ascending rows)) ∙ weigh-ascending (λ row. 1) rows ∙ weigh-ones rows
