@@ -4,17 +4,13 @@ use Rattle.std.specs.Prelude.{ℤ, Vec, slice_set, slice_index_or}
 use Rattle.std.specs.Global.{Global}
 use Rattle.std.proofs.lemmas.Bool.{or_cases, or_left, or_right}
 use Rattle.flame_rows.proofs.Lists.{slice_index_or-map}
-use Rattle.flame_rows.specs.Bags.{ascending}
-use Rattle.flame_rows.proofs.BagLaws.{weigh-ascending, weigh-ones}
+use Rattle.flame_rows.proofs.BagLaws.{length-ascending}
 use Rattle.flame_index.specs.FrozenBoards.{FrozenBoard, messages_on, Kept, is_kept, nothing_kept}
 use Rattle.flame_field.specs.declared.boards.Board.{Board}
 use Rattle.flame_field.specs.declared.boards.Board.TheVariants as board
 use Rattle.flame_field.specs.declared.keeping.Want.{Want}
 use Rattle.flame_field.specs.KeptBoards.{board_bag, board_keeps}
 use Rattle.flame_field.specs.KeptOrders.{is_wanted, wants_at, KeepsWanted, KeepWanted}
-
-length-ascending : (rows : List (List ℤ)) → length (ascending rows) ≡ length rows
-length-ascending rows = sym (weigh-ones (ascending rows)) ∙ weigh-ascending (λ row. 1) rows ∙ weigh-ones rows
 
 -- what is kept beside a board that is frozen
 pub board-keeps : (wants : List Want) (b : Board) (old : FrozenBoard) (new mid : Kept) → b ≡ board.Frozen old → new ≡ mid

@@ -6,7 +6,7 @@ use Rattle.std.proofs.lemmas.Bool.{eq-eqb, ne_eqb, cases_eq, ltb-true, ltb-false
 use Rattle.std.proofs.lemmas.List.{length-map}
 use Rattle.std.proofs.lemmas.List.Sums.{sum_by-cons}
 use Rattle.flame_rows.specs.Bags.{ascending, merge}
-use Rattle.flame_rows.proofs.BagLaws.{weigh-ascending, weigh-ones}
+use Rattle.flame_rows.proofs.BagLaws.{length-ascending}
 use Rattle.flame_rows.proofs.Lists.{slice_index_or-map}
 use Rattle.flame_rows.proofs.Merging.{merge-ascending}
 use Rattle.flame_spec.specs.Below.{times, HasNoTwice}
@@ -213,9 +213,6 @@ part_kept output rows is = kept output.handed is
     kept false is = cc
 
 -- ---- as many as before
-
-length-ascending : (rows : List (List ℤ)) → length (ascending rows) ≡ length rows
-length-ascending rows = sym (weigh-ones (ascending rows)) ∙ weigh-ascending (λ row. 1) rows ∙ weigh-ones rows
 
 pub same_count : (rows more : List (List ℤ)) → ascending rows ≡ ascending more → length rows ≡ length more
 same_count rows more same = sym (length-ascending rows) ∙ ap (length {A = List ℤ}) same ∙ length-ascending more

@@ -7,7 +7,7 @@ use Rattle.flame_rows.specs.Order.{row_order}
 use Rattle.flame_rows.specs.Sorted.{IsAscending}
 use Rattle.flame_rows.specs.Bags.{ascending}
 use Rattle.flame_rows.specs.Cuts.{runs}
-use Rattle.flame_rows.proofs.BagLaws.{ascending-IsAscending, weigh-ascending, weigh-ones}
+use Rattle.flame_rows.proofs.BagLaws.{ascending-IsAscending}
 use Rattle.flame_rows.proofs.Subsequences.{IsAscending-front}
 use Rattle.flame_events.specs.CoreStates.{Work}
 use Rattle.flame_events.specs.EventSteps.{fresh_work}
@@ -153,9 +153,6 @@ all_alike f y (x ∷ xs) (z ∷ more) same all (suc k) d less =
     all_alike f y xs more rest (λ j e there. all (suc j) e (omega (arith, there))) k d (omega (arith, less))
 
 -- ---- a run stands in order
-
-pub length-ascending : (rows : Rows) → length (ascending rows) ≡ length rows
-length-ascending rows = sym (weigh-ones (ascending rows)) ∙ weigh-ascending (λ row. 1) rows ∙ weigh-ones rows
 
 front_and_rest : (n : ℕ) (rows : Rows) → take n rows ++ drop n rows ≡ rows
 front_and_rest zero rows = refl

@@ -9,11 +9,12 @@ use Rattle.flame_rows.specs.Sorted.{IsAscending}
 use Rattle.flame_rows.specs.Bags.{ascending}
 use Rattle.flame_rows.specs.Cuts.{piece_size, runs}
 use Rattle.flame_rows.proofs.Subsequences.{IsAscending-drop}
+use Rattle.flame_rows.proofs.BagLaws.{length-ascending}
 use Rattle.flame_field.proofs.Written.{map-kept}
 use Rattle.flame_events.specs.EventSteps.{fresh_work}
 use Rattle.flame_pieces.specs.declared.works.Work as run
 use Rattle.flame_pieces.specs.KeptWorks.{work_of, outputs_in}
-use Rattle.flame_progress.proofs.Pieces.{given, giving, giving_more, given_all, given_runs, all_alike, length-ascending, run_in_order}
+use Rattle.flame_progress.proofs.Pieces.{given, giving, giving_more, given_all, given_runs, all_alike, run_in_order}
 use Rattle.flame_progress.proofs.rooms.PieceRooms.fill.Goals as goal
 use Rattle.flame_progress.proofs.rooms.PieceRooms.fill.Goals.{in-Some, in_default}
 
