@@ -1,25 +1,8 @@
 -- Columns, variable by variable.
-use Rattle.std.proofs.Common.{◌≡◌, ℕ, ◌+◌, ◌<◌, List, [], ◌∷◌, ◌++◌, length, take, drop, get_or, sym, ap, ◌∙◌, Bool, cond, Option, Some, arith}
-use Rattle.std.proofs.lemmas.List.{at_drop_more, take_more}
+use Rattle.std.proofs.Common.{◌≡◌, ℕ, ◌+◌, ◌<◌, List, ◌∷◌, length, drop, get_or, sym, ap, ◌∙◌, Bool, cond, Option, Some}
+use Rattle.std.proofs.lemmas.List.{at_drop_more}
 use Rattle.flame_spec.specs.declared.models.Variable.{Variable}
-use Rattle.flame_spec.specs.Columns.{width_of, width, columned_from}
-
--- the widths of two lists
-width-append : (xs ys : List Variable) → width (xs ++ ys) ≡ width xs + width ys
-width-append [] ys = omega arith
-width-append (x ∷ xs) ys = let e = width-append xs ys in omega (arith, e)
-
--- the width of one variable more
-pub width_more :
-    (variables : List Variable) (i : ℕ) (variable : Variable)
-    → i < length variables
-    → variable ≡ get_or variables i variable
-    → width (take (i + 1) variables) ≡ width (take i variables) + width_of variable
-width_more variables i variable h is =
-    ap width (take_more variables i variable h)
-    ∙ width-append (take i variables) (get_or variables i variable ∷ [])
-    ∙ ap (λ v. width (take i variables) + (width_of v + 0)) (sym is)
-    ∙ (omega arith)
+use Rattle.flame_spec.specs.Columns.{width_of, columned_from}
 
 -- one variable more in front
 pub columned_before :

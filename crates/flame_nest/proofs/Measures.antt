@@ -12,10 +12,6 @@ pub width-inside : (name : List ℕ) (fields : List Variable) → width (map (fl
 width-inside name [] = refl
 width-inside name (field ∷ fields) = ap (λ w. width_of field + w) (width-inside name fields)
 
-pub width-append : (xs ys : List Variable) → width (xs ++ ys) ≡ width xs + width ys
-width-append [] ys = omega arith
-width-append (x ∷ xs) ys = let e = width-append xs ys in omega arith
-
 -- a field that reaches so far is too long in a variable of so many bytes
 abbrev pub is_far : ℕ → ℕ → Bool
 is_far bytes most = nat_lt 0 most && nat_lt 100 (bytes + most)

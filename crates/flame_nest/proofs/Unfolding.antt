@@ -14,11 +14,12 @@ use Rattle.flame_spec.specs.declared.wide.WideVariable.{WideVariable}
 use Rattle.flame_spec.specs.declared.wide.DataType.{DataType}
 use Rattle.flame_spec.specs.Columns.{width}
 use Rattle.flame_spec.specs.KnownNames.{is_among}
+use Rattle.flame_spec.proofs.VariableWidths.{width-append}
 use Rattle.flame_nest.specs.FlatModels.{inside, replaced, spread, single, flat_variables}
 use Rattle.flame_nest.specs.NestFaults.{type_names, is_wide}
 use Rattle.flame_nest.specs.KindTables.{FieldTable, flat_inside, unfolded, expanded, with_type, table_of, are_new, IsKinds}
 use Rattle.flame_name_sets.specs.NameTables.{look, names_of}
-use Rattle.flame_nest.proofs.Measures.{width-append, capped-more}
+use Rattle.flame_nest.proofs.Measures.{capped-more}
 use Rattle.flame_name_sets.proofs.Tables.{is_some-look, look-none, look-push, names_of-push}
 
 names_inside : (v f g : List ℕ) → (v ++ (codes "_" ++ f)) ++ (codes "_" ++ g) ≡ v ++ (codes "_" ++ (f ++ (codes "_" ++ g)))

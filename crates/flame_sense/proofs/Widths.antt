@@ -1,27 +1,13 @@
 -- Columns, variable by variable.
-use Rattle.std.proofs.Common.{◌≡◌, ℕ, ◌+◌, ◌<◌, ◌≤◌, List, [], ◌∷◌, ◌++◌, length, take, drop, get_or, sym, ap, ◌∙◌, Bool, true, false, cond, Some, arith}
-use Rattle.std.proofs.lemmas.List.{at_drop_more, at_drop_all, take_more}
+use Rattle.std.proofs.Common.{◌≡◌, ℕ, ◌+◌, ◌<◌, ◌≤◌, List, ◌∷◌, length, take, drop, get_or, sym, ap, ◌∙◌, Bool, true, false, cond, Some, arith}
+use Rattle.std.proofs.lemmas.List.{at_drop_more, at_drop_all}
 use Rattle.std.specs.Str.{bytes_eq}
 use Rattle.flame_spec.specs.declared.models.Variable.{Variable}
 use Rattle.flame_spec.specs.Columns.{width_of, width, column, columned_from}
+use Rattle.flame_spec.proofs.VariableWidths.{width_more}
 use Rattle.flame_sense.specs.StandsFor.{within_reach}
 
 -- the variables that stand before
-pub width-append : (xs ys : List Variable) → width (xs ++ ys) ≡ width xs + width ys
-width-append [] ys = omega arith
-width-append (x ∷ xs) ys = let e = width-append xs ys in omega (arith, e)
-
-pub width_more :
-    (variables : List Variable) (i : ℕ) (variable : Variable)
-    → i < length variables
-    → variable ≡ get_or variables i variable
-    → width (take (i + 1) variables) ≡ width (take i variables) + width_of variable
-width_more variables i variable h is =
-    ap width (take_more variables i variable h)
-    ∙ width-append (take i variables) (get_or variables i variable ∷ [])
-    ∙ ap (λ v. width (take i variables) + (width_of v + 0)) (sym is)
-    ∙ (omega arith)
-
 pub next_found :
     (passes : Variable → Bool) (variables : List Variable) (i : ℕ) (variable : Variable)
     → i < length variables

@@ -10,3 +10,4 @@ pub mod Counts
 pub mod FaultTests
 pub mod Numbered
 pub mod OpenLoops
+pub mod VariableWidths

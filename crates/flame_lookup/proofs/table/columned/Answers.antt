@@ -2,10 +2,11 @@ use Rattle.std.proofs.Common.{◌≡◌, ◌<◌, ◌+◌, ◌-◌, ◌∙◌, �
 use Rattle.std.specs.HashMap.{get_by_text}
 use Rattle.std.specs.Str.{bytes_eq}
 use Rattle.flame_spec.specs.Columns.{width, width_of, columned_from}
+use Rattle.flame_spec.proofs.VariableWidths.{width_more}
 use Rattle.flame_lookup.specs.WordsFound.{item_found}
 use Rattle.flame_lookup.specs.WrittenForms.{written}
 use Rattle.flame_lookup.proofs.Backwards.{choice_mapped}
-use Rattle.flame_lookup.proofs.Columns.{width_more, columned_before}
+use Rattle.flame_lookup.proofs.Columns.{columned_before}
 use Rattle.flame_lookup.proofs.table.columned.Goals as goal
 
 -- the widths of those before are that of the last of them and of the others

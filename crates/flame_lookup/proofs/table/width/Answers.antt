@@ -1,5 +1,5 @@
 use Rattle.std.proofs.Common.{arith}
-use Rattle.flame_lookup.proofs.Columns.{width_more}
+use Rattle.flame_spec.proofs.VariableWidths.{width_more}
 use Rattle.flame_lookup.proofs.table.width.Goals as goal
 
 pub loop-variable-preserved : goal.loop-variable-preserved

@@ -1,6 +1,7 @@
 use Rattle.std.proofs.Common.{◌∙◌, ap, sym, arith}
+use Rattle.flame_spec.proofs.VariableWidths.{width_more}
 use Rattle.flame_sense.specs.StandsFor.{is_written}
-use Rattle.flame_sense.proofs.Widths.{width_more, next_found}
+use Rattle.flame_sense.proofs.Widths.{next_found}
 use Rattle.flame_sense.proofs.words.span_where.Goals as goal
 
 pub loop-variable-preserved : goal.loop-variable-preserved
