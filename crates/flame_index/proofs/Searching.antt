@@ -1,7 +1,7 @@
 -- Searches in the values of an index: what they pass, and how many probes they take.
-use Rattle.std.proofs.Common.{◌≡◌, ℕ, zero, suc, ◌+◌, ◌-◌, ◌/◌, ◌^◌, ◌<◌, ◌≤◌, ◌↔◌, Bool, true, false, List, length, get_or, Some, refl, sym, ap, ◌∙◌, subst, arith, true≢false, Ordering, Less, Equal, Greater, ⊎_elim, IsTrue, filter, slice_get, slice_range, option_map}
+use Rattle.std.proofs.Common.{◌≡◌, ℕ, zero, suc, ◌+◌, ◌-◌, ◌/◌, ◌^◌, ◌<◌, ◌≤◌, ◌↔◌, Bool, true, false, List, length, get_or, Some, refl, sym, ap, ◌∙◌, subst, arith, true≢false, ⊎_elim, IsTrue, filter, slice_get, slice_range, option_map}
 use Rattle.std.specs.Prelude.{ℤ, pos, int_le, int_lt}
-use Rattle.std.specs.Ordering.{is_gt, int_cmp, nat_cmp, ordering_then}
+use Rattle.std.specs.Ordering.{is_gt, int_cmp, nat_cmp}
 use Rattle.std.specs.Cmp.{signed_Decides}
 use Rattle.std.proofs.Math.Nat.{pow-succ'}
 use Rattle.std.proofs.lemmas.Bool.{cases_lt}
@@ -9,6 +9,7 @@ use Rattle.std.proofs.lemmas.Int.{ints}
 use Rattle.std.proofs.lemmas.Option.{slice_get-map, slice_get-get_or}
 use Rattle.flame_rows.specs.Sorted.{IsAscending}
 use Rattle.flame_rows.proofs.Sorting.{IsAscending-sorted_by}
+use Rattle.flame_spec.proofs.Viewed.{first_not_gt}
 use Rattle.flame_cond.specs.Equalities.{has_value}
 use Rattle.flame_index.specs.Indexes.{Entry, IndexTable, entries_from, entry_order, IsIndexOf, values_of, places_of, rows_at}
 use Rattle.flame_index.specs.IndexBodies.{is_passed}
@@ -17,11 +18,6 @@ use Rattle.flame_index.proofs.Entered.{entry_total}
 use Rattle.flame_index.proofs.Ranged.{is_at, rows_in_range}
 
 -- ---- the values ascend
-
-first_not_gt : (o p : Ordering) → is_gt (ordering_then o p) ≡ false → is_gt o ≡ false
-first_not_gt Less p h = refl
-first_not_gt Equal p h = refl
-first_not_gt Greater p h = h
 
 pub values_ascend : (index : IndexTable) (rows : List (List ℤ)) → IsIndexOf index rows → index.key.descending ≡ false → IsAscending int_cmp (values_of index)
 values_ascend index rows stands forward =

@@ -121,7 +121,8 @@ module _ (order other : List ℤ → List ℤ → Ordering) (keeps : (x y : List
   IsAscending-by [] up = tt
   IsAscending-by (x ∷ xs) up = (IsBelowAll-by x xs up.0, IsAscending-by xs up.1)
 
-first_not_gt : (o p : Ordering) → is_gt (ordering_then o p) ≡ false → is_gt o ≡ false
+-- what does not come after by two orders does not by the first
+pub first_not_gt : (o p : Ordering) → is_gt (ordering_then o p) ≡ false → is_gt o ≡ false
 first_not_gt Less p h = refl
 first_not_gt Equal p h = refl
 first_not_gt Greater p h = h

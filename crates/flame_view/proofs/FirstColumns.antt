@@ -13,7 +13,7 @@ use Rattle.flame_rows.specs.Sorted.{IsBelowAll, IsAscending, sorted_by}
 use Rattle.flame_rows.proofs.Sorting.{sorted_by-IsAscending}
 use Rattle.flame_spec.specs.Conditions.{number_at}
 use Rattle.flame_spec.specs.Views.{Key, column_order, view_order}
-use Rattle.flame_spec.proofs.Viewed.{column_total, view_total, view_tied}
+use Rattle.flame_spec.proofs.Viewed.{column_total, view_total, view_tied, first_not_gt}
 use Rattle.flame_view.specs.ViewWays.{first_has_number, goes_by_first}
 use Rattle.flame_index.proofs.SortedParts.{IsAscending-filter}
 use Rattle.flame_view.proofs.Filtered.{filter-filter}
@@ -41,11 +41,6 @@ module _ {X : Type 0} (order other : X → X → Ordering) where
 -- a row that stands behind one with a number has one, which is not less
 abbrev IsBehind : List ℤ → List ℤ → Type 0
 IsBehind row other = (first_has_number (other ∷ []) ≡ true) × (is_gt (column_order 0 row other) ≡ false)
-
-first_not_gt : (o p : Ordering) → is_gt (ordering_then o p) ≡ false → is_gt o ≡ false
-first_not_gt Less p h = refl
-first_not_gt Equal p h = refl
-first_not_gt Greater p h = h
 
 goes_on : (row other : List ℤ) → first_has_number (row ∷ []) ≡ true → is_gt (row_order row other) ≡ false → IsBehind row other
 goes_on [] other filled up = absurd (true≢false (sym filled))
