@@ -12,10 +12,10 @@ use Rattle.flame_spec.specs.declared.models.Model.{Model}
 use Rattle.flame_spec.specs.Accepted.{IsAccepted}
 use Rattle.flame_spec.specs.Functions.{Place, functions}
 use Rattle.flame_world.specs.declared.turns.Turn.{Turn}
-use Rattle.flame_spec.specs.Lists.{first}
 use Rattle.flame_spec.specs.declared.outcomes.Sent.{Sent}
 use Rattle.flame_world.specs.AgentRuns.{born_by, births_of, fault_by, kept, messages_of, sent_by}
 use Rattle.flame_spec.specs.States.{state_place}
+use Rattle.flame_spec.proofs.Numbered.{first-cons_option_nil}
 use Rattle.flame_world.specs.Fields.{changed_pool, joined}
 use Rattle.flame_world.specs.Iterations.{Round, iteration, outcome_in, staying, taking}
 use Rattle.flame_meaning.specs.Outcomes.{outputs_at}
@@ -116,10 +116,6 @@ open_is round pieces f place core works agents pools at works_are takers_are poo
 
 -- ---- an agent runs
 
-first-one : {X : Type 0} (o : Option X) → first (cons_option o []) ≡ o
-first-one None = refl
-first-one (Some x) = refl
-
 -- lists of messages that join parts join them as what was sent does
 pub parts_sent : (outputs : List ℕ) (sent : List Sent) (own : ℕ → List (List ℤ)) (parts : List (Option (List (List ℤ))))
     → ((m : ℕ) (rows : List (List ℤ)) → merge rows (own m) ≡ merge rows (messages_of sent m))
@@ -177,7 +173,7 @@ agent_is round pieces f k place core work memory leaving left agent to at there 
     ∙ ap (λ sent. with_sent outputs sent work.parts) (came_of.sent ∙ append-nil (sent_by outcome)) in
     let ran_is : left.ran ≡ 1 = parted.ran_is ∙ came_of.ran in
     let fault_is : left.fault ≡ fault_by round.iteration f memory outcome =
-    parted.fault_is ∙ came_of.fault ∙ first-one (fault_by round.iteration f memory outcome) in
+    parted.fault_is ∙ came_of.fault ∙ first-cons_option_nil (fault_by round.iteration f memory outcome) in
     let ran : added left work ≡ with_agent round f work memory outcome =
     λ i. record {
       agents = work.agents;

@@ -12,6 +12,7 @@ use Rattle.flame_rows.proofs.BagLaws.{rows_total, IsAscending-ascending}
 use Rattle.flame_spec.specs.declared.outcomes.Outcome.{Outcome}
 use Rattle.flame_spec.specs.declared.outcomes.Outcome.TheVariants.{Ended, Faulted}
 use Rattle.flame_spec.specs.Lists.{first}
+use Rattle.flame_spec.proofs.Numbered.{first-cons_option_nil}
 use Rattle.flame_world.specs.declared.faults.SimFault.{SimFault}
 use Rattle.flame_world.specs.AgentRuns.{fault_by, least_fault}
 use Rattle.flame_leaving.specs.WholeLaws.{lesser, least_of, FaultIsTheLeast}
@@ -175,17 +176,13 @@ fault_is_the_least iteration function run ones twos all whole =
 
 -- ---- one agent more
 
-first-one : {X : Type 0} (o : Option X) → first (cons_option o []) ≡ o
-first-one None = refl
-first-one (Some x) = refl
-
 pub least_fault-next : (iteration : ℤ) (function : ℕ) (run : List ℤ → Outcome) (agents : Rows) (memory : List ℤ)
     → least_fault iteration function run (ascending (agents ++ memory ∷ []))
     ≡ least_of (least_fault iteration function run (ascending agents)) (fault_by iteration function memory (run memory))
 least_fault-next iteration function run agents memory =
     fault_is_the_least iteration function run agents (memory ∷ []) (agents ++ memory ∷ []) refl
     ∙ ap (least_of (least_fault iteration function run (ascending agents)))
-    (first-one (fault_by iteration function memory (run memory)))
+    (first-cons_option_nil (fault_by iteration function memory (run memory)))
 
 pub least_of-none : (one : Option SimFault) → least_of one None ≡ one
 least_of-none None = refl
