@@ -1,11 +1,10 @@
 -- What functions of a layer leave that is brought where it belongs, one after another.
-use Rattle.std.proofs.Common.{◌≡◌, ℕ, ◌+◌, ◌<◌, ◌⊎◌, inl, inr, List, [], ◌∷◌, length, refl, sym, ap, ◌∙◌, arith, subst}
+use Rattle.std.proofs.Common.{◌≡◌, ℕ, ◌<◌, ◌⊎◌, inl, inr, List, [], ◌∷◌, length, refl, sym, ap, ◌∙◌, arith, subst}
 use Rattle.std.specs.Prelude.{ℤ, Option, Some, None, option_map, slice_get, slice_index_or}
 use Rattle.std.specs.List.{All}
 use Rattle.std.specs.Option.{option_or}
 use Rattle.std.proofs.lemmas.List.Elements.{All-head, All-tail}
 use Rattle.flame_rows.specs.Bags.{ascending, merge}
-use Rattle.flame_rows.proofs.Merging.{merge-ascending}
 use Rattle.flame_spec.specs.declared.models.AgentType.{AgentType}
 use Rattle.flame_spec.specs.declared.models.Model.{Model}
 use Rattle.flame_spec.specs.declared.outcomes.Outcome.{Outcome}
@@ -13,11 +12,12 @@ use Rattle.flame_spec.specs.Functions.{Place, functions}
 use Rattle.flame_spec.specs.States.{state_place, states}
 use Rattle.flame_world.specs.declared.faults.SimFault.{SimFault}
 use Rattle.flame_world.specs.AgentRuns.{births_of, born_from, survivors}
-use Rattle.flame_world.specs.Fields.{Field, HasPools, changed, changed_pool, joined, joined_from}
+use Rattle.flame_world.specs.Fields.{Field, HasPools, changed, changed_pool, joined}
 use Rattle.flame_world.specs.Iterations.{Round, outcome_in}
 use Rattle.flame_world.proofs.Counting.{length-changed}
 use Rattle.flame_world.proofs.Eachs.{zip_at, zip_changed}
 use Rattle.flame_world.proofs.RowsKept.{place_type}
+use Rattle.flame_world.proofs.JoinedBags.{joined_from-same}
 use Rattle.flame_route.specs.declared.routes.Route.{Route}
 use Rattle.flame_round.specs.KeptRounds.{GoesBy}
 use Rattle.flame_round.proofs.StatePlaces.{to_place}
@@ -28,16 +28,6 @@ use Rattle.flame_lanes.specs.LayerGains.{AreGains, IsGain}
 
 abbrev Rows : Type 0
 Rows = List (List ℤ)
-
--- ---- bags join by what they are
-
-joined_from-same : (rows more : ℕ → Rows) → ((n : ℕ) → ascending (rows n) ≡ ascending (more n)) → (i : ℕ) (bags : List Rows)
-    → joined_from i rows bags ≡ joined_from i more bags
-joined_from-same rows more same i [] = refl
-joined_from-same rows more same i (bag ∷ bags) =
-    let here : merge bag (rows i) ≡ merge bag (more i) =
-    sym (merge-ascending bag (rows i)) ∙ ap (merge bag) (same i) ∙ merge-ascending bag (more i) in
-    λ j. here j ∷ joined_from-same rows more same (i + 1) bags j
 
 -- ---- pools
 

@@ -1,5 +1,5 @@
 -- What a function comes to whose takers left this.
-use Rattle.std.proofs.Common.{◌≡◌, ℕ, ◌+◌, ◌<◌, ◌≤◌, Bool, true, false, cond, List, [], ◌∷◌, map, length, Option, Some, None, refl, sym, ap, ◌∙◌, arith, subst}
+use Rattle.std.proofs.Common.{◌≡◌, ℕ, ◌<◌, ◌≤◌, Bool, true, false, cond, List, [], ◌∷◌, map, length, Option, Some, None, refl, sym, ap, ◌∙◌, arith, subst}
 use Rattle.std.specs.Prelude.{ℤ, ◌==◌, is_some, nat_lt, slice_get, Result}
 use Rattle.std.specs.List.{All, filter}
 use Rattle.std.proofs.lemmas.Bool.{eq-eqb}
@@ -7,7 +7,6 @@ use Rattle.std.proofs.lemmas.Bool.Decides.{nat_tests}
 use Rattle.std.proofs.lemmas.List.Elements.{All-cons, All-head, All-nil, All-tail}
 use Rattle.flame_rows.specs.Bags.{ascending, merge, weigh}
 use Rattle.flame_rows.proofs.BagLaws.{IsAscending-ascending}
-use Rattle.flame_rows.proofs.Merging.{merge-ascending}
 use Rattle.flame_spec.specs.Below.{is_in}
 use Rattle.flame_spec.specs.Functions.{Place, functions}
 use Rattle.flame_spec.specs.States.{state_place}
@@ -15,8 +14,9 @@ use Rattle.flame_spec.specs.declared.outcomes.Outcome.{Outcome}
 use Rattle.flame_spec.specs.declared.outcomes.Sent.{Sent}
 use Rattle.flame_world.specs.declared.faults.SimFault.{SimFault}
 use Rattle.flame_world.specs.AgentRuns.{born_from, births_of, least_fault, messages_of, sent_from, survivors}
-use Rattle.flame_world.specs.Fields.{Field, changed_pool, joined, joined_from}
+use Rattle.flame_world.specs.Fields.{Field, changed_pool, joined}
 use Rattle.flame_world.specs.Iterations.{Round, and_on, moved, outcome_in, staying, step, step_at, taking, unless_faulted}
+use Rattle.flame_world.proofs.JoinedBags.{joined_from-same}
 use Rattle.flame_field.specs.declared.boards.Board.{Board}
 use Rattle.flame_field.specs.declared.boards.Board.TheVariants as board
 use Rattle.flame_field.specs.KeptBoards.{board_bag}
@@ -28,16 +28,6 @@ use Rattle.flame_nodes.specs.declared.lefts.Left.{Left}
 use Rattle.flame_nodes.specs.NodeLeavings.{AreLeftBy, sent_among}
 use Rattle.flame_nodes.proofs.LeftShares.{bag-weigh}
 use Rattle.flame_nodes.proofs.Totals.{Rows}
-
--- ---- bags join by what they are
-
-joined_from-same : (rows more : ℕ → Rows) → ((n : ℕ) → ascending (rows n) ≡ ascending (more n)) → (i : ℕ) (bags : List Rows)
-    → joined_from i rows bags ≡ joined_from i more bags
-joined_from-same rows more same i [] = refl
-joined_from-same rows more same i (bag ∷ bags) =
-    let here : merge bag (rows i) ≡ merge bag (more i) =
-    sym (merge-ascending bag (rows i)) ∙ ap (merge bag) (same i) ∙ merge-ascending bag (more i) in
-    λ j. here j ∷ joined_from-same rows more same (i + 1) bags j
 
 -- ---- messages of the model's types
 

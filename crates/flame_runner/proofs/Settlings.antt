@@ -1,15 +1,14 @@
 -- What a function comes to whose takers run in any order.
-use Rattle.std.proofs.Common.{◌≡◌, ℕ, ◌+◌, List, [], ◌∷◌, Some, refl, sym, ap, ◌∙◌}
+use Rattle.std.proofs.Common.{◌≡◌, ℕ, List, [], Some, sym, ap, ◌∙◌}
 use Rattle.std.specs.Prelude.{ℤ, IfOk, Result, Ok, Err, slice_get}
 use Rattle.flame_rows.specs.Bags.{ascending, merge}
-use Rattle.flame_rows.proofs.Merging.{merge-ascending}
 use Rattle.flame_field.proofs.Gathered.{merge-none}
 use Rattle.flame_spec.specs.Functions.{Place, functions}
 use Rattle.flame_spec.specs.States.{state_place}
 use Rattle.flame_spec.specs.declared.outcomes.Outcome.{Outcome}
 use Rattle.std.specs.List.{filter_map}
 use Rattle.flame_world.specs.AgentRuns.{born_from, births_of, kept, least_fault, messages_of, sent_from, survivors}
-use Rattle.flame_world.specs.Fields.{Field, changed_pool, joined, joined_from}
+use Rattle.flame_world.specs.Fields.{Field, changed_pool, joined}
 use Rattle.flame_world.specs.Iterations.{Round, moved, outcome_in, staying, step, step_at, taking, unless_faulted}
 use Rattle.flame_leaving.specs.declared.leavings.Leaving.{Leaving}
 use Rattle.flame_leaving.specs.Leavings.{AreLeft}
@@ -18,6 +17,7 @@ use Rattle.flame_route.specs.declared.routes.Route.{Route}
 use Rattle.flame_runner.specs.declared.steps.Stepped.{Stepped}
 use Rattle.flame_runner.specs.KeptSteps.{result_of}
 use Rattle.flame_world.specs.declared.faults.SimFault.{SimFault}
+use Rattle.flame_world.proofs.JoinedBags.{joined_from-same}
 
 abbrev Rows : Type 0
 Rows = List (List ℤ)
@@ -46,14 +46,6 @@ module _ (run : List ℤ → Outcome) (rows : Rows) where
       ∙ merge-none (births_of (born_from run (ascending rows)) agent)
 
 -- bags join by what they are
-joined_from-same : (rows more : ℕ → Rows) → ((n : ℕ) → ascending (rows n) ≡ ascending (more n)) → (i : ℕ) (bags : List Rows)
-    → joined_from i rows bags ≡ joined_from i more bags
-joined_from-same rows more same i [] = refl
-joined_from-same rows more same i (bag ∷ bags) =
-    let here : merge bag (rows i) ≡ merge bag (more i) =
-    sym (merge-ascending bag (rows i)) ∙ ap (merge bag) (same i) ∙ merge-ascending bag (more i) in
-    λ j. here j ∷ joined_from-same rows more same (i + 1) bags j
-
 joined-same : (rows more : ℕ → Rows) → ((n : ℕ) → ascending (rows n) ≡ ascending (more n)) → (bags : List Rows)
     → joined rows bags ≡ joined more bags
 joined-same rows more same bags = joined_from-same rows more same 0 bags

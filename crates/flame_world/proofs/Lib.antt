@@ -10,3 +10,4 @@ pub mod NextStates
 pub mod Counting
 pub mod Tallies
 pub mod NamedBoards
+pub mod JoinedBags
