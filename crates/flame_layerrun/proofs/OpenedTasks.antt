@@ -1,15 +1,12 @@
 -- Tasks of a layer whose functions begin one after another.
-use Rattle.std.proofs.Common.{◌≡◌, ℕ, zero, suc, ◌+◌, ◌≤◌, true, false, cond, List, [], ◌∷◌, ◌++◌, length, map, Some, refl, sym, ap, ◌∙◌, subst}
+use Rattle.std.proofs.Common.{◌≡◌, ℕ, zero, suc, ◌+◌, ◌≤◌, cond, List, [], ◌∷◌, ◌++◌, length, map, Some, refl, sym, ap, ◌∙◌, subst}
 use Rattle.std.specs.Prelude.{ℤ, ◌==◌, slice_get}
 use Rattle.std.specs.List.{All, flat_map}
-use Rattle.std.specs.Ordering.{is_gt}
-use Rattle.std.specs.declared.cmp.Ordering.{Ordering}
 use Rattle.std.proofs.lemmas.Bool.{eq-eqb, ne_eqb}
 use Rattle.std.proofs.lemmas.Grind.{flat_map-append}
 use Rattle.std.proofs.lemmas.List.Elements.{All-cons, All-nil, All-weaker}
 use Rattle.flame_rows.specs.Cuts.{cut}
 use Rattle.flame_rows.specs.Order.{row_order}
-use Rattle.flame_rows.specs.Sorted.{sorted_by, with_one}
 use Rattle.flame_spec.specs.Columns.{width}
 use Rattle.flame_spec.specs.Lists.{each_from}
 use Rattle.flame_meaning.specs.RangeLaws.{Each}
@@ -25,21 +22,6 @@ use Rattle.flame_layerrun.specs.declared.openings.Reading.{Reading}
 use Rattle.flame_layerrun.specs.LayerTasks.{FitsTask}
 
 -- ---- agents in any order
-
--- what holds of each element of a list in order holds of each element of the list
-each-with_one : {X : Type 0} (P : X → Type 0) (order : X → X → Ordering) (x : X) (xs : List X) → Each P (with_one order x xs) → P x × Each P xs
-each-with_one P order x [] all = (all.0, tt)
-each-with_one P order x (y ∷ ys) all =
-    (elim (is_gt (order x y)) as (λ t. Each P (cond t (y ∷ with_one order x ys) (x ∷ y ∷ ys)) → P x × (P y × Each P ys)) [
-      | true ↦ λ these. let later = each-with_one P order x ys these.1 in (later.0, (these.0, later.1))
-      | false ↦ λ these. (these.0, (these.1.0, these.1.1))
-    ])
-    all
-
-pub each-sorted : {X : Type 0} (P : X → Type 0) (order : X → X → Ordering) (xs : List X) → Each P (sorted_by order xs) → Each P xs
-each-sorted P order [] all = tt
-each-sorted P order (x ∷ xs) all =
-    let both = each-with_one P order x (sorted_by order xs) all in (both.0, each-sorted P order xs both.1)
 
 each-front : {X : Type 0} (P : X → Type 0) (xs ys : List X) → Each P (xs ++ ys) → Each P xs × Each P ys
 each-front P [] ys all = (tt, all)

@@ -45,3 +45,18 @@ each_with_one P order x (y ∷ ys) here all =
 pub each_sorted : {X : Type 0} (P : X → Type 0) (order : X → X → Ordering) (xs : List X) → Each P xs → Each P (sorted_by order xs)
 each_sorted P order [] all = tt
 each_sorted P order (x ∷ xs) all = each_with_one P order x (sorted_by order xs) all.0 (each_sorted P order xs all.1)
+
+-- what holds of each element of a list in order holds of each element of the list
+each_with_one-back : {X : Type 0} (P : X → Type 0) (order : X → X → Ordering) (x : X) (xs : List X) → Each P (with_one order x xs) → P x × Each P xs
+each_with_one-back P order x [] all = (all.0, tt)
+each_with_one-back P order x (y ∷ ys) all =
+    (elim (is_gt (order x y)) as (λ t. Each P (cond t (y ∷ with_one order x ys) (x ∷ y ∷ ys)) → P x × (P y × Each P ys)) [
+      | true ↦ λ these. let later = each_with_one-back P order x ys these.1 in (later.0, (these.0, later.1))
+      | false ↦ λ these. (these.0, (these.1.0, these.1.1))
+    ])
+    all
+
+pub each_sorted-back : {X : Type 0} (P : X → Type 0) (order : X → X → Ordering) (xs : List X) → Each P (sorted_by order xs) → Each P xs
+each_sorted-back P order [] all = tt
+each_sorted-back P order (x ∷ xs) all =
+    let both = each_with_one-back P order x (sorted_by order xs) all in (both.0, each_sorted-back P order xs both.1)

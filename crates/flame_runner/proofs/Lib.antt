@@ -1,2 +1,1 @@
 mod Settlings
-mod Takings

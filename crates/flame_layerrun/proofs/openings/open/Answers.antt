@@ -6,6 +6,7 @@ use Rattle.flame_rows.specs.Order.{row_order}
 use Rattle.flame_spec.specs.Columns.{width}
 use Rattle.flame_spec.specs.Functions.{Place}
 use Rattle.flame_spec.specs.States.{state_place}
+use Rattle.flame_meaning.proofs.Eachs.{each_sorted-back}
 use Rattle.flame_index.specs.FrozenBoards.{shared_messages}
 use Rattle.flame_world.specs.AgentRuns.{births_of}
 use Rattle.flame_world.specs.Fields.{Field as Standing, changed_pool, joined}
@@ -20,7 +21,6 @@ use Rattle.flame_round.specs.KeptRounds.{HasRoute, round_of}
 use Rattle.flame_round.proofs.NamedNumbers.{numbers-within}
 use Rattle.flame_round.proofs.Stepped.{frozen-named, frozen-wide, has-route, takers-wide}
 use Rattle.flame_layers.specs.LayerFields.{left_at, takers_at}
-use Rattle.flame_layerrun.proofs.OpenedTasks.{each-sorted}
 use Rattle.flame_layerrun.proofs.openings.open.Goals as goal
 
 pub choose_all-requires-clause-pools : goal.choose_all-requires-clause-pools
@@ -80,7 +80,7 @@ returns-clause-fits g c =
       place = goes.place;
       there = goes.there;
       memories =
-          each-sorted (λ (row : List ℤ). length row ≡ wide) row_order c.leave-takers.result.items
+          each_sorted-back (λ (row : List ℤ). length row ≡ wide) row_order c.leave-takers.result.items
           (subst (λ (agents : List (List ℤ)). AreWide wide agents) (sym whole)
           (takers-wide round function goes.place (field_of c.args.field.now) goes.there c.requires.fits));
       known = c.requires.known;

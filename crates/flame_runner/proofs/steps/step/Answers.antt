@@ -9,6 +9,7 @@ use Rattle.flame_spec.specs.declared.outcomes.Outcome.{Outcome}
 use Rattle.flame_spec.specs.declared.outcomes.Sent.{Sent}
 use Rattle.flame_spec.specs.States.{state_place}
 use Rattle.flame_meaning.specs.Outcomes.{outcome}
+use Rattle.flame_meaning.proofs.Eachs.{each_sorted-back}
 use Rattle.flame_world.specs.AgentRuns.{births_of, sent_from}
 use Rattle.flame_world.specs.Fields.{Field as Standing, joined}
 use Rattle.flame_world.specs.Iterations.{outcome_in, staying, step, unless_faulted}
@@ -26,7 +27,6 @@ use Rattle.flame_round.proofs.NamedNumbers.{numbers-within}
 use Rattle.flame_route.proofs.Places.{zip-length}
 use Rattle.flame_round.proofs.Stepped.{frozen-named, frozen-wide, has-route, takers-wide}
 use Rattle.flame_runner.proofs.Settlings.{came, settled, stepped}
-use Rattle.flame_runner.proofs.Takings.{each-sorted}
 use Rattle.flame_runner.proofs.steps.step.Goals as goal
 
 pub leave_chosen-requires-clause-pools : goal.leave_chosen-requires-clause-pools
@@ -57,7 +57,7 @@ run-requires c =
         there = goes.there;
         memories =
             subst (λ (agents : List (List ℤ)). AreWide wide agents) (sym c.as_slice.ensures.value)
-            (each-sorted (λ (row : List ℤ). length row ≡ wide) row_order c.in_ok-takers.takers.items
+            (each_sorted-back (λ (row : List ℤ). length row ≡ wide) row_order c.in_ok-takers.takers.items
             (subst (λ (agents : List (List ℤ)). AreWide wide agents)
             (sym (c.in_ok-takers.ensures.takers goes.place (field_of c.args.field) goes.there refl))
             (takers-wide (round_of c.args.round.now) c.args.function goes.place (field_of c.args.field) goes.there c.requires.fits)));
