@@ -4,9 +4,10 @@ use Rattle.std.specs.Prelude.{ℤ, ◌==◌}
 use Rattle.std.specs.Global.{Global}
 use Rattle.std.specs.List.{All, Contains, flat_map}
 use Rattle.std.proofs.lemmas.List.Concat.{flat_map-append}
-use Rattle.std.proofs.lemmas.List.Elements.{All-append, All-cons, All-head, All-tail}
+use Rattle.std.proofs.lemmas.List.Elements.{All-append, All-cons}
 use Rattle.flame_rows.specs.Bags.{weigh}
 use Rattle.flame_rows.proofs.BagLaws.{weigh-append}
+use Rattle.flame_rows.proofs.Lists.{All-left, All-right}
 use Rattle.flame_lanes.specs.declared.tasks.Task.{Task}
 use Rattle.flame_lanes.specs.LaneTasks.{AreFrom, agents_at}
 
@@ -42,15 +43,6 @@ has_place (load ∷ loads) (suc place) own longer task less at is =
     }
 
 -- ---- what holds of each
-
-All-left : {X : Type 0} (P : X → Type 0) (xs ys : List X) → All P (xs ++ ys) → All P xs
-All-left P [] ys all = λ k d less. absurd (omega (arith, less))
-All-left P (x ∷ xs) ys all =
-    All-cons P x xs (All-head P x (xs ++ ys) all) (All-left P xs ys (All-tail P x (xs ++ ys) all))
-
-All-right : {X : Type 0} (P : X → Type 0) (xs ys : List X) → All P (xs ++ ys) → All P ys
-All-right P [] ys all = all
-All-right P (x ∷ xs) ys all = All-right P xs ys (All-tail P x (xs ++ ys) all)
 
 pub from-more : (all before after : List Task) (task : Task)
     → HasPlace before after task → AreFrom all before → Contains all task → AreFrom all after

@@ -4,7 +4,7 @@ use Rattle.std.specs.Prelude.{◌==◌, slice_get}
 use Rattle.std.specs.Global.{Global}
 use Rattle.std.specs.List.{All, AllZip, flat_map}
 use Rattle.std.proofs.lemmas.Bool.{eq-eqb, true≢false}
-use Rattle.flame_rows.proofs.Lists.{list_any-at}
+use Rattle.flame_rows.proofs.Lists.{list_any-at, All-left, All-right}
 use Rattle.std.proofs.lemmas.List.{map-append}
 use Rattle.std.proofs.lemmas.List.Elements.{All-cons, All-contains, All-head, All-nil, All-tail}
 use Rattle.std.proofs.lemmas.Option.{slice_get_within}
@@ -40,18 +40,10 @@ all-map : {X Y : Type 0} (Q : Y → Type 0) (f : X → Y) (xs : List X) → All 
 all-map Q f [] all = All-nil (λ x. Q (f x))
 all-map Q f (x ∷ xs) all = All-cons (λ x. Q (f x)) x xs (All-head Q (f x) (map f xs) all) (all-map Q f xs (All-tail Q (f x) (map f xs) all))
 
-all-front : {X : Type 0} (P : X → Type 0) (xs ys : List X) → All P (xs ++ ys) → All P xs
-all-front P [] ys all = All-nil P
-all-front P (x ∷ xs) ys all = All-cons P x xs (All-head P x (xs ++ ys) all) (all-front P xs ys (All-tail P x (xs ++ ys) all))
-
-all-back : {X : Type 0} (P : X → Type 0) (xs ys : List X) → All P (xs ++ ys) → All P ys
-all-back P [] ys all = all
-all-back P (x ∷ xs) ys all = all-back P xs ys (All-tail P x (xs ++ ys) all)
-
 all-lists : {X Y : Type 0} (P : X → Type 0) (f : Y → List X) (ys : List Y) → All P (flat_map f ys) → All (λ y. All P (f y)) ys
 all-lists P f [] all = All-nil (λ y. All P (f y))
 all-lists P f (y ∷ ys) all =
-    All-cons (λ y. All P (f y)) y ys (all-front P (f y) (flat_map f ys) all) (all-lists P f ys (all-back P (f y) (flat_map f ys) all))
+    All-cons (λ y. All P (f y)) y ys (All-left P (f y) (flat_map f ys) all) (all-lists P f ys (All-right P (f y) (flat_map f ys) all))
 
 flat-map : {X Y Z : Type 0} (f : X → List Z) (g : Y → List Z) (xs : List X) (ys : List Y) → map f xs ≡ map g ys → flat_map f xs ≡ flat_map g ys
 flat-map {X} {Y} {Z} f g xs ys same = flat f xs ∙ ap (flat_map (λ (l : List Z). l)) same ∙ sym (flat g ys)

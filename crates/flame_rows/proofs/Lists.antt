@@ -1,11 +1,11 @@
 -- Lists: which are empty, what stands at a place, tests of all or any, one element more.
 use Rattle.std.proofs.Common.{◌≡◌, ℕ, zero, suc, ◌+◌, ◌<◌, Bool, true, ◌||◌, List, [], ◌∷◌, ◌++◌, map, length, take, drop, get_or, Option, Some, refl, sym, ap, ap₂, ◌∙◌, subst, arith, append-nil, take_all}
 use Rattle.std.specs.Prelude.{slice_get, slice_set, slice_index_or}
-use Rattle.std.specs.List.{list_any, list_all, filter_map, flat_map, cons_option, AllZip}
+use Rattle.std.specs.List.{list_any, list_all, filter_map, flat_map, cons_option, AllZip, All}
 use Rattle.std.specs.Option.{IsSomeAnd}
 use Rattle.std.proofs.lemmas.Bool.{and_parts, and_from, or_left, or_right}
 use Rattle.std.proofs.lemmas.List.{take_more, drop_all}
-use Rattle.std.proofs.lemmas.List.Elements.{filter_map-append}
+use Rattle.std.proofs.lemmas.List.Elements.{filter_map-append, All-cons, All-head, All-tail}
 use Rattle.std.proofs.lemmas.Grind.{flat_map-append}
 
 -- ---- empty lists
@@ -85,6 +85,17 @@ pub list_all-each : {X : Type 0} (p : X → Bool) (xs : List X)
 list_all-each p [] each = refl
 list_all-each p (x ∷ xs) each =
     and_from (p x) (list_all p xs) (each zero x refl) (list_all-each p xs (λ k y at. each (suc k) y at))
+
+-- ---- what holds of each of two lists, one behind the other
+
+pub All-left : {X : Type 0} (P : X → Type 0) (xs ys : List X) → All P (xs ++ ys) → All P xs
+All-left P [] ys all = λ k d less. absurd (omega (arith, less))
+All-left P (x ∷ xs) ys all =
+    All-cons P x xs (All-head P x (xs ++ ys) all) (All-left P xs ys (All-tail P x (xs ++ ys) all))
+
+pub All-right : {X : Type 0} (P : X → Type 0) (xs ys : List X) → All P (xs ++ ys) → All P ys
+All-right P [] ys all = all
+All-right P (x ∷ xs) ys all = All-right P xs ys (All-tail P x (xs ++ ys) all)
 
 -- ---- two lists beside each other
 
