@@ -11,3 +11,4 @@ pub mod FaultTests
 pub mod Numbered
 pub mod OpenLoops
 pub mod VariableWidths
+pub mod NoTwice
