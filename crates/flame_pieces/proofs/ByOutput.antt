@@ -6,9 +6,10 @@ use Rattle.std.proofs.lemmas.Bool.{eq-eqb, ne_eqb, cases_eq, ltb-true, ltb-false
 use Rattle.std.proofs.lemmas.List.Sums.{sum_by-cons}
 use Rattle.flame_spec.specs.Below.{times, HasNoTwice}
 use Rattle.flame_spec.specs.declared.outcomes.Sent.{Sent}
+use Rattle.flame_spec.proofs.NoTwice.{later-once}
 use Rattle.flame_world.specs.AgentRuns.{messages_of}
 use Rattle.flame_events.proofs.Holding.{messages_of-append}
-use Rattle.flame_pieces.proofs.KeptParts.{place-cons, apart_head, once_rest, stands, stands_behind}
+use Rattle.flame_pieces.proofs.KeptParts.{place-cons, apart_head, stands, stands_behind}
 
 one_message : (one : Sent) (message : ℕ) → messages_of (one ∷ []) message ≡ cond (one.message == message) (one.row ∷ []) []
 one_message one message =
@@ -61,7 +62,7 @@ at_place sent one (output ∷ outputs) k once within place =
     let here : place_of one.message (output ∷ outputs) ≡ suc (place_of one.message outputs) = place-cons one.message output outputs
     ∙ ap (λ t. cond t zero (suc (place_of one.message outputs))) (ne_eqb output one.message apart) in
     let first = sym (more_other sent one output (λ is. apart (sym is))) in
-    let rest = at_place sent one outputs (place_of one.message outputs) (once_rest output outputs once)
+    let rest = at_place sent one outputs (place_of one.message outputs) (later-once output outputs once)
     (omega (arith, within, here, place)) refl in
     subst P (sym here ∙ place) (λ i. first i ∷ rest i))
     (cases_eq output one.message)

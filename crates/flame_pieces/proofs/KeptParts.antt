@@ -10,6 +10,7 @@ use Rattle.flame_rows.proofs.BagLaws.{length-ascending}
 use Rattle.flame_rows.proofs.Lists.{slice_index_or-map}
 use Rattle.flame_rows.proofs.Merging.{merge-ascending}
 use Rattle.flame_spec.specs.Below.{times, HasNoTwice}
+use Rattle.flame_spec.proofs.NoTwice.{later-once}
 use Rattle.flame_events.specs.CoreStates.{part_in}
 use Rattle.flame_field.specs.KeptGatherings.{bag_of}
 use Rattle.flame_field.specs.declared.gatherings.Gathering.{Gathering}
@@ -45,11 +46,6 @@ apart_head output outputs once message there same =
     let counted = sum_by-cons (λ o. cond (o == message) 1 0) output outputs in
     let here = ap one (eq-eqb output message same) in
     absurd (omega (arith, counted, here, there, once message))
-
-pub once_rest : (output : ℕ) (outputs : List ℕ) → HasNoTwice (output ∷ outputs) → HasNoTwice outputs
-once_rest output outputs once message =
-    let counted = sum_by-cons (λ o. cond (o == message) 1 0) output outputs in
-    omega (arith, counted, once message)
 
 pub stands : (output : ℕ) (outputs : List ℕ) → 1 ≤ times output (output ∷ outputs)
 stands output outputs =
@@ -101,7 +97,7 @@ all_handed (output ∷ outputs) once =
     (λ message. is_none (part_in messages parts message)) messages
     (λ message there. ap is_none (part_in-cons message output.message messages (part_of output) parts
     ∙ ap (λ t. cond t (part_of output) (part_in messages parts message)) (ne_eqb output.message message (apart_head output.message messages once message there)))) in
-    let rest = all_handed outputs (once_rest output.message messages once) ∙ sym same in
+    let rest = all_handed outputs (later-once output.message messages once) ∙ sym same in
     λ i. here i && rest i
 
 -- ---- the place of an output
