@@ -7,7 +7,7 @@ use Rattle.flame_spec.specs.declared.models.Input.{Input}
 use Rattle.flame_spec.specs.Functions.{Place}
 use Rattle.flame_spec.specs.Below.{all_below, is_in}
 use Rattle.flame_spec.specs.Before.{both_stand, before_among}
-use Rattle.flame_depend.specs.NameTables.{Table, listed}
+use Rattle.flame_depend.specs.FunctionTables.{Table, listed}
 use Rattle.flame_depend.specs.Links.{adds_at, enters_at, listed_at, IsAdding, AreEntering, is_linked}
 
 none_of : (inputs : List Input) → list_any (λ input. false) inputs ≡ false

@@ -4,5 +4,5 @@ pub mod Plans
 pub mod Edges
 -- The words that only bodies and proofs use.
 pub mod PlacedFunctions
-pub mod NameTables
+pub mod FunctionTables
 pub mod Links

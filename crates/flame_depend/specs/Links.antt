@@ -6,7 +6,7 @@ use Rattle.std.specs.Str.{bytes_eq}
 use Rattle.flame_spec.specs.Functions.{Place}
 use Rattle.flame_spec.specs.Before.{adds}
 use Rattle.flame_spec.specs.Below.{is_in}
-use Rattle.flame_depend.specs.NameTables.{Table, listed}
+use Rattle.flame_depend.specs.FunctionTables.{Table, listed}
 
 -- there is a function, and it adds the message [own]
 abbrev pub adds_at : Option Place → List ℕ → Bool

@@ -6,7 +6,7 @@ ghost use Rattle.std.specs.Str.{bytes_eq};
 ghost use Rattle.flame_spec.specs.Below.{is_in};
 ghost use Rattle.flame_spec.specs.Before.{before_among};
 ghost use Rattle.flame_depend.specs.PlacedFunctions.{shown};
-ghost use Rattle.flame_depend.specs.NameTables.{listed};
+ghost use Rattle.flame_depend.specs.FunctionTables.{listed};
 ghost use Rattle.flame_depend.specs.Links.{IsAdding, AreEntering, AreOfTypes, is_linked};
 ghost use Rattle.flame_graph.specs.Graph.{AreSuccessors};
 ghost use Rattle.flame_graph.specs.Marks.{marked_where};

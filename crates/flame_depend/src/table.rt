@@ -2,7 +2,7 @@
 
 ghost use Rattle.std.specs.Prelude.{◌≡◌, ℕ, List, [], ◌∷◌, ◌++◌, OnOk, if◌then◌else◌};
 ghost use Rattle.std.specs.Str.{bytes_eq};
-ghost use Rattle.flame_depend.specs.NameTables.{listed};
+ghost use Rattle.flame_depend.specs.FunctionTables.{listed};
 
 use flame_rows::NoMemory;
 use std::alloc::Global;

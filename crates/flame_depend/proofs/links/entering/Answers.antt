@@ -4,7 +4,7 @@ use Rattle.std.specs.Str.{bytes_eq}
 use Rattle.std.proofs.lemmas.Option.{slice_get_read}
 use Rattle.flame_spec.specs.Functions.{Place}
 use Rattle.flame_depend.specs.PlacedFunctions.{shown}
-use Rattle.flame_depend.specs.NameTables.{listed}
+use Rattle.flame_depend.specs.FunctionTables.{listed}
 use Rattle.flame_depend.specs.Links.{IsOfTypes}
 use Rattle.flame_depend.proofs.Gets.{shown_at}
 use Rattle.flame_depend.proofs.Entering.{entering_more}

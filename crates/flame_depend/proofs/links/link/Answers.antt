@@ -7,7 +7,7 @@ use Rattle.std.proofs.lemmas.List.Folds.{list_any_more}
 use Rattle.flame_spec.specs.declared.models.Input.{Input}
 use Rattle.flame_spec.specs.Below.{is_in}
 use Rattle.flame_graph.specs.Marks.{marked_where}
-use Rattle.flame_depend.specs.NameTables.{listed}
+use Rattle.flame_depend.specs.FunctionTables.{listed}
 use Rattle.flame_graph.proofs.Marking.{marked_or}
 use Rattle.flame_depend.proofs.links.link.Goals as goal
 

@@ -3,7 +3,7 @@ use Rattle.std.specs.Prelude.{◌||◌}
 use Rattle.std.specs.List.{list_any}
 use Rattle.flame_spec.specs.Below.{is_in}
 use Rattle.flame_graph.specs.Marks.{marked_where}
-use Rattle.flame_depend.specs.NameTables.{listed}
+use Rattle.flame_depend.specs.FunctionTables.{listed}
 use Rattle.flame_depend.proofs.links.link.Given as goal
 
 abbrev pub invariant-loop-input : goal.invariant-loop-input

@@ -3,7 +3,7 @@ use Rattle.std.specs.Prelude.{◌==◌, ◌&&◌, ◌||◌}
 use Rattle.std.specs.List.{list_any}
 use Rattle.std.specs.Str.{bytes_eq}
 use Rattle.flame_spec.specs.Below.{is_in}
-use Rattle.flame_depend.specs.NameTables.{listed}
+use Rattle.flame_depend.specs.FunctionTables.{listed}
 use Rattle.flame_depend.proofs.links.note_all.Given as goal
 
 abbrev pub invariant-loop-name : goal.invariant-loop-name
