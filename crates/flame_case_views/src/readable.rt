@@ -19,10 +19,7 @@ fn width_of(variables: &[Variable]) -> Option<u32>
         return Some(0);
     };
     let behind = width_of(others)?;
-    match first.length {
-        None => behind.checked_add(1),
-        Some(length) => length.checked_add(behind),
-    }
+    first.width().checked_add(behind)
 }
 
 /// Whether a row of these variables has a width of 32 bits.
