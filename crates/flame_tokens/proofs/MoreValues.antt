@@ -55,16 +55,3 @@ more_values variables i variable row more rest within is long =
     ap (λ (vs : List Variable). keyed (variable_trees vs (row ++ more)) ++ rest) (next variables i variable within is)
     ∙ ap (λ ps. keyed ps ++ rest) (trees_more (take i variables) variable row more long)
     ∙ keyed_more (variable_trees (take i variables) row) (variable.name, variable_tree variable.length more) rest
-
-width_more : (variables : List Variable) (variable : Variable) → width (variables ++ variable ∷ []) ≡ width variables + width_of variable
-width_more [] variable = omega arith
-width_more (other ∷ variables) variable = omega (arith, width_more variables variable)
-
--- and their width
-pub wider :
-    (variables : List Variable) (i : ℕ) (variable : Variable)
-    → i < length variables
-    → variable ≡ get_or variables i variable
-    → width (take (i + 1) variables) ≡ width (take i variables) + width_of variable
-wider variables i variable within is =
-    ap width (next variables i variable within is) ∙ width_more (take i variables) variable

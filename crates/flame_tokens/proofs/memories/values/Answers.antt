@@ -3,8 +3,9 @@ use Rattle.std.proofs.Common.{◌+◌, ◌++◌, ◌∷◌, List, drop, length, 
 use Rattle.std.specs.Prelude.{ℤ}
 use Rattle.json.specs.Token.{Token, key}
 use Rattle.flame_spec.specs.Columns.{width_of}
+use Rattle.flame_spec.proofs.VariableWidths.{width_more}
 use Rattle.flame_tokens.specs.MemberTrees.{keyed, variable_trees}
-use Rattle.flame_tokens.proofs.MoreValues.{more_values, wider}
+use Rattle.flame_tokens.proofs.MoreValues.{more_values}
 use Rattle.flame_tokens.proofs.memories.values.Goals as goal
 
 pub loop-variable-preserved : goal.loop-variable-preserved
@@ -32,7 +33,7 @@ loop-variable-preserved c =
         count =
             c.in_ok-add_value.ensures.count
             ∙ ap (λ n. n + width_of variable) c.loop-variable.invariant.wide.count
-            ∙ sym (wider variables i variable c.loop-variable-test.true c.variable-item.is);
+            ∙ sym (width_more variables i variable c.loop-variable-test.true c.variable-item.is);
         ints = c.in_ok-add_value.ensures.ints c.loop-variable.invariant.wide.ints;
       };
     }
