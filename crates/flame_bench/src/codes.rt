@@ -6,11 +6,11 @@
 
 mod loops;
 
-use flame_code::Helpers;
+use flame_code::{Code, Helpers};
 use flame_machine::{Lists, fits_entry, run};
 use flame_rows::Row;
 use flame_spec::Outcome;
-use loops::{Loop, WIDTH, calls, elements, helpers, sum};
+use loops::{Timed, WIDTH, helpers};
 use std::alloc::{AllocError, Global};
 use std::io;
 use std::time::{CpuClock, Duration};
@@ -21,35 +21,50 @@ const TURNS: i32 = 1000;
 /// The instructions that a code runs outside of its loop.
 const OUTSIDE: u64 = 15;
 
-/// What the code leaves, where the helpers fit it.
-fn outcome_of(
+/// What the code leaves over this memory and these constants, where they and the helpers fit it.
+fn outcome_over(
     alloc: Global,
-    timed: &Loop,
+    code: &Code,
     helpers: &Helpers,
+    memory: &Row,
+    constants: &Row,
 ) -> Result<Option<Outcome>, AllocError> {
-    let memory = Row::of(vec![in alloc; 0; WIDTH as usize]?);
-    let constants = Row::of(Vec::new(alloc));
     let mut feed = Lists::new(alloc);
-    let code = &timed.code;
     if !helpers.fits(code) {
         return Ok(None);
     }
-    if !fits_entry(code, &memory, &feed, &constants) {
+    if !fits_entry(code, memory, &feed, constants) {
         return Ok(None);
     }
     match run(
         alloc,
         code,
         helpers,
-        &memory,
+        memory,
         &mut feed,
-        &constants,
+        constants,
         1,
         u32::MAX,
     ) {
         Ok(outcome) => Ok(Some(outcome)),
         Err(_) => Err(AllocError),
     }
+}
+
+/// What the code leaves over a memory of zeros, where the helpers fit it.
+fn outcome_of(
+    alloc: Global,
+    code: &Code,
+    helpers: &Helpers,
+) -> Result<Option<Outcome>, AllocError> {
+    let zeros = vec![in alloc; 0; WIDTH as usize]?;
+    outcome_over(
+        alloc,
+        code,
+        helpers,
+        &Row::of(zeros),
+        &Row::of(Vec::new(alloc)),
+    )
 }
 
 fn print_outcome(rt: &impl Print, outcome: &Outcome) -> io::Result<()> {
@@ -69,9 +84,11 @@ fn print_outcome(rt: &impl Print, outcome: &Outcome) -> io::Result<()> {
 }
 
 /// The time that a loop took, and the millions of instructions that it ran a second.
-fn print_speed(rt: &impl Print, timed: &Loop, taken: Duration) -> io::Result<()> {
-    let turns = timed.turns.unsigned_abs() as u64;
-    let instructions = turns.saturating_mul(timed.in_turn).saturating_add(OUTSIDE);
+fn print_speed(rt: &impl Print, timed: Timed, turns: i32, taken: Duration) -> io::Result<()> {
+    let turns = turns.unsigned_abs() as u64;
+    let instructions = turns
+        .saturating_mul(timed.in_turn())
+        .saturating_add(OUTSIDE);
     let microseconds = taken.as_micros().max(1);
     let speed = instructions as u128 / microseconds;
     print!(rt;
@@ -80,29 +97,55 @@ fn print_speed(rt: &impl Print, timed: &Loop, taken: Duration) -> io::Result<()>
     )
 }
 
-/// Runs a loop. Tells whether it could be run.
-fn measure(
+/// What a loop left that began then.
+fn print_loop(
+    rt: &(impl Print + CpuClock),
+    timed: Timed,
+    turns: i32,
+    outcome: &Outcome,
+    begun: Duration,
+    with_time: bool,
+) -> io::Result<()> {
+    let taken = rt.process_cpu_time()?.saturating_sub(begun);
+    print!(rt; "{}: ", timed.name())?;
+    print_outcome(rt, outcome)?;
+    if with_time {
+        print_speed(rt, timed, turns, taken)?;
+    }
+    println!(rt; "")
+}
+
+/// Runs the code of a loop. Tells whether it could be run.
+fn measure_code(
     rt: &(impl Print + CpuClock + AllocGlobal),
-    timed: &Option<Loop>,
+    timed: Timed,
+    turns: i32,
+    code: &Code,
     helpers: &Helpers,
     with_time: bool,
 ) -> io::Result<bool> {
-    let Some(timed) = timed else {
-        return Ok(false);
-    };
     let begun = rt.process_cpu_time()?;
-    let Some(outcome) = outcome_of(rt.alloc(), timed, helpers)? else {
-        return Ok(false);
-    };
-    let taken = rt.process_cpu_time()?.saturating_sub(begun);
-    let name = timed.name;
-    print!(rt; "{name}: ")?;
-    print_outcome(rt, &outcome)?;
-    if with_time {
-        print_speed(rt, timed, taken)?;
+    match outcome_of(rt.alloc(), code, helpers)? {
+        Some(outcome) => {
+            print_loop(rt, timed, turns, &outcome, begun, with_time)?;
+            Ok(true)
+        }
+        None => Ok(false),
     }
-    println!(rt; "")?;
-    Ok(true)
+}
+
+/// Runs a loop. Tells whether it could be run.
+fn measure(
+    rt: &(impl Print + CpuClock + AllocGlobal),
+    timed: Timed,
+    turns: i32,
+    helpers: &Helpers,
+    with_time: bool,
+) -> io::Result<bool> {
+    match timed.code(rt.alloc(), turns)? {
+        Some(code) => measure_code(rt, timed, turns, &code, helpers, with_time),
+        None => Ok(false),
+    }
 }
 
 /// Runs all loops with these helpers. Tells whether all could be run.
@@ -112,12 +155,11 @@ fn measure_loops(
     turns: i32,
     with_time: bool,
 ) -> io::Result<bool> {
-    let alloc = rt.alloc();
     let fewer = turns / 10;
     Ok(
-        measure(rt, &sum(alloc, turns)?, helpers, with_time)?
-            && measure(rt, &calls(alloc, fewer)?, helpers, with_time)?
-            && measure(rt, &elements(alloc, fewer)?, helpers, with_time)?,
+        measure(rt, Timed::Sum, turns, helpers, with_time)?
+            && measure(rt, Timed::Helper, fewer, helpers, with_time)?
+            && measure(rt, Timed::Element, fewer, helpers, with_time)?,
     )
 }
 

@@ -8,8 +8,8 @@ mod grids;
 mod steps;
 mod texts;
 
+use crate::programs::measure_program;
 use flame_case_files::Case;
-use flame_case_programs::{Sourced, program_of, source_in};
 use flame_program::Program;
 use grids::Grid;
 use std::io;
@@ -33,7 +33,7 @@ const SMALL: Order = Order {
 };
 
 /// Brings the core of this program to its end, which the case is of. Tells whether it could.
-fn measure_program(
+fn measure_core(
     rt: &(impl Print + CpuClock + AllocGlobal),
     case: &Case,
     program: &Program,
@@ -58,13 +58,9 @@ fn measure(
 ) -> io::Result<bool> {
     print!(rt; "{name}: ")?;
     let case = case_of(rt.alloc(), grid)?;
-    let Sourced::Source(source) = source_in(rt.alloc(), &case)? else {
-        return Ok(false);
-    };
-    match program_of(rt.alloc(), source) {
-        Ok(Some(program)) => measure_program(rt, &case, &program, grid, with_time),
-        _ => Ok(false),
-    }
+    measure_program(rt.alloc(), &case, |program: &Program| -> io::Result<bool> {
+        measure_core(rt, &case, program, grid, with_time)
+    })
 }
 
 /// The order that the words give; none where they give no order.

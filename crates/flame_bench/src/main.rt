@@ -10,6 +10,7 @@
 mod codes;
 mod cores;
 mod populations;
+mod programs;
 
 use codes::measure_codes;
 use cores::measure_cores;

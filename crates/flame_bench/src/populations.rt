@@ -8,7 +8,8 @@ mod drawn;
 mod orders;
 mod steps;
 
-use drawn::{program_of_agents, world_of};
+use crate::programs::measure_program;
+use drawn::{cases_of_agents, world_of};
 use flame_program::Program;
 use orders::{Order, SMALL, order_of};
 use std::io;
@@ -27,11 +28,14 @@ fn follow(
     }
 }
 
-/// The same for the program of the model of agents, where memory is found for it.
+/// The same for the program of the model of agents.
 fn follow_all(rt: &(impl Print + CpuClock + AllocGlobal), order: Order) -> io::Result<bool> {
-    match program_of_agents(rt.alloc()) {
-        Ok(Some(program)) => follow(rt, &program, order),
-        _ => Ok(false),
+    let cases = cases_of_agents(rt.alloc())?;
+    match cases.first() {
+        Some(case) => measure_program(rt.alloc(), case, |program: &Program| -> io::Result<bool> {
+            follow(rt, program, order)
+        }),
+        None => Ok(false),
     }
 }
 

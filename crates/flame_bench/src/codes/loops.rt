@@ -36,17 +36,15 @@ const MORE: &str = "2 Push 1\n3 Add 1\n2 SetMemAt 1 1 7\n";
 /// `int rest(int n) { return n % 7; }`
 const REST: &str = "0 Loc 0\n1 Push 7\n2 Rem 1\n1 Return\n0 Push 0\n1 Return\n";
 
-/// A code that repeats a body.
-#[derive(Drop)]
-pub(crate) struct Loop {
-    /// Its name.
-    pub(crate) name: &'static str,
-    /// The code.
-    pub(crate) code: Code,
-    /// How often the body is repeated.
-    pub(crate) turns: i32,
-    /// How many instructions run in each turn.
-    pub(crate) in_turn: u64,
+/// A loop that is timed.
+#[derive(Clone, Copy)]
+pub(crate) enum Timed {
+    /// The loop of a sum.
+    Sum,
+    /// The loop with a call of a helper.
+    Helper,
+    /// The loop with an element of an array.
+    Element,
 }
 
 /// The valid code of a listing, which sees this much memory.
@@ -61,64 +59,68 @@ fn valid(alloc: Global, text: &str, memory: u32) -> Result<Option<Code>, AllocEr
     code_in(alloc, text, widths)
 }
 
-/// The loop with this body, which begins at place 8, and with its test at this place.
-fn looped(alloc: Global, body: &str, test: u32, turns: i32) -> Result<Option<Code>, AllocError> {
+/// The listing of the loop with this body, which begins at place 8, and with its test at this place.
+fn listing(alloc: Global, body: &str, test: u32, turns: i32) -> Result<String, AllocError> {
     let mut text = format!(in alloc; "{HEAD}0 Jump {test}\n0 Pay 1\n")?;
     text.push_str(body)?;
     text.push_str(STEP)?;
     writeln!(text, "1 Push {turns}")?;
     text.push_str(END)?;
+    Ok(text)
+}
+
+/// The loop with this body, and with its test at this place.
+fn looped(alloc: Global, body: &str, test: u32, turns: i32) -> Result<Option<Code>, AllocError> {
+    let text = listing(alloc, body, test, turns)?;
     valid(alloc, text.as_str(), WIDTH)
 }
 
-/// The loop of a sum.
-pub(crate) fn sum(alloc: Global, turns: i32) -> Result<Option<Loop>, AllocError> {
-    let Some(code) = looped(alloc, SUM, 18, turns)? else {
-        return Ok(None);
-    };
-    Ok(Some(Loop {
-        name: "sum",
-        code,
-        turns,
-        in_turn: 15,
-    }))
-}
-
-/// The loop with a call of a helper.
-pub(crate) fn calls(alloc: Global, turns: i32) -> Result<Option<Loop>, AllocError> {
-    let Some(code) = looped(alloc, CALL, 19, turns)? else {
-        return Ok(None);
-    };
-    Ok(Some(Loop {
-        name: "helper",
-        code,
-        turns,
-        in_turn: 20,
-    }))
-}
-
-/// The loop with an element of an array.
-pub(crate) fn elements(alloc: Global, turns: i32) -> Result<Option<Loop>, AllocError> {
+/// The loop of an element.
+fn elements(alloc: Global, turns: i32) -> Result<Option<Code>, AllocError> {
     let body = format!(in alloc; "{ELEMENT}{MORE}")?;
-    let Some(code) = looped(alloc, body.as_str(), 22, turns)? else {
-        return Ok(None);
-    };
-    Ok(Some(Loop {
-        name: "element",
-        code,
-        turns,
-        in_turn: 19,
-    }))
+    looped(alloc, body.as_str(), 22, turns)
+}
+
+impl Timed {
+    /// Its name.
+    pub(crate) fn name(self) -> &'static str {
+        match self {
+            Timed::Sum => "sum",
+            Timed::Helper => "helper",
+            Timed::Element => "element",
+        }
+    }
+
+    /// How many instructions run in each turn.
+    pub(crate) fn in_turn(self) -> u64 {
+        match self {
+            Timed::Sum => 15,
+            Timed::Helper => 20,
+            Timed::Element => 19,
+        }
+    }
+
+    /// Its code, which turns so often.
+    pub(crate) fn code(self, alloc: Global, turns: i32) -> Result<Option<Code>, AllocError> {
+        match self {
+            Timed::Sum => looped(alloc, SUM, 18, turns),
+            Timed::Helper => looped(alloc, CALL, 19, turns),
+            Timed::Element => elements(alloc, turns),
+        }
+    }
+}
+
+/// A list of this alone.
+fn alone<T: Drop>(alloc: Global, item: T) -> Result<Seq<T>, AllocError> {
+    let mut items = Vec::new(alloc);
+    items.push(item)?;
+    Ok(Seq::of(items))
 }
 
 /// The helper that is called.
 pub(crate) fn helpers(alloc: Global) -> Result<Option<Helpers>, AllocError> {
-    let Some(rest) = valid(alloc, REST, 0)? else {
-        return Ok(None);
-    };
-    let mut codes = Vec::new(alloc);
-    codes.push(rest)?;
-    let mut parameters = Vec::new(alloc);
-    parameters.push(1)?;
-    Ok(helpers_of(Seq::of(codes), Seq::of(parameters), &[1]))
+    match valid(alloc, REST, 0)? {
+        Some(rest) => Ok(helpers_of(alone(alloc, rest)?, alone(alloc, 1)?, &[1])),
+        None => Ok(None),
+    }
 }

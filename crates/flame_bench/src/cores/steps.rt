@@ -73,18 +73,24 @@ fn rows_in(bags: &[Bag]) -> u64 {
     rows
 }
 
+/// How many agents and messages the iteration comes to; none where it comes to a fault.
+fn counted(turn: &Turn) -> Option<(u64, u64)> {
+    match turn {
+        Turn::Done(world, boards) => Some((
+            rows_in(world.agents.items()),
+            rows_in(boards.boards.items()),
+        )),
+        Turn::Faulted(_) => None,
+    }
+}
+
 /// How many agents and messages there are at the end; none where there is no end, or a fault.
 fn end_of(core: Core<'_>) -> Result<Option<(u64, u64)>, NoMemory> {
     if !core.complete() {
         return Ok(None);
     }
-    match core.finish()? {
-        Turn::Done(world, boards) => Ok(Some((
-            rows_in(world.agents.items()),
-            rows_in(boards.boards.items()),
-        ))),
-        Turn::Faulted(_) => Ok(None),
-    }
+    let turn = core.finish()?;
+    Ok(counted(&turn))
 }
 
 /// The time since then, where the clock can be read.
@@ -95,8 +101,64 @@ fn since(rt: &impl CpuClock, begun: Duration) -> Option<Duration> {
     }
 }
 
-/// Brings the core to its end. None where an event is not legal, the core is not complete behind all, or the clock cannot be
-/// read.
+/// The processor times of a core's beginning and of its steps.
+#[derive(Clone, Copy)]
+struct Times {
+    beginning: Duration,
+    stepping: Duration,
+}
+
+/// Brings the core to its end that was begun then. None where an event is not legal or the clock cannot be read.
+fn times_of(
+    rt: &impl CpuClock,
+    core: &mut Core<'_>,
+    events: &[Event],
+    start: Duration,
+) -> Result<Option<Times>, NoMemory> {
+    let Some(beginning) = since(rt, start) else {
+        return Ok(None);
+    };
+    if !step_all(core, events)? {
+        return Ok(None);
+    }
+    match since(rt, start) {
+        Some(end) => Ok(Some(Times {
+            beginning,
+            stepping: end.saturating_sub(beginning),
+        })),
+        None => Ok(None),
+    }
+}
+
+/// What was done to this core, by so many events, in these times.
+fn measured_of(core: Core<'_>, events: usize, times: Times) -> Result<Option<Measured>, NoMemory> {
+    match end_of(core)? {
+        Some((agents, messages)) => Ok(Some(Measured {
+            events: events as u64,
+            agents,
+            messages,
+            beginning: times.beginning,
+            stepping: times.stepping,
+        })),
+        None => Ok(None),
+    }
+}
+
+/// Brings the core to its end that was begun then. None where an event is not legal, the core is not complete behind all, or the
+/// clock cannot be read.
+fn measure_steps(
+    rt: &impl CpuClock,
+    mut core: Core<'_>,
+    events: &[Event],
+    start: Duration,
+) -> Result<Option<Measured>, NoMemory> {
+    match times_of(rt, &mut core, events, start)? {
+        Some(times) => measured_of(core, events.len(), times),
+        None => Ok(None),
+    }
+}
+
+/// The same of the core that begins with this world.
 fn measure_core(
     rt: &(impl CpuClock + AllocGlobal),
     program: &Program,
@@ -107,29 +169,29 @@ fn measure_core(
     requires fits { FitsModel program.now.model world }
     requires some { 1 ≤ grid.agents }
 {
-    let Some(start) = since(rt, Duration::ZERO) else {
-        return Ok(None);
-    };
-    let mut core = Core::new(rt.alloc(), program, world, 1, 1000, grid.agents)?;
-    let Some(beginning) = since(rt, start) else {
-        return Ok(None);
-    };
-    if !step_all(&mut core, events)? {
-        return Ok(None);
-    }
-    let Some(end) = since(rt, start) else {
-        return Ok(None);
-    };
-    match end_of(core)? {
-        Some((agents, messages)) => Ok(Some(Measured {
-            events: events.len() as u64,
-            agents,
-            messages,
-            beginning,
-            stepping: end.saturating_sub(beginning),
-        })),
+    match since(rt, Duration::ZERO) {
+        Some(start) => {
+            let core = Core::new(rt.alloc(), program, world, 1, 1000, grid.agents)?;
+            measure_steps(rt, core, events, start)
+        }
         None => Ok(None),
     }
+}
+
+/// The same, where the world fits.
+fn measure_fitting(
+    rt: &(impl CpuClock + AllocGlobal),
+    program: &Program,
+    world: World,
+    grid: Grid,
+    events: &[Event],
+) -> Result<Option<Measured>, NoMemory>
+    requires some { 1 ≤ grid.agents }
+{
+    if fits(&program.source().model, &world)? {
+        return measure_core(rt, program, world, grid, events);
+    }
+    Ok(None)
 }
 
 /// The same of the world that the case gives.
@@ -139,14 +201,10 @@ pub(crate) fn measure_world(
     program: &Program,
     grid: Grid,
 ) -> Result<Option<Measured>, NoMemory> {
-    let model = &program.source().model;
-    let world = world_in(rt.alloc(), case, model)?;
-    let events = grid.events(rt.alloc())?;
     if grid.agents == 0 {
         return Ok(None);
     }
-    if fits(model, &world)? {
-        return measure_core(rt, program, world, grid, events.as_slice());
-    }
-    Ok(None)
+    let events = grid.events(rt.alloc())?;
+    let world = world_in(rt.alloc(), case, &program.source().model)?;
+    measure_fitting(rt, program, world, grid, events.as_slice())
 }

@@ -112,21 +112,31 @@ fn agents(alloc: Global, grid: Grid) -> Result<String, AllocError> {
     Ok(out)
 }
 
-fn section(alloc: Global, title: &str, text: String) -> Result<Section, AllocError> {
-    Ok(Section {
-        title: String::from_str(alloc, title)?,
-        bytes: text.into_bytes(),
-    })
+/// Adds a section of this title and this text.
+fn add_section(
+    sections: &mut Vec<Section>,
+    alloc: Global,
+    title: &str,
+    text: String,
+) -> Result<(), AllocError> {
+    let title = String::from_str(alloc, title)?;
+    let bytes = text.into_bytes();
+    Ok(sections.push(Section { title, bytes })?)
+}
+
+/// The sections of the model, the function file and the agents.
+fn sections_of(alloc: Global, grid: Grid) -> Result<Vec<Section>, AllocError> {
+    let mut sections = Vec::new(alloc);
+    add_section(&mut sections, alloc, "model", model(alloc, grid)?)?;
+    add_section(&mut sections, alloc, "text", bodies(alloc, grid)?)?;
+    add_section(&mut sections, alloc, "given", agents(alloc, grid)?)?;
+    Ok(sections)
 }
 
 /// The model, the function file and the agents, as a case gives them.
 pub(crate) fn case_of(alloc: Global, grid: Grid) -> Result<Case, AllocError> {
-    let mut sections = Vec::new(alloc);
-    sections.push(section(alloc, "model", model(alloc, grid)?)?)?;
-    sections.push(section(alloc, "text", bodies(alloc, grid)?)?)?;
-    sections.push(section(alloc, "given", agents(alloc, grid)?)?)?;
     Ok(Case {
         name: String::new(alloc),
-        sections,
+        sections: sections_of(alloc, grid)?,
     })
 }

@@ -1,14 +1,9 @@
 //! A model of one agent type, and a world of it with drawn numbers.
 
-ghost use Rattle.std.specs.Prelude.{IsTrue};
-ghost use Rattle.flame_spec.specs.WellFormed.{is_well_formed};
-
 use flame_case_files::{Case, read_cases};
-use flame_case_programs::{Sourced, program_of, source_in};
-use flame_program::Program;
 use flame_rows::{Bag, NoMemory, Row, Seq};
 use flame_world::World;
-use std::alloc::Global;
+use std::alloc::{AllocError, Global};
 
 /// A model of one agent type with three variables, as a case gives it.
 const MODEL: &str = concat!(
@@ -19,21 +14,9 @@ const MODEL: &str = concat!(
     "\n----\n"
 );
 
-/// The program of a case's source; none where it has none.
-fn program_in(alloc: Global, case: &Case) -> Result<Option<Program>, NoMemory> {
-    match source_in(alloc, case)? {
-        Sourced::Source(source) => program_of(alloc, source),
-        Sourced::Told(_) => Ok(None),
-    }
-}
-
-/// The program of the model of agents.
-pub(crate) fn program_of_agents(alloc: Global) -> Result<Option<Program>, NoMemory> {
-    let cases = read_cases(alloc, MODEL)?;
-    match cases.first() {
-        Some(case) => program_in(alloc, case),
-        None => Ok(None),
-    }
+/// The cases of the model of agents, of which there is one.
+pub(crate) fn cases_of_agents(alloc: Global) -> Result<Vec<Case>, AllocError> {
+    read_cases(alloc, MODEL)
 }
 
 /// The state behind this one of a linear congruential generator.
