@@ -67,7 +67,7 @@ fn column_read(input: Option<u32>, column: u32) -> Instr
     }
 }
 
-/// So many columns from this one on, of the memory, or of the current row of an input.
+/// `count` columns from this one on, of the memory, or of the current row of an input.
 fn write_each(
     out: &mut Vec<Instr>,
     input: Option<u32>,

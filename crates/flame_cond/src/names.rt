@@ -24,7 +24,7 @@ pub fn column(variables: &[Variable], name: &str) -> u32
     at
 }
 
-/// So many times a period. Both have 31 bits.
+/// `product` times a period. Both have 31 bits.
 fn times(product: i64, period: i32) -> i64
     requires low { pos 1 ≤ℤ product }
     requires high { product ≤ℤ pos 2147483647 }

@@ -51,7 +51,7 @@ impl Start<'_> {
     }
 }
 
-/// So many functions that wait.
+/// `functions` functions, all of which wait.
 fn all_waiting(alloc: Global, functions: usize) -> Result<Vec<Status>, NoMemory>
     ensures statuses { IfOk result (λ statuses. statuses.items ≡ replicate functions Status.Waiting) }
 {

@@ -43,7 +43,7 @@ fn adding(alloc: Global, places: &[Placed<'_>]) -> Result<Table, NoMemory>
     Ok(table)
 }
 
-/// So many tables without names.
+/// A table without names for each of these types.
 fn empty_tables(alloc: Global, types: usize) -> Result<Vec<Table>, NoMemory>
     ensures { IfOk result (λ tables. AreEntering types [] tables.items) }
 {

@@ -6,7 +6,7 @@ ghost use Rattle.flame_spec.specs.Below.{is_in};
 use flame_rows::{NoMemory, number};
 use std::alloc::Global;
 
-/// So many zeros.
+/// `count` zeros.
 pub(crate) fn zeros(alloc: Global, count: usize) -> Result<Vec<u32>, NoMemory>
     ensures long { IfOk result (λ numbers. length numbers.items ≡ count) }
     ensures zero { IfOk result (λ numbers. (place : ℕ) → slice_index numbers.items place ≡ 0) }

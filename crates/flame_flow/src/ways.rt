@@ -40,7 +40,7 @@ fn ranks_of(alloc: Global, program: &Program) -> Result<Vec<u32>, NoMemory>
     Ok(ranks)
 }
 
-/// So many empty lists.
+/// `count` empty lists.
 fn empty_lists(alloc: Global, count: usize) -> Result<Vec<Vec<u32>>, NoMemory>
     ensures long { IfOk result (λ lists. length lists.items ≡ count) }
     ensures empty { IfOk result (λ lists. (place : ℕ)

@@ -33,7 +33,7 @@ fn count_agents(world: &World, most: u32) -> u32 {
     most - left
 }
 
-/// So many workers at the desk, of which the caller is one, and the caller at least. Where a thread cannot be made, the
+/// `workers` workers at the desk, of which the caller is one, and the caller at least. Where a thread cannot be made, the
 /// others do its work.
 fn team<K: Origin + Send + Sync, G: Gate, R: Threads + Wait + Sync>(
     rt: &R,

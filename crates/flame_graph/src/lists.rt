@@ -53,7 +53,7 @@ impl Successors {
     }
 }
 
-/// So many empty lists.
+/// `count` empty lists.
 ///
 /// # Errors
 ///

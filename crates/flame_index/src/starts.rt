@@ -112,7 +112,7 @@ fn between(alloc: Global, values: &[i32], least: i32, greatest: i32) -> Starts
     }
 }
 
-/// So many counts for these values, from the least on.
+/// `extent` counts for these values, from the least on.
 fn counted(alloc: Global, values: &[i32], least: i32, extent: usize) -> Result<Vec<u32>, NoMemory>
     requires ascending { IsAscending int_cmp values.now }
     requires narrow { extent ≤ 2 ^ 32 + 1 }

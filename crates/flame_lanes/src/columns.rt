@@ -47,7 +47,7 @@ pub fn jobs_of(
     Ok(jobs)
 }
 
-/// So many columns without lanes.
+/// `width` columns without lanes.
 fn no_columns(alloc: Global, width: usize) -> Result<Vec<Vec<Lane>>, NoMemory>
     ensures none { IfOk result (λ columns. AreNone columns.items) }
     ensures width { IfOk result (λ columns. length columns.items ≡ width) }

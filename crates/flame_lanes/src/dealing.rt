@@ -9,7 +9,7 @@ use crate::tasks::Task;
 use flame_rows::NoMemory;
 use std::alloc::Global;
 
-/// So many loads without tasks.
+/// `count` loads without tasks.
 fn no_loads(alloc: Global, count: u32) -> Result<Vec<Vec<Task>>, NoMemory>
     ensures count { IfOk result (λ loads. length loads.items ≡ count) }
     ensures none { IfOk result (λ loads. flat_map (λ load. load.items) loads.items ≡ []) }

@@ -102,7 +102,7 @@ impl Status {
         }
     }
 
-    /// So many agents more of the piece of this number ran, and sent these messages, a list for each output, in their order, for
+    /// `ran` agents more of the piece of this number ran, and sent these messages, a list for each output, in their order, for
     /// which there is room; the least of them that faulted did so.
     pub fn add(&mut self, piece: u32, ran: usize, parts: Vec<Vec<Row>>, fault: Option<SimFault>)
         requires there { piece < length (works_of (status_of self.old)) }

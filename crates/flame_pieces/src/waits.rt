@@ -52,7 +52,7 @@ impl Model for Waits {
     ghost invariant = { λ w. AreCounts (map awaited w.things.items) w.counts.items };
 }
 
-/// So many things, none of which is done.
+/// `things` things, none of which is done.
 fn things_of(alloc: Global, things: usize) -> Result<Vec<Awaited>, NoMemory>
     ensures { IfOk result (λ list. map awaited list.items ≡ (unwaited things 0).things) }
 {
@@ -78,7 +78,7 @@ fn lessen(counts: &mut [u32], waiters: &[u32])
 }
 
 impl Waits {
-    /// So many things, none of which is done, and so many that may wait, none of which does.
+    /// `things` things, none of which is done, and `waiting` that may wait, none of which does.
     pub fn new(alloc: Global, things: usize, waiting: usize) -> Result<Waits, NoMemory>
         ensures { IfOk result (λ waits. waits ≡ unwaited things waiting) }
     {

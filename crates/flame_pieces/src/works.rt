@@ -173,7 +173,7 @@ impl Work {
         make_rooms(&mut self.outputs, parts)
     }
 
-    /// So many agents more ran, and sent these messages, a list for each output, in their order, for which there is room; the
+    /// `ran` agents more ran, and sent these messages, a list for each output, in their order, for which there is room; the
     /// least of them that faulted did so.
     pub fn add(&mut self, ran: usize, parts: Vec<Vec<Row>>, fault: Option<SimFault>)
         requires room { WorkHasRoom parts.items self.old }

@@ -44,7 +44,7 @@ impl Writer for Alone {
     }
 }
 
-/// So many workers, of which the caller is one.
+/// `workers` workers, of which the caller is one.
 #[derive(Drop)]
 pub(crate) struct Crew<'a, R: Threads + Sync> {
     pub rt: &'a R,

@@ -15,7 +15,7 @@ use crate::seqs::Seq;
 use std::alloc::Global;
 use std::vec::IntoIter;
 
-/// So many bags of no rows.
+/// `count` bags of no rows.
 fn empty_bags(alloc: Global, count: u32) -> Result<Vec<Bag>, NoMemory>
     ensures { IfOk result (λ bags. bags.items ≡ replicate count []) }
 {

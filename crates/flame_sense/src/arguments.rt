@@ -24,7 +24,7 @@ fn number_in(row: &[i32], start: usize, place: usize) -> i32
     number_at(row, start.saturating_add(place))
 }
 
-/// So many numbers of the row, from this column on.
+/// `length` numbers of the row, from this column on.
 fn numbers_from(alloc: Global, start: usize, length: usize, row: &[i32]) -> Result<Row, NoMemory>
     ensures { IfOk result (λ numbers.
         (column : ℕ) → start ≡ within_reach column → numbers ≡ numbers_from length column row.now) }

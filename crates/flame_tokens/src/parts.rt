@@ -18,7 +18,7 @@ pub(crate) fn number_or(itno: Option<i32>) -> i32
     }
 }
 
-/// So many zeros.
+/// `count` zeros.
 fn zeros(alloc: Global, count: usize) -> Option<Vec<i32>>
     ensures { IfSome result (λ row. row.items ≡ replicate count (pos 0)) }
 {

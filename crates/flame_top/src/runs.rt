@@ -40,7 +40,7 @@ fn version(number: u32) -> Format
     }
 }
 
-/// So many workers, or one.
+/// As many workers, and one at least.
 fn some(workers: u32) -> u32
     ensures { 1 ≤ result }
 {

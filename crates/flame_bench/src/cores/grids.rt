@@ -17,7 +17,7 @@ pub(crate) struct Grid {
 }
 
 impl Grid {
-    /// So many functions, of a type each.
+    /// `functions` functions, of a type each.
     pub(crate) fn wide(functions: u32, agents: u32) -> Grid {
         Grid {
             types: functions,
@@ -27,7 +27,7 @@ impl Grid {
         }
     }
 
-    /// So many functions, of ten types, with boards.
+    /// `functions` functions, of ten types, with boards.
     pub(crate) fn deep(functions: u32, agents: u32) -> Grid {
         Grid {
             types: TYPES,
