@@ -106,7 +106,7 @@ pub fn put_part(alloc: Global, part: Part, field: &mut Vec<field::Board>) -> Res
     Ok(())
 }
 
-/// The board is frozen, of which these are all lanes. So many workers share its messages where they are many.
+/// The board is frozen, of which these are all lanes. `workers` workers share its messages where they are many.
 fn frozen<R: Threads + Wait + Sync>(
     rt: &R,
     alloc: Global,
@@ -141,8 +141,8 @@ fn freeze_into<R: Threads + Wait + Sync>(
     Ok(())
 }
 
-/// The boards of the layer are frozen, one after another, and their messages join those of the field. So many workers, of which
-/// the caller is one, share the messages of a board that has many.
+/// The boards of the layer are frozen, one after another, and their messages join those of the field. `workers` workers, of
+/// which the caller is one, share the messages of a board that has many.
 pub fn freeze_all<R: Threads + Wait + Sync>(
     rt: &R,
     alloc: Global,
