@@ -1,4 +1,5 @@
 pub mod InputMoves
+pub mod FeedMoves
 pub mod Safety
 pub mod Uniqueness
 pub mod Endings

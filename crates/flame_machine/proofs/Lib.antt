@@ -1,4 +1,3 @@
-mod Moving
 mod Stacks
 mod Pops
 mod Inputs

@@ -4,4 +4,3 @@ pub mod FirstColumns
 pub mod Placed
 pub mod Narrowed
 pub mod AsWritten
-pub mod Moving
