@@ -39,7 +39,7 @@ none-left (end ∷ ends) (lane ∷ lanes) all over =
 
 -- ---- each lane
 
-contains-map : {X Y : Type 0} (f : X → Y) (xs : List X) (k : ℕ) (d : X) → k < length xs → Contains (map f xs) (f (get_or xs k d))
+pub contains-map : {X Y : Type 0} (f : X → Y) (xs : List X) (k : ℕ) (d : X) → k < length xs → Contains (map f xs) (f (get_or xs k d))
 contains-map f [] k d less = absurd (omega (arith, less))
 contains-map f (x ∷ xs) zero d less = (0, omega arith, refl)
 contains-map f (x ∷ xs) (suc k) d less =

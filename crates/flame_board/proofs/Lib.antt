@@ -2,5 +2,5 @@ pub mod Weights
 mod Roles
 mod Relays
 mod Handed
-mod EndLists
+pub mod EndLists
 mod Turns

@@ -264,10 +264,10 @@ seen_when seen events core same = λ i. record seen { core = same i }
 
 -- ---- what a core comes to
 
-pub ends_so : EveryOrderIsTheIteration → (seen : Seen) → IsAccepted seen.source → IsReached seen
+pub ending-iteration : EveryOrderIsTheIteration → (seen : Seen) → IsAccepted seen.source → IsReached seen
     → is_complete seen.source.model seen.core ≡ true
     → ending (round_in seen) seen.core ≡ iteration seen.source seen.world seen.iteration seen.fuel
-ends_so every seen accepted reached complete =
+ending-iteration every seen accepted reached complete =
     let round = round_in seen in
     let start = start_in seen in
     let left = reached.leads.left in
@@ -295,7 +295,7 @@ finished every seen entry same accepted reached complete r ends =
     (λ turn. turn ≡ iteration entry.source entry.world entry.iteration entry.fuel)
     (λ turn is.
     is
-    ∙ ends_so every seen accepted reached (ap (λ (s : Seen). is_complete s.source.model s.core) same ∙ complete)
+    ∙ ending-iteration every seen accepted reached (ap (λ (s : Seen). is_complete s.source.model s.core) same ∙ complete)
     ∙ ap (λ (s : Seen). iteration s.source s.world s.iteration s.fuel) same)
     ends
 

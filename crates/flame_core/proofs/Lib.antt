@@ -1,6 +1,6 @@
 mod InOrders
 mod Openings
-mod Comings
+pub mod Comings
 mod LeastRanks
 mod ShutRanks
 mod Finished
@@ -10,7 +10,7 @@ mod Nexts
 mod Running
 mod Allowed
 mod SharedPieces
-mod Done
+pub mod Done
 mod SameSeen
 mod Routed
 mod TakenIn

@@ -2,7 +2,7 @@
 use Rattle.std.proofs.Common.{◌≡◌, ℕ, zero, suc, ◌+◌, ◌<◌, ◌≤◌, Bool, true, false, List, [], ◌∷◌, ◌++◌, length, map, take, get_or, replicate, Option, Some, None, refl, sym, ap, ◌∙◌, subst, arith, ⊎_elim}
 use Rattle.std.specs.Prelude.{◌==◌, ◌&&◌, ◌||◌, nat_lt, slice_get, slice_index_or}
 use Rattle.std.specs.List.{All, cons_option, filter_map, list_any}
-use Rattle.std.proofs.lemmas.Bool.{cases_eq, cases_lt, eq-eqb, ne_eqb, lt-ltb, le-ltb, ltb-true, and_parts}
+use Rattle.std.proofs.lemmas.Bool.{cases_eq, cases_lt, eq-eqb, ne_eqb, lt-ltb, le-ltb, ltb-true, and_parts, or_right}
 use Rattle.std.proofs.lemmas.List.{take_more}
 use Rattle.std.proofs.lemmas.List.Folds.{list_any-append}
 use Rattle.std.proofs.lemmas.Option.{slice_get_within}
@@ -135,11 +135,7 @@ each_edge (first ∷ edges) zero e less at =
     ap (λ (x : Edge). ((e.before == x.before) && (e.after == x.after)) || is_edge edges e.before e.after) (sym at)
     ∙ (λ i. (eq-eqb e.before e.before refl i && eq-eqb e.after e.after refl i) || is_edge edges e.before e.after)
 each_edge (first ∷ edges) (suc k) e less at =
-    or_later ((e.before == first.before) && (e.after == first.after)) (is_edge edges e.before e.after) (each_edge edges k e (omega (arith, less)) at)
-  where
-    or_later : (a b : Bool) → b ≡ true → (a || b) ≡ true
-    or_later true b holds = refl
-    or_later false b holds = holds
+    or_right ((e.before == first.before) && (e.after == first.after)) (is_edge edges e.before e.after) (each_edge edges k e (omega (arith, less)) at)
 
 pub edges_between : (model : Model) (k : ℕ) (e : Edge) → k < length (edges_of model) → e ≡ get_or (edges_of model) k e → Between (function_count model) e
 edges_between model k e less at =

@@ -27,7 +27,7 @@ use Rattle.flame_events.proofs.Handing.{sound_hand_in}
 
 -- ---- a function is shut
 
-done_waits : (o : Option SimFault) → is_waiting (done_with o) ≡ false
+pub done_waits : (o : Option SimFault) → is_waiting (done_with o) ≡ false
 done_waits None = refl
 done_waits (Some fault) = refl
 

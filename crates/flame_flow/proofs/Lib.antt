@@ -9,7 +9,6 @@ mod Settling
 mod Bringing
 mod Opening
 mod FlowSteps
-mod Ended
 mod Readiness
 mod DueBoards
 pub mod SentFlows

@@ -23,7 +23,7 @@ use Rattle.flame_events.proofs.Spots.{get_there}
 use Rattle.flame_events.proofs.Absorbing.{get_set}
 use Rattle.flame_events.proofs.CoreWidths.{status_below}
 use Rattle.flame_events.proofs.Sound.{can_open, waiting_is}
-use Rattle.flame_events.proofs.Legality.{may_shut_is}
+use Rattle.flame_events.proofs.Legality.{done_waits, may_shut_is}
 use Rattle.flame_events.proofs.KeptCores.{KeptWork, kept_core, open_there}
 use Rattle.flame_orders.proofs.Untouched.{other_functions_stay}
 use Rattle.flame_orders.proofs.Lasting.{over_at, none_left}
@@ -164,11 +164,7 @@ module _ (round : Round) (pieces : ℕ) (core : Core) where
     shut_waits f legal =
         ap is_waiting (get_or-set_same core.statuses f (done_with (fault_in (works_of (status_of core f)))) Waiting
         (open_there core f (works_of (status_of core f)) (may_shut_is (outputs_of round.source.model f) (status_of core f) legal).0))
-        ∙ done (fault_in (works_of (status_of core f)))
-      where
-        done : (o : Option SimFault) → is_waiting (done_with o) ≡ false
-        done None = refl
-        done (Some fault) = refl
+        ∙ done_waits (fault_in (works_of (status_of core f)))
 
     pub whole_shut : (f : ℕ) → is_legal round.source.model core (event.Shut f) ≡ true → ArePiecesWhole round.source.model core
         → ArePiecesWhole round.source.model (after round pieces core (event.Shut f))

@@ -1,5 +1,5 @@
 -- The lanes of a layer, which workers fill row by row, column by column.
-use Rattle.std.proofs.Common.{◌≡◌, ℕ, zero, suc, ◌+◌, ◌<◌, cond, List, [], ◌∷◌, ◌++◌, Vec, map, length, get_or, Some, refl, sym, ap, ◌∙◌, subst, arith}
+use Rattle.std.proofs.Common.{◌≡◌, ℕ, zero, suc, ◌+◌, cond, List, [], ◌∷◌, ◌++◌, Vec, map, length, get_or, Some, refl, sym, ap, ◌∙◌, subst, arith}
 use Rattle.std.specs.Prelude.{slice_get}
 use Rattle.std.specs.Global.{Global}
 use Rattle.std.specs.List.{All, AllZip, Contains, flat_map}
@@ -14,6 +14,7 @@ use Rattle.flame_board.specs.declared.boards.Board.{Board}
 use Rattle.flame_board.specs.declared.lanes.Lane.{Lane}
 use Rattle.flame_board.specs.SeenBoards.{AreLanesOf, IsLaneOf}
 use Rattle.flame_board.specs.SeenLanes.{weigh_lanes}
+use Rattle.flame_board.proofs.EndLists.{contains-map}
 use Rattle.flame_board.proofs.Weights.{weigh_lanes-lane}
 use Rattle.flame_lanes.specs.declared.jobs.Done.{Done}
 use Rattle.flame_lanes.specs.declared.jobs.Job.{Job}
@@ -212,12 +213,6 @@ never-handed = none-handed
 -- each lane of each column is one of its board
 abbrev HaveLanes : List Board → Columns → Type 0
 HaveLanes boards columns = AllZip (λ board (column : Column). All (IsLaneOf board) column.items) boards columns
-
-contains-map : {X Y : Type 0} (f : X → Y) (xs : List X) (k : ℕ) (d : X) → k < length xs → Contains (map f xs) (f (get_or xs k d))
-contains-map f [] k d less = absurd (omega (arith, less))
-contains-map f (x ∷ xs) zero d less = (0, omega arith, refl)
-contains-map f (x ∷ xs) (suc k) d less =
-    let rest = contains-map f xs k d (omega (arith, less)) in (suc rest.0, omega (arith, rest.1), rest.2)
 
 all-lanes : (board : Board) (lanes : List Lane) → AreLanesOf board lanes → All (IsLaneOf board) lanes
 all-lanes board lanes all k d less =

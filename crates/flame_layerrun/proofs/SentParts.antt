@@ -1,7 +1,6 @@
 -- What the parts of a task weigh, by their messages.
-use Rattle.std.proofs.Common.{◌≡◌, ℕ, zero, suc, ◌+◌, ◌≤◌, ◌||◌, Bool, true, false, cond, List, [], ◌∷◌, ◌++◌, map, refl, ap, ◌∙◌, arith}
+use Rattle.std.proofs.Common.{◌≡◌, ℕ, ◌+◌, ◌||◌, Bool, true, false, cond, List, [], ◌∷◌, map, refl, ap, ◌∙◌, arith}
 use Rattle.std.specs.Prelude.{ℤ, ◌==◌}
-use Rattle.std.specs.List.{All}
 use Rattle.std.proofs.lemmas.Bool.{eqb-true}
 use Rattle.flame_rows.specs.Bags.{weigh}
 use Rattle.flame_rows.proofs.BagLaws.{weigh-ascending}
@@ -46,10 +45,3 @@ pub messages-parts : (piece : Piece) (sent : List Sent) (outputs : List ℕ)
     → map (λ (part : Part). part.message) (map (part_for piece sent) outputs) ≡ outputs
 messages-parts piece sent [] = refl
 messages-parts piece sent (output ∷ outputs) = ap (λ numbers. output ∷ numbers) (messages-parts piece sent outputs)
-
--- all of the messages are all of the parts'
-pub all-mapped : {X Y : Type 0} (P : Y → Type 0) (f : X → Y) (xs : List X) → All P (map f xs) → All (λ x. P (f x)) xs
-all-mapped P f [] all k d less = absurd (omega (arith, less))
-all-mapped P f (x ∷ xs) all zero d less = all 0 (f d) (omega arith)
-all-mapped P f (x ∷ xs) all (suc k) d less =
-    all-mapped P f xs (λ place other within. all (suc place) other (omega (arith, within))) k d (omega (arith, less))

@@ -33,7 +33,7 @@ use Rattle.flame_layerrun.specs.LayerTasks.{AreListed, FitsTask}
 use Rattle.flame_layerrun.specs.LayerWork.{AreDone, AreOwn, CanDo, weigh_all_sent, weigh_sent}
 use Rattle.flame_layerrun.proofs.ColumnedLanes.{AreFilled, AreFresh, IsOnce, never-handed, once-handed}
 use Rattle.flame_layerrun.proofs.SentWeights.{by_place-same, grouped}
-use Rattle.flame_layerrun.proofs.SentParts.{all-mapped}
+use Rattle.flame_lanes.proofs.Columned.{All-unmapped}
 
 -- ---- lists
 
@@ -94,7 +94,7 @@ module _ (round : run.Round) (readings : List Reading) where
   can-all messages boards tasks jobs fit listed from long rows k d less =
       let L : Task → Type 0 = λ task. All (λ message. is_in message messages ≡ true) (outputs_of round.program.now.model task.function) in
       let dealt = flat_map (λ (job : Job). job.tasks) jobs in
-      let row = all-mapped (λ row. AreOwn boards row × (length row ≡ length boards)) (λ (job : Job). job.lanes) jobs rows k d less in
+      let row = All-unmapped (λ row. AreOwn boards row × (length row ≡ length boards)) (λ (job : Job). job.lanes) jobs rows k d less in
       record {
         fit = all-lists (FitsTask round readings) (λ (job : Job). job.tasks) jobs (from-all (FitsTask round readings) tasks dealt fit from) k d less;
         listed = all-lists L (λ (job : Job). job.tasks) jobs (from-all L tasks dealt listed from) k d less;

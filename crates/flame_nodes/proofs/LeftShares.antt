@@ -6,6 +6,7 @@ use Rattle.std.proofs.lemmas.List.Concat.{flat_map-append}
 use Rattle.std.proofs.lemmas.List.Elements.{All-head, All-tail, filter_map-append}
 use Rattle.flame_rows.specs.Bags.{ascending, merge, weigh}
 use Rattle.flame_rows.proofs.BagLaws.{weigh-append, weigh-ascending}
+use Rattle.flame_field.proofs.Gathered.{merge-none}
 use Rattle.flame_rows.proofs.Merging.{ascending-append, ascending-ascending, merge-ascending, same_bag}
 use Rattle.flame_spec.specs.Below.{HasNoTwice, is_in}
 use Rattle.flame_spec.specs.declared.outcomes.Born.{Born}
@@ -60,18 +61,15 @@ module _ (iteration : ℤ) (function : ℕ) (run : List ℤ → Outcome) (output
       record {
         survivors_are =
             are.survivors_are
-            ∙ sym (survive run agents [] (ascending rows) whole ∙ none-more (filter_map (λ memory. kept (run memory)) agents));
+            ∙ sym (survive run agents [] (ascending rows) whole ∙ merge-none (filter_map (λ memory. kept (run memory)) agents));
         messages_are = λ message. are.messages_are message ∙ by message (is_in message outputs)
-            (sym (send run message agents [] (ascending rows) whole ∙ none-more (messages_of (sent_from run agents) message)));
+            (sym (send run message agents [] (ascending rows) whole ∙ merge-none (messages_of (sent_from run agents) message)));
         births_are = λ agent.
             are.births_are agent
-            ∙ sym (bear run agent agents [] (ascending rows) whole ∙ none-more (births_of (born_from run agents) agent));
+            ∙ sym (bear run agent agents [] (ascending rows) whole ∙ merge-none (births_of (born_from run agents) agent));
         fault_is = are.fault_is ∙ ap (least_fault iteration function run) (same ∙ sym (ascending-ascending rows));
       }
     where
-      none-more : (rows : Rows) → merge (ascending rows) [] ≡ ascending rows
-      none-more rows = ap ascending (append-nil (ascending rows)) ∙ ascending-ascending rows
-
       by : (message : ℕ) (b : Bool)
           → ascending (messages_of (sent_from run agents) message) ≡ ascending (messages_of (sent_from run (ascending rows)) message)
           → ascending (cond b (messages_of (sent_from run agents) message) []) ≡ ascending (cond b (messages_of (sent_from run (ascending rows)) message) [])

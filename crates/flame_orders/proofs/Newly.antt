@@ -27,7 +27,7 @@ use Rattle.flame_events.proofs.Spots.{get_there}
 use Rattle.flame_events.proofs.Serial.{is_in-self, is_in-later}
 use Rattle.flame_events.proofs.Works.{all_of_list, place_in, kept_is_output, without, part_in-without, part_in-without-else, part_in-with_sent, more_of}
 use Rattle.flame_events.proofs.Sound.{can_open}
-use Rattle.flame_events.proofs.Legality.{may_shut_is}
+use Rattle.flame_events.proofs.Legality.{done_waits, may_shut_is}
 use Rattle.flame_events.proofs.CoreWidths.{status_below}
 use Rattle.flame_events.proofs.Absorbing.{get_set}
 use Rattle.flame_events.proofs.KeptCores.{KeptWork, KeptCore, kept_core, open_there}
@@ -161,10 +161,6 @@ handed_is round pieces core f k m legal = go (part_in outs found.work.parts m) r
           (ap (λ o. status_of (handed_in f k m (outputs_of round.source.model f) o core) f) found.there
           ∙ ap (λ o. status_of (joined_board f k m (outputs_of round.source.model f) found.work o core) f) is);
     }
-
-done_waits : (o : Option SimFault) → is_waiting (done_with o) ≡ false
-done_waits None = refl
-done_waits (Some fault) = refl
 
 done_works : (o : Option SimFault) → works_of (done_with o) ≡ []
 done_works None = refl

@@ -9,7 +9,7 @@ use Rattle.flame_spec.specs.declared.outcomes.Sent.{Sent}
 use Rattle.flame_spec.proofs.NoTwice.{later-once}
 use Rattle.flame_world.specs.AgentRuns.{messages_of}
 use Rattle.flame_events.proofs.Holding.{messages_of-append}
-use Rattle.flame_pieces.proofs.KeptParts.{place-cons, apart_head, stands, stands_behind}
+use Rattle.flame_pieces.proofs.KeptParts.{place-cons, apart_head, some_or_none, none_or_some, stands, stands_behind}
 
 one_message : (one : Sent) (message : ℕ) → messages_of (one ∷ []) message ≡ cond (one.message == message) (one.row ∷ []) []
 one_message one message =
@@ -86,18 +86,10 @@ nowhere one (output ∷ outputs) past message there same =
 
 -- ---- by the place that is found
 
-found_or_none : (b : Bool) (k i : ℕ) → cond b (Some k) None ≡ Some i → (b ≡ true) × (k ≡ i)
-found_or_none true k i is = let same : k ≡ i = cc in (refl, same)
-found_or_none false k i is = absurd cc
-
-none_or_found : (b : Bool) (k : ℕ) → (let none : Option ℕ = None in cond b (Some k) None ≡ none) → b ≡ false
-none_or_found true k is = absurd cc
-none_or_found false k is = refl
-
 pub found_within : (message : ℕ) (outputs : List ℕ) (k : ℕ) → position (λ o. o == message) outputs ≡ Some k → k < length outputs
 found_within message outputs k found =
     let place = place_of message outputs in
-    let parts = found_or_none (nat_lt place (length outputs)) place k found in
+    let parts = some_or_none (nat_lt place (length outputs)) place k found in
     omega (arith, ltb-true place (length outputs) parts.0, parts.1)
 
 pub found_more : (sent : List Sent) (one : Sent) (outputs : List ℕ) (k : ℕ) → HasNoTwice outputs
@@ -106,7 +98,7 @@ pub found_more : (sent : List Sent) (one : Sent) (outputs : List ℕ) (k : ℕ) 
     ≡ map (messages_of (sent ++ one ∷ [])) outputs
 found_more sent one outputs k once found =
     let place = place_of one.message outputs in
-    let parts = found_or_none (nat_lt place (length outputs)) place k found in
+    let parts = some_or_none (nat_lt place (length outputs)) place k found in
     let within = ltb-true place (length outputs) parts.0 in
     at_place sent one outputs k once (omega (arith, within, parts.1)) parts.1
 
@@ -115,5 +107,5 @@ pub missing_more : (sent : List Sent) (one : Sent) (outputs : List ℕ)
     → map (messages_of sent) outputs ≡ map (messages_of (sent ++ one ∷ [])) outputs
 missing_more sent one outputs missing =
     let place = place_of one.message outputs in
-    let past = none_or_found (nat_lt place (length outputs)) place missing in
+    let past = none_or_some (nat_lt place (length outputs)) place missing in
     none_more sent one outputs (nowhere one outputs (ltb-false place (length outputs) past))

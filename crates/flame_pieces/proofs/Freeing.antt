@@ -2,7 +2,7 @@
 use Rattle.std.proofs.Common.{◌≡◌, ℕ, zero, suc, ◌<◌, ◌≤◌, Bool, true, false, cond, List, [], ◌∷◌, ◌++◌, length, take, replicate, refl, sym, ap, ◌∙◌, arith, ⊎_elim, add-one, take_all, length-set, get_or-set_same, get_or-set_other}
 use Rattle.std.specs.Prelude.{◌==◌, ◌||◌, ◌&&◌, not, slice_index_or, slice_set}
 use Rattle.std.specs.List.{All, list_all}
-use Rattle.std.proofs.lemmas.Bool.{eq-eqb, ne_eqb, cases_eq, and_parts, and_from}
+use Rattle.std.proofs.lemmas.Bool.{eq-eqb, ne_eqb, cases_eq, and_parts, and_from, or_right}
 use Rattle.std.proofs.lemmas.List.{length-replicate}
 use Rattle.std.proofs.lemmas.List.Elements.{All-head, All-tail}
 use Rattle.std.proofs.lemmas.List.Folds.{list_all_more, list_all-append, list_any-append}
@@ -77,9 +77,6 @@ all_these done (first ∷ these) n within all =
     and_from (done first) (list_all done these)
     (all first (All-head (λ k. k < n) first these within) (ap (λ t. t || is_in first these) (eq-eqb first first refl)))
     (all_these done these n (All-tail (λ k. k < n) first these within) (λ k less among. all k less (or_right (first == k) (is_in k these) among)))
-  where
-    or_right : (a b : Bool) → b ≡ true → (a || b) ≡ true
-    or_right a b holds = elim a as (λ t. (t || b) ≡ true) [ true ↦ refl | false ↦ holds ]
 
 all_below_these : (done : ℕ → Bool) (these : List ℕ) → list_all done these ≡ true → (n : ℕ) → list_all done (all_below (λ k. is_in k these) n) ≡ true
 all_below_these done these all zero = refl

@@ -113,11 +113,11 @@ place_is message [] = refl
 place_is message (output ∷ outputs) =
     ap (λ n. cond (not (output.message == message)) (1 + n) 0) (place_is message outputs)
 
-some_or_none : (b : Bool) (k i : ℕ) → cond b (Some k) None ≡ Some i → (b ≡ true) × (k ≡ i)
+pub some_or_none : (b : Bool) (k i : ℕ) → cond b (Some k) None ≡ Some i → (b ≡ true) × (k ≡ i)
 some_or_none true k i is = let same : k ≡ i = cc in (refl, same)
 some_or_none false k i is = absurd cc
 
-none_or_some : (b : Bool) (k : ℕ) → (let none : Option ℕ = None in cond b (Some k) None ≡ none) → b ≡ false
+pub none_or_some : (b : Bool) (k : ℕ) → (let none : Option ℕ = None in cond b (Some k) None ≡ none) → b ≡ false
 none_or_some true k is = absurd cc
 none_or_some false k is = refl
 

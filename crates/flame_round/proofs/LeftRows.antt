@@ -1,6 +1,6 @@
 -- What agents leave belongs to types and messages of the model.
-use Rattle.std.proofs.Common.{◌≡◌, ℕ, zero, suc, ◌<◌, List, [], ◌∷◌, length, refl, arith}
-use Rattle.std.specs.Prelude.{ℤ, slice_index_or}
+use Rattle.std.proofs.Common.{◌≡◌, ℕ, ◌<◌, List, [], ◌∷◌, length, refl}
+use Rattle.std.specs.Prelude.{ℤ}
 use Rattle.std.specs.List.{All}
 use Rattle.flame_rows.proofs.Lists.{slice_get-IsSomeAnd}
 use Rattle.flame_spec.specs.declared.outcomes.Effect.{Effect}
@@ -13,15 +13,7 @@ use Rattle.flame_meaning.specs.Outcomes.{outcome, readings_of}
 use Rattle.flame_meaning.specs.RangeLaws.{Each}
 use Rattle.flame_meaning.proofs.Leavings.{rows_have_widths}
 use Rattle.flame_world.specs.AgentRuns.{sent_by, sent_from}
-use Rattle.flame_world.proofs.Eachs.{all_each, each_flat_map}
-
-pub each_at : {X : Type 0} (P : X → Type 0) (xs : List X) → Each P xs → All P xs
-each_at P [] all = λ k d less. absurd (omega (arith, less))
-each_at P (x ∷ xs) all = at (each_at P xs all.1)
-  where
-    at : All P xs → (k : ℕ) (d : _) → k < suc (length xs) → P (slice_index_or (x ∷ xs) k d)
-    at later zero d less = all.0
-    at later (suc k) d less = later k d (omega (arith, less))
+use Rattle.flame_world.proofs.Eachs.{all_each, each_all, each_flat_map}
 
 each_of : {X : Type 0} (P : X → Type 0) → ((x : X) → P x) → (xs : List X) → Each P xs
 each_of P all [] = tt
@@ -45,6 +37,6 @@ module _ (source : Source) (function : ℕ) (boards : List (List (List ℤ))) (c
 
   pub sent-within : (agents : List (List ℤ)) → All (λ (s : Sent). s.message < length source.model.messages) (sent_from run agents)
   sent-within agents =
-      each_at (λ (s : Sent). s.message < length source.model.messages) (sent_from run agents)
+      each_all (λ (s : Sent). s.message < length source.model.messages) (sent_from run agents)
       (each_flat_map (λ memory. Unit {0}) (λ (s : Sent). s.message < length source.model.messages) (λ memory. sent_by (run memory)) (λ memory _. sent_at memory) agents
       (each_of (λ memory. Unit {0}) (λ memory. tt) agents))

@@ -24,25 +24,21 @@ Rows = List (List ℤ)
 
 -- ---- an order does not matter
 
--- rows are their bag and nothing more
-all-of-it : (rows : Rows) → merge (ascending rows) [] ≡ ascending rows
-all-of-it rows = merge-none rows
-
 -- what parts leave together is left in any order
 module _ (run : List ℤ → Outcome) (rows : Rows) where
   survivors-any : SurvivorsMerge → survivors run rows ≡ survivors run (ascending rows)
   survivors-any merges =
-      merges run (ascending rows) [] rows (all-of-it rows)
+      merges run (ascending rows) [] rows (merge-none rows)
       ∙ merge-none (filter_map (λ memory. kept (run memory)) (ascending rows))
 
   messages-any : MessagesMerge → (message : ℕ) → message_bag run message rows ≡ message_bag run message (ascending rows)
   messages-any merges message =
-      merges run message (ascending rows) [] rows (all-of-it rows)
+      merges run message (ascending rows) [] rows (merge-none rows)
       ∙ merge-none (messages_of (sent_from run (ascending rows)) message)
 
   births-any : BirthsMerge → (agent : ℕ) → birth_bag run agent rows ≡ birth_bag run agent (ascending rows)
   births-any merges agent =
-      merges run agent (ascending rows) [] rows (all-of-it rows)
+      merges run agent (ascending rows) [] rows (merge-none rows)
       ∙ merge-none (births_of (born_from run (ascending rows)) agent)
 
 -- bags join by what they are

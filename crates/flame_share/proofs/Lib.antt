@@ -1,4 +1,3 @@
 mod Loops
 mod PartedMessages
-mod RunPieces
 pub mod SharedPrograms

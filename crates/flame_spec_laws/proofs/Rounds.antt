@@ -4,7 +4,7 @@ use Rattle.std.proofs.Common.{get_or, refl, sym, ap, ◌∙◌, subst, arith, tr
 use Rattle.std.proofs.Common.{inl, inr, ⊎_elim, min}
 use Rattle.std.specs.Prelude.{◌==◌, ◌||◌}
 use Rattle.std.specs.List.{position_or_len}
-use Rattle.std.proofs.lemmas.Bool.{eqb-true, eq-eqb, ne_eqb, false≢true, cases_eq, cases_lt, not-true}
+use Rattle.std.proofs.lemmas.Bool.{eqb-true, eq-eqb, ne_eqb, false≢true, cases_eq, cases_lt, not-true, or_right}
 use Rattle.std.proofs.lemmas.List.{append_assoc, append-nil, reverse-append, take-append-drop, drop_more}
 use Rattle.std.proofs.lemmas.List.{same_from_push}
 use Rattle.std.proofs.lemmas.List.Sums.{passes_at_first, sum_by-cons}
@@ -150,7 +150,7 @@ least_there m (x ∷ xs) = go (x == least_of (min m x) xs) (min_cases m x) (leas
     go b c h = ⊎_elim
         (λ e. left (m == least_of (min m x) xs) (x == least_of (min m x) xs) (is_in (least_of (min m x) xs) xs)
         (sym (ap (λ k. (k == least_of (min m x) xs) || is_in (least_of (min m x) xs) xs) e) ∙ h))
-        (λ e. right (m == least_of (min m x) xs) ((x == least_of (min m x) xs) || is_in (least_of (min m x) xs) xs)
+        (λ e. or_right (m == least_of (min m x) xs) ((x == least_of (min m x) xs) || is_in (least_of (min m x) xs) xs)
         (sym (ap (λ k. (k == least_of (min m x) xs) || is_in (least_of (min m x) xs) xs) e) ∙ h))
         c
       where
@@ -158,10 +158,6 @@ least_there m (x ∷ xs) = go (x == least_of (min m x) xs) (min_cases m x) (leas
         left true b t h = refl
         left false true t h = refl
         left false false t h = h
-
-        right : (a b : Bool) → b ≡ true → (a || b) ≡ true
-        right true b h = refl
-        right false b h = h
 
 -- ---- the place of a member
 

@@ -1,26 +1,14 @@
 -- What a complete core comes to.
 use Rattle.std.proofs.Common.{◌≡◌, ℕ, ◌+◌, Bool, true, cond, List, sym, ap, ◌∙◌}
 use Rattle.flame_spec.specs.Accepted.{IsAccepted}
-use Rattle.flame_route.proofs.Places.{zip-length}
 use Rattle.flame_world.specs.declared.turns.Turn.{Turn}
 use Rattle.flame_world.specs.declared.verdicts.Verdict.TheVariants.{Incomplete}
 use Rattle.flame_world.specs.Iterations.{iteration}
 use Rattle.flame_events.specs.CoreEnds.{is_complete, ending}
 use Rattle.flame_events.specs.EveryOrder.{EveryOrderIsTheIteration}
 use Rattle.flame_core.specs.SeenCores.{Seen, IsReached, round_in}
+use Rattle.flame_core.proofs.Comings.{ending-iteration}
 use Rattle.flame_trace.specs.TraceVerdicts.{turn_verdict, end_verdict}
-
--- the end of a complete core is the iteration
-pub ending-iteration : EveryOrderIsTheIteration → (seen : Seen) → IsAccepted seen.source → IsReached seen
-    → is_complete seen.source.model seen.core ≡ true
-    → ending (round_in seen) seen.core ≡ iteration seen.source seen.world seen.iteration seen.fuel
-ending-iteration every seen accepted reached complete =
-    let left = reached.leads.left in
-    let many = sym (zip-length _ seen.source.model.agents seen.world.agents reached.fits.agents) in
-    ap (ending (round_in seen)) left
-    ∙ (every seen.source seen.world seen.iteration seen.fuel seen.pieces reached.events accepted many reached.some
-    reached.leads.legal).0
-    (ap (is_complete seen.source.model) (sym left) ∙ complete)
 
 -- the verdict on the end of a complete core, of which the iteration is this turn
 pub ended-is : EveryOrderIsTheIteration → (seen : Seen) → IsAccepted seen.source → IsReached seen

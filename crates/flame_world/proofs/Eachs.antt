@@ -9,6 +9,11 @@ pub all_each : {X : Type 0} (P : X → Type 0) (xs : List X) → All P xs → Ea
 all_each P [] all = tt
 all_each P (x ∷ xs) all = (all 0 x (omega arith), all_each P xs (λ k d h. all (suc k) d (omega (arith, h))))
 
+pub each_all : {X : Type 0} (P : X → Type 0) (xs : List X) → Each P xs → All P xs
+each_all P [] all k d less = absurd (omega (arith, less))
+each_all P (x ∷ xs) all zero d less = all.0
+each_all P (x ∷ xs) all (suc k) d less = each_all P xs all.1 k d (omega (arith, less))
+
 pub mapped : {X Y : Type 0} (Q : Y → Type 0) (f : X → Y) → ((x : X) → Q (f x)) → (xs : List X) → Each Q (map f xs)
 mapped Q f all [] = tt
 mapped Q f all (x ∷ xs) = (all x, mapped Q f all xs)

@@ -1,21 +1,20 @@
-use Rattle.std.proofs.Common.{◌≡◌, ℕ, ◌∷◌, [], ◌∙◌, List, ap, sym, subst}
+use Rattle.std.proofs.Common.{ℕ, ◌∷◌, [], ◌∙◌, ap, sym, subst}
 use Rattle.std.specs.Prelude.{IsTrue}
 use Rattle.std.specs.List.{All}
 use Rattle.flame_spec.specs.Below.{is_in}
 use Rattle.flame_world.specs.declared.pieces.Part.{Part}
 use Rattle.flame_world.specs.declared.pieces.Rest.{Rest}
 use Rattle.flame_round.specs.KeptRounds.{round_of}
-use Rattle.flame_lanes.specs.declared.jobs.Left.{Left}
 use Rattle.flame_layerrun.specs.LayerWork.{weigh_all_sent, weigh_of_type}
 use Rattle.flame_layerrun.proofs.DoneJobs.{weigh_all_sent-one}
 use Rattle.flame_layerrun.proofs.LongerLanes.{longer-length, longer-own, longer-told}
-use Rattle.flame_layerrun.proofs.SentParts.{all-mapped}
+use Rattle.flame_lanes.proofs.Columned.{All-unmapped}
 use Rattle.flame_layerrun.proofs.working.work_on.Goals as goal
 
 pub hand_in_all-requires-clause-listed : goal.hand_in_all-requires-clause-listed
 hand_in_all-requires-clause-listed g c = λ lifetimes outlives.
     let listed = λ (message : ℕ). IsTrue (is_in message c.args.floor.now.messages.now) in
-    all-mapped listed (λ (part : Part). part.message) c.in_ok-rest.parts.items
+    All-unmapped listed (λ (part : Part). part.message) c.in_ok-rest.parts.items
     (subst (All listed) (sym c.in_ok-rest.ensures.outputs) c.requires.listed)
 
 pub returns-clause-left : goal.returns-clause-left

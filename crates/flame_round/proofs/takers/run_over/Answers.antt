@@ -5,13 +5,13 @@ use Rattle.std.proofs.lemmas.Result.{IfOk-weaker}
 use Rattle.flame_spec.specs.Columns.{width}
 use Rattle.flame_meaning.specs.Outcomes.{outcome}
 use Rattle.flame_leaving.specs.Leavings.{AreLeft}
-use Rattle.flame_round.proofs.LeftRows.{each_at}
+use Rattle.flame_world.proofs.Eachs.{each_all}
 use Rattle.flame_round.proofs.takers.run_over.Goals as goal
 
 pub run_named-requires-clause-fits : goal.run_named-requires-clause-fits
 run_named-requires-clause-fits c =
     let fits = c.requires in
-    let wide = each_at (λ (row : List ℤ). length row ≡ width fits.place.type.memory) c.args.agents.now fits.memories in
+    let wide = each_all (λ (row : List ℤ). length row ≡ width fits.place.type.memory) c.args.agents.now fits.memories in
     λ k d less. record {
       place = fits.place;
       there = fits.there;

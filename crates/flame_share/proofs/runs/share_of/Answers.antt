@@ -10,14 +10,14 @@ use Rattle.flame_meaning.specs.Outcomes.{place_of, outputs_at}
 use Rattle.flame_world.specs.declared.pieces.Rest.{Rest}
 use Rattle.flame_world.specs.AgentRuns.{born_from, kept, least_fault, sent_from}
 use Rattle.flame_world.specs.Meaning.{outcome_under, part_for}
+use Rattle.flame_world.proofs.Eachs.{each_all}
 use Rattle.flame_agent.specs.FunctionFits.{FitsFunction}
-use Rattle.flame_share.proofs.RunPieces.{each-at}
 use Rattle.flame_share.proofs.runs.share_of.Goals as goal
 
 pub run_agents-requires-clause-fits : goal.run_agents-requires-clause-fits
 run_agents-requires-clause-fits c =
     let fits = c.requires.fits in
-    let wide = each-at (λ (row : List ℤ). length row ≡ width fits.place.type.memory) c.args.piece.agents fits.memories in
+    let wide = each_all (λ (row : List ℤ). length row ≡ width fits.place.type.memory) c.args.piece.agents fits.memories in
     subst
     (All (λ memory. FitsFunction c.args.program.now.model c.args.piece.function c.args.setting memory))
     (sym c.rows-rows.ensures.rows)

@@ -1,7 +1,7 @@
 -- A share comes, or nothing changes, or the flow is short.
 use Rattle.std.proofs.Common.{refl}
 use Rattle.flame_flow.specs.FlowCalls.{NotSettled}
-use Rattle.flame_flow.proofs.Ended.{no_memory_is}
+use Rattle.flame_core.proofs.Done.{no_memory_is}
 use Rattle.flame_flow.proofs.flows.Flow.settle.Goals as goal
 
 pub returns-in_err-bring-clause-err : goal.returns-in_err-bring-clause-err

@@ -10,7 +10,7 @@ use Rattle.flame_core.specs.CoreCalls.{allows}
 use Rattle.flame_flow.specs.FlowCalls.{CanSettle, NotSettled}
 use Rattle.flame_flow.specs.SeenFlows.{SeenFlow}
 use Rattle.flame_flow.specs.ToldCores.{ToldCore}
-use Rattle.flame_flow.proofs.Ended.{no_memory_is}
+use Rattle.flame_core.proofs.Done.{no_memory_is}
 use Rattle.flame_flow.proofs.FlowSteps.{due_absorbs, absorbs_legal}
 use Rattle.flame_flow.proofs.flows.Flow.take_in.Goals as goal
 

@@ -1,5 +1,5 @@
 -- One run after another is given to its piece.
-use Rattle.std.proofs.Common.{◌≡◌, ◌+◌, ◌<◌, ◌≤◌, List, [], ◌∷◌, Vec, Global, suc, length, map, drop, sym, ap, ◌∙◌, subst, arith, add-one, length-set}
+use Rattle.std.proofs.Common.{◌≡◌, ◌+◌, ◌<◌, ◌≤◌, List, [], Vec, Global, suc, length, map, drop, sym, ap, ◌∙◌, subst, arith, add-one, length-set}
 use Rattle.std.specs.Prelude.{ℤ, slice_set}
 use Rattle.std.specs.List.{All}
 use Rattle.std.specs.Vec.{vec_capacity}
