@@ -4,7 +4,7 @@
 
 use crate::beginnings::Beginning;
 use crate::changes::{Change, share_in};
-use crate::makings::Making;
+use crate::makings::{Made, Making};
 use flame_core::{Core, StepFault};
 use flame_rows::{Bag, NoMemory, number};
 use flame_world::Piece;
@@ -39,28 +39,41 @@ fn boards_told(alloc: Global, core: &Core<'_>, messages: u32) -> Result<Vec<Bag>
     Ok(boards)
 }
 
-/// The share of the piece of this number of the function, as the core tells of it, with this change, comes to the core. Tells
-/// whether it could be absorbed; none where the share has no such part.
+/// What the share of the piece of this number of the function is made from, as the core tells of it.
+fn making_told<'a>(
+    alloc: Global,
+    core: &Core<'_>,
+    begun: &Beginning<'a>,
+    function: u32,
+    piece: u32,
+) -> Result<Making<'a>, NoMemory> {
+    let messages = begun.program.source().model.messages.len();
+    let boards = boards_told(alloc, core, number(messages)?)?;
+    Making::new(begun, piece_told(alloc, core, function, piece)?, boards)
+}
+
+/// The share comes to the core. Tells whether it could be absorbed.
+fn absorbs(alloc: Global, core: &mut Core<'_>, made: &Made<'_>) -> Result<bool, NoMemory> {
+    match core.absorb(made.share(alloc)?) {
+        Ok(()) => Ok(true),
+        Err(StepFault::Illegal) => Ok(false),
+        Err(StepFault::NoMemory) => Err(NoMemory),
+    }
+}
+
+/// The share that is made so, with this change, comes to the core. Tells whether it could be absorbed; none where the share has
+/// no such part.
 fn came(
     alloc: Global,
     core: &mut Core<'_>,
-    begun: &Beginning<'_>,
-    function: u32,
-    piece: u32,
+    mut making: Making<'_>,
     change: Change,
 ) -> Result<Option<bool>, NoMemory> {
-    let messages = begun.program.source().model.messages.len();
-    let boards = boards_told(alloc, core, number(messages)?)?;
-    let mut making = Making::new(begun, piece_told(alloc, core, function, piece)?, boards)?;
     if !making.change(change) {
         return Ok(None);
     }
     let made = making.made(alloc)?;
-    match core.absorb(made.share(alloc)?) {
-        Ok(()) => Ok(Some(true)),
-        Err(StepFault::Illegal) => Ok(Some(false)),
-        Err(StepFault::NoMemory) => Err(NoMemory),
-    }
+    Ok(Some(absorbs(alloc, core, &made)?))
 }
 
 /// The share that these words name comes to the core. Tells whether it could be absorbed; none where they name no share.
@@ -71,7 +84,10 @@ pub(crate) fn absorbed(
     words: &str,
 ) -> Result<Option<bool>, NoMemory> {
     match share_in(alloc, words)? {
-        Some((function, piece, change)) => came(alloc, core, begun, function, piece, change),
+        Some((function, piece, change)) => {
+            let making = making_told(alloc, core, begun, function, piece)?;
+            came(alloc, core, making, change)
+        }
         None => Ok(None),
     }
 }

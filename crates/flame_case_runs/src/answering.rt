@@ -1,18 +1,19 @@
-//! Cases of cores and of flows: each begins with the world that the case gives, where it fits the model of an accepted source.
+//! Cases of cores, of flows and of orders: each begins with the world that the case gives, where it fits the model of an
+//! accepted source.
 
-ghost use Rattle.std.specs.Prelude.{IsTrue};
-ghost use Rattle.flame_spec.specs.WellFormed.{is_well_formed};
+ghost use Rattle.std.specs.Prelude.{◌≤◌};
 
+use crate::accepting::answer_over;
 use crate::cores::core_told;
 use crate::fitting::fits;
 use crate::flows::flow_told;
-use crate::terms::terms_in;
+use crate::orders::orders_told;
+use crate::terms::{Terms, terms_in};
 use crate::worlds::world_in;
 use flame_case_files::Case;
-use flame_case_programs::{Sourced, program_of, source_in};
 use flame_program::Program;
 use flame_rows::NoMemory;
-use flame_spec::Source;
+use flame_world::World;
 use std::alloc::{AllocError, Global};
 
 /// What is called.
@@ -20,49 +21,52 @@ use std::alloc::{AllocError, Global};
 enum Called {
     Core,
     Flow,
+    Orders,
 }
 
-/// What is answered to the case by what is called, in the world that the case gives, where it fits.
+/// What is answered to the case by what is called, in this world, where it fits.
+fn told(
+    alloc: Global,
+    case: &Case,
+    program: &Program,
+    world: World,
+    terms: Terms,
+    called: Called,
+) -> Result<String, NoMemory>
+    requires some { 1 ≤ terms.pieces }
+{
+    if !fits(&program.source().model, &world)? {
+        return Ok(String::from_str(alloc, "the world does not fit\n")?);
+    }
+    match called {
+        Called::Core => core_told(alloc, case, program, world, terms),
+        Called::Flow => flow_told(alloc, case, program, world, terms),
+        Called::Orders => orders_told(alloc, case, program, &world, terms),
+    }
+}
+
+/// The same in the world that the case gives.
 fn fitted(
     alloc: Global,
     case: &Case,
     program: &Program,
     called: Called,
 ) -> Result<String, NoMemory> {
-    let model = &program.source().model;
-    let world = world_in(alloc, case, model)?;
     let terms = terms_in(case);
     if terms.pieces == 0 {
         return Ok(String::from_str(alloc, "no pieces\n")?);
     }
-    if !fits(model, &world)? {
-        return Ok(String::from_str(alloc, "the world does not fit\n")?);
-    }
-    match called {
-        Called::Core => core_told(alloc, case, program, world, terms),
-        Called::Flow => flow_told(alloc, case, program, world, terms),
-    }
+    let world = world_in(alloc, case, &program.source().model)?;
+    told(alloc, case, program, world, terms, called)
 }
 
-/// The same of a source, where it is accepted.
-fn answered(alloc: Global, case: &Case, source: Source, called: Called) -> Result<String, NoMemory>
-    requires formed { IsTrue (is_well_formed source.model) }
-{
-    match program_of(alloc, source)? {
-        Some(program) => fitted(alloc, case, &program, called),
-        None => Ok(String::from_str(alloc, "not accepted\n")?),
-    }
-}
-
-/// The same of the source that the case gives.
+/// The same over the program of the source that the case gives.
 fn answer(alloc: Global, case: &Case, called: Called) -> Result<String, AllocError> {
-    match source_in(alloc, case)? {
-        Sourced::Told(told) => Ok(told),
-        Sourced::Source(source) => match answered(alloc, case, source, called) {
-            Ok(out) => Ok(out),
-            Err(NoMemory) => Err(AllocError),
-        },
-    }
+    answer_over(
+        alloc,
+        case,
+        |program: &Program| -> Result<String, NoMemory> { fitted(alloc, case, program, called) },
+    )
 }
 
 /// The answer to a case of the kind `core`.
@@ -73,4 +77,9 @@ pub fn answer_core(alloc: Global, case: &Case) -> Result<String, AllocError> {
 /// The answer to a case of the kind `flow`.
 pub fn answer_flow(alloc: Global, case: &Case) -> Result<String, AllocError> {
     answer(alloc, case, Called::Flow)
+}
+
+/// The answer to a case of the kind `orders`.
+pub fn answer_orders(alloc: Global, case: &Case) -> Result<String, AllocError> {
+    answer(alloc, case, Called::Orders)
 }

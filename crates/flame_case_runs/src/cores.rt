@@ -143,12 +143,21 @@ pub(crate) fn words_behind(question: &str) -> Option<&str> {
     words.strip_prefix(" ")
 }
 
-/// How it is told whether the core began so; none is no question.
-pub(crate) fn truth(began: Option<bool>) -> &'static str {
-    match began {
-        Some(true) => "true",
-        Some(false) => "false",
-        None => NO_ANSWER,
+/// How it is told whether it began so.
+pub(crate) fn truth(began: bool) -> &'static str {
+    if began { "true" } else { "false" }
+}
+
+/// How it is told whether the core began with what these words change.
+fn asked(
+    alloc: Global,
+    core: &Core<'_>,
+    begun: &Beginning<'_>,
+    words: &str,
+) -> Result<&'static str, NoMemory> {
+    match begun.asked(alloc, words)? {
+        Some(other) => Ok(truth(other.is_of(core))),
+        None => Ok(NO_ANSWER),
     }
 }
 
@@ -175,8 +184,7 @@ fn print_answer(
     } else if let Some(words) = line.strip_prefix("absorb ") {
         out.push_str(absorption(absorbed(alloc, core, begun, words)?))?;
     } else if let Some(words) = words_behind(line) {
-        let asked = begun.asked(alloc, words)?;
-        out.push_str(truth(asked.map(|other| other.is_of(core))))?;
+        out.push_str(asked(alloc, core, begun, words)?)?;
     } else {
         print_told(out, core, line)?;
     }
@@ -192,7 +200,46 @@ pub(crate) fn print_finish(out: &mut String, core: Core<'_>) -> Result<(), NoMem
     Ok(print_turn(out, &turn)?)
 }
 
-/// The answers to the lines of events.
+/// Adds the answers to these lines.
+fn print_answers(
+    out: &mut String,
+    alloc: Global,
+    core: &mut Core<'_>,
+    begun: &Beginning<'_>,
+    lines: &[String],
+) -> Result<(), NoMemory> {
+    for line in lines {
+        print_answer(out, alloc, core, begun, line.as_str())?;
+    }
+    Ok(())
+}
+
+/// Adds the answers to the lines of events.
+fn print_events(
+    out: &mut String,
+    alloc: Global,
+    case: &Case,
+    core: &mut Core<'_>,
+    begun: &Beginning<'_>,
+) -> Result<(), NoMemory> {
+    let lines = case.lines(alloc, "events")?;
+    print_answers(out, alloc, core, begun, lines.as_slice())
+}
+
+/// The answers to the lines of events, which come to this core.
+fn answers(
+    alloc: Global,
+    case: &Case,
+    mut core: Core<'_>,
+    begun: &Beginning<'_>,
+) -> Result<String, NoMemory> {
+    let mut out = String::new(alloc);
+    print_events(&mut out, alloc, case, &mut core, begun)?;
+    print_finish(&mut out, core)?;
+    Ok(out)
+}
+
+/// The same of the core that begins so.
 pub(crate) fn core_told(
     alloc: Global,
     case: &Case,
@@ -208,7 +255,7 @@ pub(crate) fn core_told(
         world: world_copied(alloc, &world)?,
         terms,
     };
-    let mut core = Core::new(
+    let core = Core::new(
         alloc,
         program,
         world,
@@ -216,10 +263,5 @@ pub(crate) fn core_told(
         terms.fuel,
         terms.pieces,
     )?;
-    let mut out = String::new(alloc);
-    for line in &case.lines(alloc, "events")? {
-        print_answer(&mut out, alloc, &mut core, &begun, line.as_str())?;
-    }
-    print_finish(&mut out, core)?;
-    Ok(out)
+    answers(alloc, case, core, &begun)
 }

@@ -175,7 +175,43 @@ fn is_of(begun: &Beginning<'_>, flow: &Flow<'_>) -> bool {
     )
 }
 
-/// Adds the line and its answer.
+/// How it is told whether the flow began with what these words change.
+fn asked(
+    alloc: Global,
+    flow: &Flow<'_>,
+    begun: &Beginning<'_>,
+    words: &str,
+) -> Result<&'static str, NoMemory> {
+    match begun.asked(alloc, words)? {
+        Some(other) => Ok(truth(is_of(&other, flow))),
+        None => Ok(NO_ANSWER),
+    }
+}
+
+/// How the line is answered that settles a share or asks with what the flow began.
+fn told(
+    alloc: Global,
+    flow: &mut Flow<'_>,
+    begun: &Beginning<'_>,
+    jobs: &[Job],
+    line: &str,
+) -> Result<&'static str, NoMemory> {
+    if let Some(words) = line.strip_prefix("settle ") {
+        return settled(alloc, flow, begun, jobs, words);
+    }
+    match words_behind(line) {
+        Some(words) => asked(alloc, flow, begun, words),
+        None => Ok(NO_ANSWER),
+    }
+}
+
+/// Adds what a worker may do after the flow was cut short.
+fn print_cut_short(out: &mut String, flow: &mut Flow<'_>) -> Result<(), AllocError> {
+    flow.cut_short();
+    print_ready(out, flow.ready())
+}
+
+/// Adds the answer to the line.
 fn print_answer(
     out: &mut String,
     alloc: Global,
@@ -184,25 +220,42 @@ fn print_answer(
     jobs: &mut Vec<Job>,
     line: &str,
 ) -> Result<(), NoMemory> {
-    write!(out, "{line}: ")?;
-    if line == "ready" {
-        print_ready(out, flow.ready())?;
-    } else if line == "begin" {
-        print_begun(out, flow, jobs)?;
-    } else if line == "cut short" {
-        flow.cut_short();
-        print_ready(out, flow.ready())?;
-    } else if line == "history" {
-        print_history(out, alloc, flow)?;
-    } else if let Some(words) = line.strip_prefix("settle ") {
-        out.push_str(settled(alloc, flow, begun, jobs, words)?)?;
-    } else if let Some(words) = words_behind(line) {
-        let asked = begun.asked(alloc, words)?;
-        out.push_str(truth(asked.map(|other| is_of(&other, flow))))?;
-    } else {
-        out.push_str(NO_ANSWER)?;
+    match line {
+        "ready" => Ok(print_ready(out, flow.ready())?),
+        "begin" => print_begun(out, flow, jobs),
+        "cut short" => Ok(print_cut_short(out, flow)?),
+        "history" => print_history(out, alloc, flow),
+        _ => Ok(out.push_str(told(alloc, flow, begun, jobs.as_slice(), line)?)?),
     }
-    Ok(writeln!(out, "")?)
+}
+
+/// Adds these lines and their answers.
+fn print_answers(
+    out: &mut String,
+    alloc: Global,
+    flow: &mut Flow<'_>,
+    begun: &Beginning<'_>,
+    lines: &[String],
+) -> Result<(), NoMemory> {
+    let mut jobs = Vec::new(alloc);
+    for line in lines {
+        write!(out, "{line}: ")?;
+        print_answer(out, alloc, flow, begun, &mut jobs, line.as_str())?;
+        writeln!(out, "")?;
+    }
+    Ok(())
+}
+
+/// Adds the lines of calls and their answers.
+fn print_calls(
+    out: &mut String,
+    alloc: Global,
+    case: &Case,
+    flow: &mut Flow<'_>,
+    begun: &Beginning<'_>,
+) -> Result<(), NoMemory> {
+    let lines = case.lines(alloc, "calls")?;
+    print_answers(out, alloc, flow, begun, lines.as_slice())
 }
 
 /// Adds what the iteration comes to, where the flow is done.
@@ -216,7 +269,41 @@ fn print_finish(out: &mut String, flow: Flow<'_>) -> Result<(), NoMemory> {
     }
 }
 
-/// The answers to the lines of calls.
+/// The flow that begins so.
+fn flow_of<'a>(
+    alloc: Global,
+    program: &'a Program,
+    world: World,
+    terms: Terms,
+) -> Result<Flow<'a>, NoMemory>
+    requires fits { FitsModel program.now.model world }
+    requires some { 1 ≤ terms.pieces }
+{
+    let core = Core::new(
+        alloc,
+        program,
+        world,
+        terms.iteration,
+        terms.fuel,
+        terms.pieces,
+    )?;
+    Flow::new(alloc, core)
+}
+
+/// The answers to the lines of calls, which come to this flow.
+fn answers(
+    alloc: Global,
+    case: &Case,
+    mut flow: Flow<'_>,
+    begun: &Beginning<'_>,
+) -> Result<String, NoMemory> {
+    let mut out = String::new(alloc);
+    print_calls(&mut out, alloc, case, &mut flow, begun)?;
+    print_finish(&mut out, flow)?;
+    Ok(out)
+}
+
+/// The same of the flow that begins so.
 pub(crate) fn flow_told(
     alloc: Global,
     case: &Case,
@@ -232,20 +319,6 @@ pub(crate) fn flow_told(
         world: world_copied(alloc, &world)?,
         terms,
     };
-    let core = Core::new(
-        alloc,
-        program,
-        world,
-        terms.iteration,
-        terms.fuel,
-        terms.pieces,
-    )?;
-    let mut flow = Flow::new(alloc, core)?;
-    let mut jobs = Vec::new(alloc);
-    let mut out = String::new(alloc);
-    for line in &case.lines(alloc, "calls")? {
-        print_answer(&mut out, alloc, &mut flow, &begun, &mut jobs, line.as_str())?;
-    }
-    print_finish(&mut out, flow)?;
-    Ok(out)
+    let flow = flow_of(alloc, program, world, terms)?;
+    answers(alloc, case, flow, &begun)
 }

@@ -2,20 +2,18 @@
 //! model; `given` has lines `constants [1000]`, `iteration 7`, `fuel 5` and, for each agent, `agent 0 [1, 2]`, its type and
 //! its memory. The answer is the end of the iteration, or its fault.
 
-ghost use Rattle.std.specs.Prelude.{◌≡◌, IfOk, IsTrue};
-ghost use Rattle.flame_spec.specs.WellFormed.{is_well_formed};
+ghost use Rattle.std.specs.Prelude.{◌≡◌, IfOk};
 ghost use Rattle.flame_world.specs.Iterations.{iteration as meant};
 ghost use Rattle.flame_world.specs.WorldFits.{FitsModel};
 
+use crate::accepting::answer_over;
 use crate::fitting::fits;
 use crate::terms::terms_in;
 use crate::worlds::{print_turn, world_in};
 use flame_case_files::Case;
-use flame_case_programs::{Sourced, program_of, source_in};
 use flame_program::Program;
 use flame_rows::NoMemory;
 use flame_runner::{ClosureRunner, PlainRunner, Runner, iterate};
-use flame_spec::Source;
 use flame_world::{Turn, World};
 use std::alloc::{AllocError, Global};
 use std::sync::Wait;
@@ -73,40 +71,35 @@ fn both(one: String, other: &str) -> Result<String, NoMemory> {
     Ok(out)
 }
 
-/// The same of the world that the case gives, where it fits.
-fn fitted(
+/// The same by one of both runners, of the world that the case gives, where it fits.
+fn one_way(
     rt: &(impl Threads + Wait + Sync),
     alloc: Global,
     case: &Case,
     program: &Program,
+    by_closure: bool,
 ) -> Result<String, NoMemory> {
     let model = &program.source().model;
     let world = world_in(alloc, case, model)?;
     if !fits(model, &world)? {
         return Ok(String::from_str(alloc, "the world does not fit\n")?);
     }
-    let one = iterated(rt, alloc, case, program, world)?;
-    let world = world_in(alloc, case, model)?;
-    if !fits(model, &world)? {
-        return Ok(one);
+    if by_closure {
+        return iterated_by_closure(rt, alloc, case, program, world);
     }
-    let other = iterated_by_closure(rt, alloc, case, program, world)?;
-    both(one, other.as_str())
+    iterated(rt, alloc, case, program, world)
 }
 
-/// The same of a source, where it is accepted.
-fn answered(
+/// The same by both.
+fn fitted(
     rt: &(impl Threads + Wait + Sync),
     alloc: Global,
     case: &Case,
-    source: Source,
-) -> Result<String, NoMemory>
-    requires formed { IsTrue (is_well_formed source.model) }
-{
-    match program_of(alloc, source)? {
-        Some(program) => fitted(rt, alloc, case, &program),
-        None => Ok(String::from_str(alloc, "not accepted\n")?),
-    }
+    program: &Program,
+) -> Result<String, NoMemory> {
+    let one = one_way(rt, alloc, case, program, false)?;
+    let other = one_way(rt, alloc, case, program, true)?;
+    both(one, other.as_str())
 }
 
 /// The answer to a case of the kind `iteration`.
@@ -115,11 +108,9 @@ pub fn answer_iteration(
     alloc: Global,
     case: &Case,
 ) -> Result<String, AllocError> {
-    match source_in(alloc, case)? {
-        Sourced::Told(told) => Ok(told),
-        Sourced::Source(source) => match answered(rt, alloc, case, source) {
-            Ok(out) => Ok(out),
-            Err(NoMemory) => Err(AllocError),
-        },
-    }
+    answer_over(
+        alloc,
+        case,
+        |program: &Program| -> Result<String, NoMemory> { fitted(rt, alloc, case, program) },
+    )
 }

@@ -2,6 +2,7 @@
 #![tactic(auto)]
 
 mod absorbs;
+mod accepting;
 mod answering;
 mod beginnings;
 mod changes;
@@ -17,8 +18,7 @@ mod shares;
 mod terms;
 mod worlds;
 
-pub use answering::{answer_core, answer_flow};
+pub use answering::{answer_core, answer_flow, answer_orders};
 pub use fitting::fits;
 pub use iterations::answer_iteration;
-pub use orders::answer_orders;
 pub use worlds::world_in;

@@ -2,23 +2,19 @@
 //! depth first: all of them, or so many. Each begins anew, and ends where the core is complete or no event is legal. The
 //! answer is how many were walked, and what all come to; or the first that comes to something else than the iteration does.
 
-ghost use Rattle.std.specs.Prelude.{◌≤◌, IsTrue};
-ghost use Rattle.flame_spec.specs.WellFormed.{is_well_formed};
+ghost use Rattle.std.specs.Prelude.{◌≤◌};
 ghost use Rattle.flame_world.specs.WorldFits.{FitsModel};
 
 use crate::cores::print_finish;
 use crate::events::print_event;
-use crate::fitting::fits;
 use crate::paths::Path;
-use crate::terms::{Terms, terms_in, world_copied};
-use crate::worlds::{print_turn, world_in};
+use crate::terms::{Terms, world_copied};
+use crate::worlds::print_turn;
 use flame_case_files::Case;
-use flame_case_programs::{Sourced, program_of, source_in};
 use flame_core::Core;
 use flame_program::Program;
 use flame_rows::NoMemory;
 use flame_runner::iterate;
-use flame_spec::Source;
 use flame_world::World;
 use std::alloc::{AllocError, Global};
 
@@ -27,6 +23,30 @@ use std::alloc::{AllocError, Global};
 struct Walked {
     events: String,
     end: String,
+}
+
+/// The events that come to this core by the path, a line each.
+fn events_of(alloc: Global, core: &mut Core<'_>, path: &mut Path) -> Result<String, NoMemory> {
+    let mut out = String::new(alloc);
+    for event in &path.follow(alloc, core)? {
+        print_event(&mut out, *event)?;
+    }
+    Ok(out)
+}
+
+/// What the core comes to.
+fn end_of(alloc: Global, core: Core<'_>) -> Result<String, NoMemory> {
+    let mut out = String::new(alloc);
+    print_finish(&mut out, core)?;
+    Ok(out)
+}
+
+/// The order of this path, for this core.
+fn walk_through(alloc: Global, mut core: Core<'_>, path: &mut Path) -> Result<Walked, NoMemory> {
+    Ok(Walked {
+        events: events_of(alloc, &mut core, path)?,
+        end: end_of(alloc, core)?,
+    })
 }
 
 /// The order of this path.
@@ -40,7 +60,7 @@ fn walk(
     requires fits { FitsModel program.now.model world.now }
     requires some { 1 ≤ terms.pieces }
 {
-    let mut core = Core::new(
+    let core = Core::new(
         alloc,
         program,
         world_copied(alloc, world)?,
@@ -48,13 +68,7 @@ fn walk(
         terms.fuel,
         terms.pieces,
     )?;
-    let mut events = String::new(alloc);
-    for event in &path.follow(alloc, &mut core)? {
-        print_event(&mut events, *event)?;
-    }
-    let mut end = String::new(alloc);
-    print_finish(&mut end, core)?;
-    Ok(Walked { events, end })
+    walk_through(alloc, core, path)
 }
 
 /// What the iteration comes to.
@@ -125,39 +139,18 @@ fn compared(
     Ok(alike(alloc, most, ", more are left", wanted)?)
 }
 
-/// The same of the world that the case gives, where it fits.
-fn fitted(alloc: Global, case: &Case, program: &Program) -> Result<String, NoMemory> {
-    let model = &program.source().model;
-    let world = world_in(alloc, case, model)?;
-    let terms = terms_in(case);
-    let most = case.given("orders ").parse::<u32>().unwrap_or(1000);
-    if terms.pieces == 0 {
-        return Ok(String::from_str(alloc, "no pieces\n")?);
-    }
-    if fits(model, &world)? {
-        let wanted = iterated(alloc, program, &world, terms)?;
-        return compared(alloc, program, &world, terms, most, wanted.as_str());
-    }
-    Ok(String::from_str(alloc, "the world does not fit\n")?)
-}
-
-/// The same of a source, where it is accepted.
-fn answered(alloc: Global, case: &Case, source: Source) -> Result<String, NoMemory>
-    requires formed { IsTrue (is_well_formed source.model) }
+/// The same, with as many orders as the case gives.
+pub(crate) fn orders_told(
+    alloc: Global,
+    case: &Case,
+    program: &Program,
+    world: &World,
+    terms: Terms,
+) -> Result<String, NoMemory>
+    requires fits { FitsModel program.now.model world.now }
+    requires some { 1 ≤ terms.pieces }
 {
-    match program_of(alloc, source)? {
-        Some(program) => fitted(alloc, case, &program),
-        None => Ok(String::from_str(alloc, "not accepted\n")?),
-    }
-}
-
-/// The answer to a case of the kind `orders`.
-pub fn answer_orders(alloc: Global, case: &Case) -> Result<String, AllocError> {
-    match source_in(alloc, case)? {
-        Sourced::Told(told) => Ok(told),
-        Sourced::Source(source) => match answered(alloc, case, source) {
-            Ok(out) => Ok(out),
-            Err(NoMemory) => Err(AllocError),
-        },
-    }
+    let most = case.given("orders ").parse::<u32>().unwrap_or(1000);
+    let wanted = iterated(alloc, program, world, terms)?;
+    compared(alloc, program, world, terms, most, wanted.as_str())
 }
