@@ -6,7 +6,7 @@
 use crate::watched::Watched;
 use flame_case_files::Case;
 use flame_outside::{MemDepot, MemSink, OpenGate};
-use flame_top::flame;
+use flame_top::{Ended, flame};
 use std::alloc::{AllocError, Global};
 use std::str;
 use std::sync::Wait;
@@ -35,19 +35,37 @@ fn padded(alloc: Global, bytes: &[u8], length: usize) -> Result<Vec<u8>, AllocEr
     Ok(all)
 }
 
+/// Adds the file of a case of this name and these bytes.
+fn add_file(
+    depot: &mut MemDepot,
+    alloc: Global,
+    case: &Case,
+    name: &str,
+    bytes: &[u8],
+) -> Result<(), AllocError> {
+    let pad = format!(in alloc; "pad {name}")?;
+    let length = case.text(pad.as_str()).trim().parse::<usize>().unwrap_or(0);
+    let bytes = padded(alloc, bytes, length.min(LONGEST))?;
+    match depot.set(name, bytes.as_slice()) {
+        Ok(()) => Ok(()),
+        Err(_) => Err(AllocError),
+    }
+}
+
+/// Adds the files of a case.
+fn add_files(depot: &mut MemDepot, alloc: Global, case: &Case) -> Result<(), AllocError> {
+    for section in &case.sections {
+        if let Some(name) = section.title.strip_prefix("file ") {
+            add_file(depot, alloc, case, name, section.bytes.as_slice())?;
+        }
+    }
+    Ok(())
+}
+
 /// The files of a case.
 fn depot_of(alloc: Global, case: &Case) -> Result<MemDepot, AllocError> {
     let mut depot = MemDepot::new(alloc, numbers(alloc, case.text("fails depot"))?);
-    for section in &case.sections {
-        if let Some(name) = section.title.strip_prefix("file ") {
-            let pad = format!(in alloc; "pad {name}")?;
-            let length = case.text(pad.as_str()).trim().parse::<usize>().unwrap_or(0);
-            let bytes = padded(alloc, section.bytes.as_slice(), length.min(LONGEST))?;
-            if depot.set(name, bytes.as_slice()).is_err() {
-                return Err(AllocError);
-            }
-        }
-    }
+    add_files(&mut depot, alloc, case)?;
     Ok(depot)
 }
 
@@ -100,6 +118,37 @@ fn print_files(out: &mut String, watched: &Watched<MemDepot>) -> Result<(), Allo
     Ok(())
 }
 
+/// How the run ended, what was printed, and the files.
+fn told(
+    alloc: Global,
+    ended: Ended,
+    depot: &Watched<MemDepot>,
+    out: &MemSink,
+    err: &MemSink,
+) -> Result<String, AllocError> {
+    let mut told = String::new(alloc);
+    writeln!(told, "status {} files {}", ended.status, ended.files)?;
+    print_sink(&mut told, "out", out)?;
+    print_sink(&mut told, "err", err)?;
+    print_files(&mut told, depot)?;
+    Ok(told)
+}
+
+/// What the run of these words over these files answers.
+fn run<Rt: Threads + Wait + Sync>(
+    rt: &Rt,
+    alloc: Global,
+    case: &Case,
+    words: &[String],
+    depot: &mut Watched<MemDepot>,
+) -> Result<String, AllocError> {
+    let mut out = sink_of(alloc, case, "fails out")?;
+    let mut err = sink_of(alloc, case, "fails err")?;
+    let ended = flame(rt, alloc, words, depot, &mut out, &mut err, &OpenGate);
+    told(alloc, ended, depot, &out, &err)
+}
+
+/// The answer to a case of the kind `run`.
 pub(crate) fn answer<Rt: Threads + Wait + Sync>(
     rt: &Rt,
     alloc: Global,
@@ -107,21 +156,5 @@ pub(crate) fn answer<Rt: Threads + Wait + Sync>(
 ) -> Result<String, AllocError> {
     let words = case.lines(alloc, "words")?;
     let mut depot = Watched::new(alloc, depot_of(alloc, case)?);
-    let mut out = sink_of(alloc, case, "fails out")?;
-    let mut err = sink_of(alloc, case, "fails err")?;
-    let ended = flame(
-        rt,
-        alloc,
-        words.as_slice(),
-        &mut depot,
-        &mut out,
-        &mut err,
-        &OpenGate,
-    );
-    let mut told = String::new(alloc);
-    writeln!(told, "status {} files {}", ended.status, ended.files)?;
-    print_sink(&mut told, "out", &out)?;
-    print_sink(&mut told, "err", &err)?;
-    print_files(&mut told, &depot)?;
-    Ok(told)
+    run(rt, alloc, case, words.as_slice(), &mut depot)
 }
