@@ -1,9 +1,10 @@
 -- What an agent reads is as wide as what lies on the boards.
-use Rattle.std.proofs.Common.{◌≡◌, ℕ, List, [], ◌∷◌, map, length, Option, Some, None, refl, sym, ap, ◌∙◌, arith}
+use Rattle.std.proofs.Common.{◌≡◌, ℕ, List, [], ◌∷◌, map, length, Option, Some, None, refl, sym, ap, ◌∙◌}
 use Rattle.std.specs.Prelude.{ℤ, option_map}
 use Rattle.std.specs.List.{AllZip, zip, filter}
 use Rattle.std.proofs.lemmas.List.{length-map}
 use Rattle.std.proofs.lemmas.Option.{slice_get-map}
+use Rattle.std.proofs.lemmas.Slice.Zip.{AllZip-long}
 use Rattle.flame_rows.proofs.Lists.{AllZip-at}
 use Rattle.flame_spec.specs.declared.models.AgentType.{AgentType}
 use Rattle.flame_spec.specs.declared.models.Input.{Input}
@@ -54,17 +55,11 @@ readings-fit model place memory boards fit =
 
 -- ---- widths that a code sees
 
-zip-long : {A B : Type 0} (P : A → B → Type 0) (xs : List A) (ys : List B) → AllZip P xs ys → length ys ≡ length xs
-zip-long P [] [] all = refl
-zip-long P [] (y ∷ ys) all = absurd all
-zip-long P (x ∷ xs) [] all = absurd all
-zip-long P (x ∷ xs) (y ∷ ys) all = let rest = zip-long P xs ys all.1 in omega (arith, rest)
-
 pub have-widths :
     (model : Model) (inputs : List Input) (lists : List (List (List ℤ)))
     → AreBoardsFor model inputs lists → HaveWidths (map (input_width model) inputs) lists
 have-widths model inputs lists fit = record {
-  count = zip-long (IsBoardFor model) inputs lists fit ∙ sym (length-map inputs (input_width model));
+  count = AllZip-long (IsBoardFor model) inputs lists fit ∙ sym (length-map inputs (input_width model));
   wide = λ input place rows row listed at.
       let form = zip-back (IsBoardFor model) inputs lists input rows fit listed in
       let own = AllZip-at (IsBoardFor model) inputs lists input form.0 rows fit form.1 listed in

@@ -1,15 +1,12 @@
 -- Ends and lanes, one after another.
-use Rattle.std.proofs.Common.{◌≡◌, ℕ, zero, suc, ◌+◌, ◌<◌, List, [], ◌∷◌, ◌++◌, map, length, drop, get_or, ◌⊎◌, inl, inr, refl, sym, ap, ◌∙◌, subst, arith}
+use Rattle.std.proofs.Common.{◌≡◌, ℕ, zero, suc, ◌+◌, ◌<◌, List, [], ◌∷◌, ◌++◌, map, length, get_or, ◌⊎◌, inl, inr, refl, sym, ap, ◌∙◌, subst, arith}
 use Rattle.std.specs.List.{All, AllZip, Contains, range_with_len}
 use Rattle.std.proofs.lemmas.List.{map-append}
 use Rattle.crossbeam_channel.specs.Ends.{sends_on, receives_on}
-use Rattle.flame_rows.proofs.Lists.{AllZip-append}
+use Rattle.flame_rows.proofs.Lists.{AllZip-append, cons-parts}
 use Rattle.flame_board.specs.declared.lanes.End.{End}
 use Rattle.flame_board.specs.declared.lanes.Lane.{Lane}
 use Rattle.flame_board.specs.SeenLanes.{AreEndsOf, IsEndOf}
-
-cons-parts : {X : Type 0} (x y : X) (xs ys : List X) → x ∷ xs ≡ y ∷ ys → (x ≡ y) × (xs ≡ ys)
-cons-parts x y xs ys same = (ap (λ l. get_or l 0 x) same, ap (drop 1) same)
 
 -- ---- all ends
 

@@ -8,6 +8,7 @@ use Rattle.std.proofs.lemmas.Bool.Decides.{Decides-eqb}
 use Rattle.std.proofs.lemmas.Option.{slice_get-map, slice_get_within, get_or_from_slice_get}
 use Rattle.std.proofs.lemmas.Bool.{lt-ltb, and_from, not-false}
 use Rattle.flame_rows.proofs.Lists.{append-is_nil_left, append-is_nil_right}
+use Rattle.flame_rows.proofs.Truths.{is_some-false, nat_le-true}
 use Rattle.flame_spec.specs.declared.models.AgentType.{AgentType}
 use Rattle.flame_spec.specs.declared.models.MessageType.{MessageType}
 use Rattle.flame_spec.specs.declared.models.Variable.{Variable}
@@ -37,7 +38,7 @@ use Rattle.flame_body.specs.BodyFits.{fit_of_bare, is_field, numbers_in, togethe
 use Rattle.flame_body.specs.BodyFits.{numbers_of, row_fits, deed_fits, values_fit}
 use Rattle.flame_body.proofs.Columned.{never, column-there, numbered-at}
 use Rattle.flame_body.proofs.FitForms.{fit-Name, fit-Field}
-use Rattle.flame_body.proofs.FittedWords.{memory-width, no-length, le-true, given-within, local-seen}
+use Rattle.flame_body.proofs.FittedWords.{memory-width, given-within, local-seen}
 use Rattle.flame_body.proofs.FittedExpressions.{RowFound, row-found, field-stands, expression-fits, parts-fit}
 
 -- ---- how many numbers an argument stands for
@@ -69,7 +70,7 @@ array-given context around word (Some (in_memory c v)) n w is long =
     let within : c + width_of v ≤ width (memory_at context) = given-within context word c v is in
     let wide : around.widths.memory ≡ width (memory_at context) =
     ap (λ x. x.memory) w ∙ memory-width context.model context.runs in
-    bare-numbers (nat_le (c + width_by v.length) around.widths.memory) v.length n (le-true _ _ (omega arith)) long
+    bare-numbers (nat_le (c + width_by v.length) around.widths.memory) v.length n (nat_le-true _ _ (omega arith)) long
 array-given context around word (Some (constant k)) n w is long = absurd (cc)
 array-given context around word (Some iteration) n w is long = absurd (cc)
 
@@ -104,7 +105,7 @@ array-read :
 array-read context sight around word variable None n suits row is long = absurd (cc)
 array-read context sight around word variable (Some (c, v)) n suits row is long =
     let stands = field-stands context sight around word variable c v suits row is in
-    bare-numbers _ v.length n (and_from _ _ stands.inside (le-true _ _ stands.within)) long
+    bare-numbers _ v.length n (and_from _ _ stands.inside (nat_le-true _ _ stands.within)) long
 
 -- an argument that is an array of this length
 array-numbers :
@@ -247,7 +248,7 @@ sets-fit :
     → deed_fits around (deed_slot line (Some (sets c v))) (numbered_parts (unfiled context) sight arguments) ≡ true
 sets-fit context sight around c v line word arguments suits is none =
     let clean = deed-clean context sight (sets c v) line word arguments none in
-    let single : v.length ≡ None = no-length v.length clean.single in
+    let single : v.length ≡ None = is_some-false v.length clean.single in
     let one : width_of v ≡ 1 = ap width_by single in
     let within : c + width_of v ≤ width (memory_at context) =
     column-there (λ variable. bytes_eq (codes "set_" ++ variable.name) word) (memory_at context) c v is in

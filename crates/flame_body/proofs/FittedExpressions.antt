@@ -7,6 +7,7 @@ use Rattle.std.specs.Str.{bytes_eq}
 use Rattle.std.proofs.lemmas.Slice.Eq.{bytes_eq-Decides}
 use Rattle.std.proofs.lemmas.Bool.{lt-ltb, and_from, not-false}
 use Rattle.flame_rows.proofs.Lists.{append-is_nil_left, append-is_nil_right}
+use Rattle.flame_rows.proofs.Truths.{is_some-false, is_some-true, nat_le-true}
 use Rattle.flame_spec.specs.declared.models.Input.{Input}
 use Rattle.flame_spec.specs.declared.models.MessageType.{MessageType}
 use Rattle.flame_spec.specs.declared.models.Model.{Model}
@@ -36,7 +37,7 @@ use Rattle.flame_body.proofs.Columned.{mapped-at, variables-of}
 use Rattle.flame_body.proofs.FitForms.{fit-Number, fit-Name, fit-Field, fit-Get, fit-At, fit-FieldAt, fit-Unary}
 use Rattle.flame_body.proofs.FitForms.{fit-Chain, fit-All, fit-Any}
 use Rattle.flame_body.specs.FitLaws.{Suits, unfiled}
-use Rattle.flame_body.proofs.FittedWords.{memory-width, no-length, bare-value, value-value, le-true}
+use Rattle.flame_body.proofs.FittedWords.{memory-width, bare-value, value-value}
 use Rattle.flame_body.proofs.FittedWords.{given-within, name-fits}
 
 -- ---- arrays and getters
@@ -61,7 +62,7 @@ cells-fit context around word (Some (in_memory c v)) w is h =
     let long : elements v.length ≡ width_of v = elements-there v h in
     let wide : around.widths.memory ≡ width (memory_at context) =
     ap (λ x. x.memory) w ∙ memory-width context.model context.runs in
-    le-true _ _ (omega arith)
+    nat_le-true _ _ (omega arith)
 cells-fit context around word (Some (constant n)) w is h = absurd (cc)
 cells-fit context around word (Some iteration) w is h = absurd (cc)
 
@@ -76,7 +77,7 @@ getter-fits context around line word None w is none plain = absurd (cc)
 getter-fits context around line word (Some f) w is none plain =
     let within : f.0 + width_of f.1 ≤ width (memory_at context) =
     column-there (λ variable. bytes_eq (codes "get_" ++ variable.name) word) (memory_at context) f.0 f.1 is in
-    let one : width_of f.1 ≡ 1 = ap width_by (no-length f.1.length plain) in
+    let one : width_of f.1 ≡ 1 = ap width_by (is_some-false f.1.length plain) in
     let wide : around.widths.memory ≡ width (memory_at context) =
     ap (λ x. x.memory) w ∙ memory-width context.model context.runs in
     lt-ltb _ _ (omega arith)
@@ -130,11 +131,6 @@ row-width model (Some place) word m n input found is =
     ∙ ap (λ name. width (variables_in model.messages name)) named
     ∙ ap width (variables-of (codes "_message") word 0 model.messages m.0 m.1 found)
 
-some-input :
-    (o : Option (ℕ × Input)) → is_some o ≡ true → (found : ℕ × Input) × (o ≡ Some found)
-some-input (Some f) h = (f, refl)
-some-input None h = absurd (cc)
-
 -- the variable that is read stands in a loop of its input, and within the message's row
 pub record FieldStands (around : Around) (input : ℕ) (end : ℕ) : Type 0 where
   pub inside : is_inside input around ≡ true
@@ -147,7 +143,7 @@ pub field-stands :
     → member_read context word variable ≡ Some (c, v)
     → FieldStands around (input_read context word) (c + width_of v)
 field-stands context sight around word variable c v suits row is =
-    let input = some-input (input_in context.runs row.message.1) (suits.inputs row.message.1 row.opened) in
+    let input = is_some-true (input_in context.runs row.message.1) (suits.inputs row.message.1 row.opened) in
     let number : input_read context word ≡ input.0.0 =
     ap (λ m. number_found (input_found context.runs m)) row.found ∙ ap number_found input.1 in
     let member : variable_named row.message.1.variables variable ≡ Some (c, v) =
@@ -180,8 +176,8 @@ field-fits context sight around line word variable None suits row is plain =
 field-fits context sight around line word variable (Some (c, v)) suits row is plain =
     let stands = field-stands context sight around word variable c v suits row is in
     bare-value _ v.length
-    (and_from _ _ stands.inside (le-true _ _ stands.within))
-    (no-length v.length plain)
+    (and_from _ _ stands.inside (nat_le-true _ _ stands.within))
+    (is_some-false v.length plain)
 
 field-cells-fit :
     (context : Context) (sight : Sight) (around : Around) (word variable : List ℕ) (found : Option (ℕ × Variable))
@@ -195,7 +191,7 @@ field-cells-fit context sight around word variable (Some (c, v)) suits row is ar
     let stands = field-stands context sight around word variable c v suits row is in
     let within = stands.within in
     let long : elements v.length ≡ width_of v = elements-there v array in
-    and_from _ _ stands.inside (le-true _ _ (omega arith))
+    and_from _ _ stands.inside (nat_le-true _ _ (omega arith))
 
 -- ---- expressions
 

@@ -5,7 +5,7 @@ use Rattle.std.specs.Prelude.{not, ◌||◌, option_map, is_some}
 use Rattle.std.specs.List.{list_all}
 use Rattle.std.proofs.lemmas.Bool.{lt-ltb, and_parts, and_from, not-false}
 use Rattle.flame_rows.proofs.Lists.{append-is_nil_left, append-is_nil_right}
-use Rattle.flame_rows.proofs.Truths.{or-true_left}
+use Rattle.flame_rows.proofs.Truths.{or-true_left, is_some-false}
 use Rattle.flame_spec.specs.Columns.{width, width_by, width_of}
 use Rattle.flame_spec.specs.Definitions.{helper_named}
 use Rattle.flame_spec.specs.ExpressionFaults.{gives_array, names_array, fault_where, unknown_faults, indexed_faults}
@@ -27,7 +27,7 @@ use Rattle.flame_body.specs.FunctionBodies.{widths_in}
 use Rattle.flame_body.specs.FitLaws.{Suits, unfiled}
 use Rattle.flame_body.specs.BodyFits.{Around, fits, optional_fits, are_within, stored_fits, initial_fits, target_fits}
 use Rattle.flame_body.specs.BodyFits.{assignment_fits, step_fits}
-use Rattle.flame_body.proofs.FittedWords.{memory-width, no-length, given-within, local-seen}
+use Rattle.flame_body.proofs.FittedWords.{memory-width, given-within, local-seen}
 use Rattle.flame_body.proofs.FittedExpressions.{expression-fits, cells-fit}
 use Rattle.flame_body.proofs.FittedCalls.{helper-values}
 use Rattle.flame_body.proofs.KeptSuits.{suits-in-value, suits-after, name-declared}
@@ -75,7 +75,7 @@ given-target :
     → target_fits around (target_or_given None found) ≡ true
 given-target context around word None w is there writable single = absurd (cc)
 given-target context around word (Some (in_memory c v)) w is there writable single =
-    let one : width_of v ≡ 1 = ap width_by (no-length v.length single) in
+    let one : width_of v ≡ 1 = ap width_by (is_some-false v.length single) in
     let within : c + width_of v ≤ width (memory_at context) = given-within context word c v is in
     let wide : around.widths.memory ≡ width (memory_at context) =
     ap (λ x. x.memory) w ∙ memory-width context.model context.runs in

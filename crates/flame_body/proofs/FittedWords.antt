@@ -3,10 +3,10 @@ use Rattle.std.proofs.Common.{◌≡◌, ℕ, ◌+◌, ◌<◌, ◌≤◌, List,
 use Rattle.std.proofs.Common.{cond, refl, sym, ap, ◌∙◌, arith}
 use Rattle.std.specs.Prelude.{is_some, nat_lt, nat_le, not, ◌||◌}
 use Rattle.std.specs.Str.{bytes_eq}
-use Rattle.std.proofs.lemmas.Bool.Decides.{nat_tests}
 use Rattle.std.proofs.lemmas.Option.{slice_get_within}
 use Rattle.std.proofs.lemmas.Bool.{lt-ltb, and_parts, not-false}
 use Rattle.flame_rows.proofs.Lists.{append-is_nil_left, append-is_nil_right}
+use Rattle.flame_rows.proofs.Truths.{is_some-false, or-true_left, nat_le-true}
 use Rattle.flame_ops.specs.Ascii.{capitals}
 use Rattle.flame_spec.specs.declared.models.Model.{Model}
 use Rattle.flame_spec.specs.declared.models.Variable.{Variable}
@@ -19,12 +19,13 @@ use Rattle.flame_spec.specs.LookUps.{constant_named, is_iteration}
 use Rattle.flame_spec.specs.Scopes.{Context, Sight, names_seen, memory_in, memory_at, given_at, is_local, is_visible}
 use Rattle.flame_spec.specs.Scopes.{is_name_of}
 use Rattle.flame_spec.proofs.FaultTests.{fault_where-none}
+use Rattle.flame_spec.proofs.NamesLaid.{is_among-laid}
 use Rattle.flame_body.specs.WordSlots.{local_number, slot_given, slot_or_given, slot_at}
 use Rattle.flame_body.specs.FunctionBodies.{widths_in}
 use Rattle.flame_body.specs.FitLaws.{Suits}
 use Rattle.flame_body.specs.BodyFits.{Around, is_value, fit_of_slot, fit_of_bare, fit_of_value}
 use Rattle.flame_body.proofs.Columned.{column-there, numbered-at}
-use Rattle.flame_body.proofs.NamesSeen.{among-laid, among-number}
+use Rattle.flame_body.proofs.NamesSeen.{among-number}
 
 pub memory-width : (model : Model) (runs : Option Place) → (widths_in model runs).memory ≡ width (memory_in runs)
 memory-width model None = refl
@@ -34,18 +35,11 @@ pub constants-width : (model : Model) (runs : Option Place) → (widths_in model
 constants-width model None = refl
 constants-width model (Some place) = refl
 
-pub no-length : (length : Option ℕ) → is_some length ≡ false → length ≡ None
-no-length None h = refl
-no-length (Some n) h = absurd (cc)
-
 pub bare-value : (b : Bool) (length : Option ℕ) → b ≡ true → length ≡ None → is_value (fit_of_bare b length) ≡ true
 bare-value b length h n = ap (λ t. is_value (fit_of_bare t length)) h ∙ ap (λ o. is_value (fit_of_bare true o)) n
 
 pub value-value : (b : Bool) → b ≡ true → is_value (fit_of_value b) ≡ true
 value-value b h = ap (λ t. is_value (fit_of_value t)) h
-
-pub le-true : (a b : ℕ) → a ≤ b → nat_le a b ≡ true
-le-true a b h = grind (arith, nat_tests)
 
 -- what a word is that the model gives as a memory variable
 given-memory :
@@ -105,7 +99,7 @@ given-within context word c v h =
 
 -- a name is a local where it has a number
 pub local-seen : (sight : Sight) (word : List ℕ) → is_local sight word ≡ is_some (local_number (names_seen sight) word)
-local-seen sight word = among-laid word (sight.scope ∷ sight.outer) ∙ among-number word (names_seen sight)
+local-seen sight word = is_among-laid word (sight.scope ∷ sight.outer) ∙ among-number word (names_seen sight)
 
 -- what the model gives fits, where it is no array
 given-fits :
@@ -117,11 +111,11 @@ given-fits :
     → is_value (fit_of_slot widths (slot_given found)) ≡ true
 given-fits context word widths None w is some plain = absurd (cc)
 given-fits context word widths (Some (in_memory c v)) w is some plain =
-    let single : v.length ≡ None = no-length v.length plain in
+    let single : v.length ≡ None = is_some-false v.length plain in
     let within : c + width_of v ≤ width (memory_at context) = given-within context word c v is in
     let wide : widths.memory ≡ width (memory_at context) =
     ap (λ x. x.memory) w ∙ memory-width context.model context.runs in
-    bare-value (nat_le (c + width_by v.length) widths.memory) v.length (le-true _ _ (omega arith)) single
+    bare-value (nat_le (c + width_by v.length) widths.memory) v.length (nat_le-true _ _ (omega arith)) single
 given-fits context word widths (Some (constant n)) w is some plain =
     let below : n < length context.model.constants =
     given-constant (memory_named (memory_at context) word) context.model.constants word n is in
@@ -129,10 +123,6 @@ given-fits context word widths (Some (constant n)) w is some plain =
     ap (λ x. x.constants) w ∙ constants-width context.model context.runs in
     value-value (nat_lt n widths.constants) (lt-ltb _ _ (omega arith))
 given-fits context word widths (Some iteration) w is some plain = refl
-
-by_local : (b l : Bool) → (b || l) ≡ true → l ≡ false → b ≡ true
-by_local true l v is = refl
-by_local false l v is = absurd (cc)
 
 -- a visible name that is no array fits
 pub name-fits :
@@ -158,7 +148,7 @@ name-fits context sight around line word suits none =
     by_slot (Some n) is found given visible plain = refl
     by_slot None is found given visible plain =
         given-fits context word around.widths found suits.widths given
-        (by_local (is_some found) (is_local sight word)
+        (or-true_left (is_some found) (is_local sight word)
         (ap (λ o. is_some o || is_local sight word) (sym given) ∙ visible)
         (local-seen sight word ∙ ap is_some is))
         (ap gives_array (sym given) ∙ plain)

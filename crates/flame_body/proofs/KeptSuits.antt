@@ -7,7 +7,7 @@ use Rattle.std.specs.Str.{bytes_eq}
 use Rattle.std.proofs.lemmas.Bool.Decides.{Decides-eqb}
 use Rattle.std.proofs.lemmas.Option.{slice_get-map, slice_get_within}
 use Rattle.std.proofs.lemmas.Slice.Eq.{bytes_eq-Decides}
-use Rattle.std.proofs.lemmas.Bool.{lt-ltb, or_parts, not-false}
+use Rattle.std.proofs.lemmas.Bool.{lt-ltb, or_parts, not-false, or_right}
 use Rattle.flame_rows.proofs.Lists.{append-is_nil_left, append-is_nil_right}
 use Rattle.flame_rows.proofs.Truths.{is_some-false}
 use Rattle.flame_spec.specs.declared.models.Input.{Input}
@@ -39,13 +39,6 @@ pub record Stands (context : Context) (sight : Sight) (around : Around) : Type 0
   pub opened : (message : MessageType) (n : ℕ) (input : Input) → input_in context.runs message ≡ Some (n, input)
       → is_inside n around ≡ true → is_open_over sight message ≡ true
   pub looped : around.in_loop ≡ not (is_outside sight.loops)
-
--- ---- tests
-
--- the second of two tests holds
-or-right : (a b : Bool) → b ≡ true → (a || b) ≡ true
-or-right true b h = refl
-or-right false b h = h
 
 -- ---- inputs
 
@@ -190,7 +183,7 @@ over-inside context sight around m n input is s message k other entered found =
         let number : n ≡ k =
         same-number (n, input) (k, other) (sym is ∙ same-input context.runs m message name ∙ found) in
         ap (λ b. b || is_inside k around) ((Decides-eqb n k).1 number)
-    by_name false another entered = or-right (n == k) (is_inside k around) (s.inside message k other entered found)
+    by_name false another entered = or_right (n == k) (is_inside k around) (s.inside message k other entered found)
 
 -- and the place is inside no other input
 over-opened :
@@ -214,7 +207,7 @@ over-opened context sight around m n input is s message k other found inside = b
         same-message context.runs m message n input other is (found ∙ ap (λ i. Some (i, other)) (sym number)) in
         ap (λ b. b || is_open_over sight message) ((bytes_eq-Decides m.name message.name).1 name)
     by_number false another inside =
-        or-right (bytes_eq m.name message.name) (is_open_over sight message) (s.opened message k other found inside)
+        or_right (bytes_eq m.name message.name) (is_open_over sight message) (s.opened message k other found inside)
 
 -- in a loop over a message of which there is an input
 pub stands-in-input :

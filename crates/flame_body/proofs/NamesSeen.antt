@@ -1,12 +1,9 @@
 -- Names that are seen, and their numbers.
-use Rattle.std.proofs.Common.{◌≡◌, ℕ, List, [], ◌∷◌, length, Some, Bool, true, false, cond, refl, sym, ap, ◌∙◌, ◌<◌, arith}
+use Rattle.std.proofs.Common.{◌≡◌, ℕ, List, [], ◌∷◌, length, Some, Bool, true, false, cond, refl, ap, ◌∙◌, ◌<◌, arith}
 use Rattle.std.specs.Prelude.{is_some, ◌||◌}
-use Rattle.std.specs.List.{list_any}
 use Rattle.std.specs.Str.{bytes_eq}
-use Rattle.std.proofs.lemmas.List.Folds.{list_any-append}
 use Rattle.flame_rows.proofs.Bytes.{bytes_eq-sym}
 use Rattle.flame_spec.specs.KnownNames.{is_among}
-use Rattle.flame_spec.specs.Scopes.{laid}
 use Rattle.flame_body.specs.WordSlots.{local_number}
 
 -- a name is there where it has a number
@@ -22,15 +19,6 @@ among-number word (name ∷ names) =
         → (b || is_among word names) ≡ is_some (cond b (Some (length names)) (local_number names word))
     by_test true more = refl
     by_test false more = more
-
--- a name of one of these scopes is among them all
-pub among-laid :
-    (word : List ℕ) (scopes : List (List (List ℕ)))
-    → list_any (is_among word) scopes ≡ is_among word (laid scopes)
-among-laid word [] = refl
-among-laid word (scope ∷ scopes) =
-    ap (λ b. is_among word scope || b) (among-laid word scopes)
-    ∙ sym (list_any-append (bytes_eq word) scope (laid scopes))
 
 -- a number is below that of the names
 pub number-below :

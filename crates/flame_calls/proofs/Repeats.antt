@@ -1,8 +1,8 @@
 -- From a helper that is left over a cycle is met.
 use Rattle.std.proofs.Common.{◌≡◌, ℕ, zero, suc, ◌+◌, ◌<◌, List, [], ◌∷◌, ◌++◌, length, take, drop, reverse, refl, sym, subst, arith, true, false, Bool, not, Some, Option, cond}
-use Rattle.std.specs.Prelude.{◌==◌, ◌||◌}
+use Rattle.std.specs.Prelude.{◌==◌}
 use Rattle.std.specs.List.{All, position_or_len}
-use Rattle.std.proofs.lemmas.Bool.{not-true, false≢true}
+use Rattle.std.proofs.lemmas.Bool.{not-true}
 use Rattle.std.proofs.lemmas.List.{reverse-reverse, length-append, length-take, length-drop}
 use Rattle.std.proofs.lemmas.List.Elements.{All-append, All-drop, All-take}
 use Rattle.flame_spec.specs.Below.{is_in}
@@ -10,6 +10,7 @@ use Rattle.flame_spec.specs.HelperFaults.{call_cycle_from, call_cycle}
 use Rattle.flame_spec.specs.ModelOrder.{order, first_left, step_back, from_there, repeated_part, walk_back, least_of, begun_with_least}
 use Rattle.flame_spec.proofs.FirstBelow.{first_is_first}
 use Rattle.flame_spec.proofs.Orders.{Relation, remaining, remaining_push, remaining_all, left_steps_back}
+use Rattle.flame_spec.proofs.Counts.{position_or_len-is_in}
 
 -- at least one number, and each is below n
 pub record IsRound (n : ℕ) (xs : List ℕ) : Type 0 where
@@ -20,20 +21,12 @@ one_below : (n g : ℕ) → g < n → All (λ f. f < n) (g ∷ [])
 one_below n g l zero d h = l
 one_below n g l (suc i) d h = absurd (omega arith)
 
-place_within : (g : ℕ) (xs : List ℕ) → is_in g xs ≡ true → position_or_len (λ f. f == g) xs < length xs
-place_within g [] h = absurd (false≢true h)
-place_within g (x ∷ xs) h = go (x == g) h (place_within g xs)
-  where
-    go : (b : Bool) → (b || is_in g xs) ≡ true → (is_in g xs ≡ true → position_or_len (λ f. f == g) xs < length xs) → cond (not b) (1 + position_or_len (λ f. f == g) xs) 0 < length (x ∷ xs)
-    go true h rest = omega arith
-    go false h rest = omega (arith, rest h)
-
 repeats : (n : ℕ) (path : List ℕ) (g : ℕ) → All (λ f. f < n) path → is_in g path ≡ true → IsRound n (reverse (repeated_part path g))
 repeats n path g all there =
     let place = position_or_len (λ f. f == g) path in
     let P : List ℕ → Type 0 = IsRound n in
     let rest : IsRound n (drop place path) = record {
-      some = omega (arith, place_within g path there, length-drop place path);
+      some = omega (arith, position_or_len-is_in g path there, length-drop place path);
       below = All-drop (λ f. f < n) place path all;
     } in
     subst P (sym (reverse-reverse (drop place path))) rest

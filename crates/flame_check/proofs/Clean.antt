@@ -2,7 +2,7 @@
 use Rattle.std.proofs.Common.{◌≡◌, ℕ, List, [], ◌∷◌, ◌++◌, refl, sym, ap, ◌∙◌, Bool, true, false, cond, Some}
 use Rattle.std.specs.Prelude.{find, slice_get, not, ◌&&◌}
 use Rattle.std.specs.List.{flat_map}
-use Rattle.flame_rows.proofs.Lists.{append-is_nil_left, append-is_nil_right, list_any-at}
+use Rattle.flame_rows.proofs.Lists.{append-is_nil_left, append-is_nil_right, list_any-at, flat_map-none_at}
 use Rattle.flame_spec.specs.declared.faults.CheckFault.{CheckFault}
 use Rattle.flame_spec.specs.declared.models.Model.{Model}
 use Rattle.flame_spec.specs.declared.trees.Parameter.{Parameter}
@@ -14,7 +14,7 @@ use Rattle.flame_spec.specs.Definitions.{Definition, definitions, has_none, help
 use Rattle.flame_spec.specs.Definitions.{is_transition}
 use Rattle.flame_spec.specs.Functions.{Place, functions}
 use Rattle.flame_spec.specs.HelperFaults.{deep_faults, helper_context, recursive_faults}
-use Rattle.flame_check.proofs.Members.{Passes, found_passes, gives_none, kept_passes}
+use Rattle.flame_check.proofs.Members.{Passes, found_passes, kept_passes}
 use Rattle.flame_check.proofs.Parts.{laid_out}
 
 -- the faults behind those of C functions that are defined twice
@@ -74,7 +74,7 @@ clean_helper model units number d h there =
     (λ b.
     cond b (definition_faults (helper_context model hs d) d) (flat_map (body_faults model hs d) (functions model)))
     (sym kept.passes)
-    ∙ gives_none (bodies_faults model hs) (definitions units) kept.place d (clean_bodies model units h) kept.there
+    ∙ flat_map-none_at (bodies_faults model hs) (definitions units) kept.place d (clean_bodies model units h) kept.there
 
 -- ---- functions of the model
 
@@ -103,7 +103,7 @@ bare model units number place d h runs =
     let any =
     list_any-at (is_run_by d) (functions model) number place runs.there (run_by model units number place d runs) in
     let none =
-    gives_none (with_parameters_faults model) (definitions units) found.place d (all_bare model units h) found.there in
+    flat_map-none_at (with_parameters_faults model) (definitions units) found.place d (all_bare model units h) found.there in
     by_list d.parameters
     (sym (ap (λ b. with_parameters_where (not (has_none d.parameters) && b) d) any) ∙ none)
   where
@@ -126,7 +126,7 @@ clean_run model units number place d h runs =
     let named =
     list_any-at (λ (p : Place). is_for p.function d) (functions model) number place runs.there found.passes in
     let body =
-    gives_none (bodies_faults model hs) (definitions units) found.place d (clean_bodies model units h) found.there in
+    flat_map-none_at (bodies_faults model hs) (definitions units) found.place d (clean_bodies model units h) found.there in
     let all : flat_map (body_faults model hs d) (functions model) ≡ [] =
     ap
     (λ b.
@@ -135,7 +135,7 @@ clean_run model units number place d h runs =
     ∙ body in
     ap (λ b. cond b (definition_faults (context model hs d place) d) [])
     (sym (run_by model units number place d runs))
-    ∙ gives_none (body_faults model hs d) (functions model) number place all runs.there
+    ∙ flat_map-none_at (body_faults model hs d) (functions model) number place all runs.there
   where
     none_helps : (a b : Bool) → b ≡ true → (a && not b) ≡ false
     none_helps a b e = ap (λ c. a && not c) e ∙ falls a

@@ -3,7 +3,6 @@ use Rattle.std.proofs.Common.{◌≡◌, ℕ, zero, suc, ◌+◌, ◌<◌, List,
 use Rattle.std.proofs.Common.{true, false, ◌||◌, cond, Some, arith}
 use Rattle.std.specs.Prelude.{find, slice_get, is_some}
 use Rattle.std.specs.List.{filter, flat_map, list_any}
-use Rattle.flame_rows.proofs.Lists.{append-is_nil_left, append-is_nil_right}
 use Rattle.flame_spec.specs.Lists.{numbers_from}
 
 -- it stands in this place of the list, and passes the test
@@ -58,19 +57,6 @@ is_some-find {X} test (x ∷ xs) = by_test (test x) (is_some-find test xs)
         → is_some (cond b (Some x) (find test xs)) ≡ b || list_any test xs
     by_test true e = refl
     by_test false e = e
-
--- what an item gives, where all of them together give nothing
-pub gives_none :
-    {X Y : Type 0} (gives : X → List Y) (xs : List X) (i : ℕ) (x : X)
-    → flat_map gives xs ≡ []
-    → slice_get xs i ≡ Some x
-    → gives x ≡ []
-gives_none gives [] i x none h = absurd (cc)
-gives_none gives (y ∷ xs) zero x none h =
-    let same : y ≡ x = cc in
-    ap gives (sym same) ∙ append-is_nil_left (gives y) (flat_map gives xs) none
-gives_none gives (y ∷ xs) (suc i) x none h =
-    gives_none gives xs i x (append-is_nil_right (gives y) (flat_map gives xs) none) h
 
 -- ---- numbers
 

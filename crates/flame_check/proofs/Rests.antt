@@ -1,6 +1,6 @@
 -- First faults of a list that is walked.
 use Rattle.std.proofs.Common.{◌≡◌, ℕ, ◌+◌, ◌<◌, List, [], ◌∷◌, ◌++◌, length, map, take, drop, get_or, reverse, sym}
-use Rattle.std.proofs.Common.{ap, subst, ◌∙◌, true, false, Some}
+use Rattle.std.proofs.Common.{ap, ◌∙◌, true, false, Some}
 use Rattle.std.specs.Prelude.{slice_get}
 use Rattle.std.specs.List.{flat_map}
 use Rattle.std.proofs.lemmas.List.{at_drop_more, take_more, map-append, reverse-append}
@@ -14,12 +14,8 @@ use Rattle.flame_spec.specs.Definitions.{Definition}
 use Rattle.flame_spec.specs.FirstFaults.{FailsBy, FailsFirst}
 use Rattle.flame_spec.specs.KnownNames.{is_among}
 use Rattle.flame_spec.specs.Lists.{first}
+use Rattle.flame_spec.proofs.FaultLists.{FailsFirst-append, FailsFirst-same}
 use Rattle.flame_lookup.specs.Sources.{names_before}
-use Rattle.flame_numbering.proofs.Firsts.{first_more}
-
--- equal faults have the same first
-pub fails_same : (fail : Fail CheckFault) (xs ys : List CheckFault) → xs ≡ ys → FailsFirst ys fail → FailsFirst xs fail
-fails_same fail xs ys e h = let P : List CheckFault → Type 0 = λ l. FailsFirst l fail in subst P (sym e) h
 
 -- a fault in front is the first
 pub fails_by :
@@ -50,9 +46,7 @@ pub rest_fails :
     → FailsFirst (faults (see x)) fail
     → FailsFirst whole fail
 rest_fails see faults xs i x whole fail h is rest first =
-    fails_same fail whole (faults (see x) ++ flat_map faults (map see (drop (i + 1) xs)))
-    (rest ∙ rest_is see faults xs i x h is)
-    (first_more (faults (see x)) (flat_map faults (map see (drop (i + 1) xs))) fail first)
+    FailsFirst-same fail (faults (see x) ++ flat_map faults (map see (drop (i + 1) xs))) whole (sym (rest ∙ rest_is see faults xs i x h is)) (FailsFirst-append fail (faults (see x)) (flat_map faults (map see (drop (i + 1) xs))) first)
 
 -- ---- the same of items as they are
 
@@ -77,9 +71,7 @@ pub item_fails :
     → FailsFirst (faults (get_or xs i d)) fail
     → FailsFirst whole fail
 item_fails faults xs i d whole fail h rest first =
-    fails_same fail whole (faults (get_or xs i d) ++ flat_map faults (drop (i + 1) xs))
-    (rest ∙ at_drop_more (flat_map faults) xs i d h)
-    (first_more (faults (get_or xs i d)) (flat_map faults (drop (i + 1) xs)) fail first)
+    FailsFirst-same fail (faults (get_or xs i d) ++ flat_map faults (drop (i + 1) xs)) whole (sym (rest ∙ at_drop_more (flat_map faults) xs i d h)) (FailsFirst-append fail (faults (get_or xs i d)) (flat_map faults (drop (i + 1) xs)) first)
 
 -- ---- names of earlier C functions
 
@@ -124,9 +116,7 @@ pub twice_fails :
     → FailsBy (record { kind = DefinedTwice; file = d.file; line = d.line; name = d.name }) fail
     → FailsFirst whole fail
 twice_fails ds i d whole fail h rest known by =
-    fails_same fail whole _
-    (rest
+    FailsFirst-same fail _ whole (sym (rest
     ∙ twice_is ds i d h
-    ∙ ap (λ b. twice_where b d ++ twice_faults (d.name ∷ names_before i ds) (drop (i + 1) ds)) known)
-    (fails_by (record { kind = DefinedTwice; file = d.file; line = d.line; name = d.name })
+    ∙ ap (λ b. twice_where b d ++ twice_faults (d.name ∷ names_before i ds) (drop (i + 1) ds)) known)) (fails_by (record { kind = DefinedTwice; file = d.file; line = d.line; name = d.name })
     (twice_faults (d.name ∷ names_before i ds) (drop (i + 1) ds)) fail by)

@@ -1,14 +1,14 @@
 -- Runs of valid codes end, and leave no more fuel than they began with.
-use Rattle.std.proofs.Common.{◌≡◌, ℕ, zero, suc, ◌<◌, ◌≤◌, Bool, true, false, ◌==◌, List, [], ◌∷◌, length, Option, Some, None, refl, sym, ap, ◌∙◌, subst, arith}
+use Rattle.std.proofs.Common.{◌≡◌, ℕ, zero, suc, ◌<◌, ◌≤◌, true, false, ◌==◌, List, [], length, Option, Some, None, refl, sym, ap, ◌∙◌, arith}
 use Rattle.std.specs.Prelude.{ℤ, slice_get, slice_index}
 use Rattle.std.specs.List.{list_all}
 use Rattle.std.specs.Option.{option_map_or}
 use Rattle.std.proofs.lemmas.Bool.{and_parts, eqb-true, ltb-true}
 use Rattle.std.proofs.lemmas.Option.{slice_get_within}
+use Rattle.flame_rows.proofs.Lists.{list_all-at, slice_get-some}
 use Rattle.flame_spec.specs.declared.outcomes.Effect.{Effect}
 use Rattle.flame_spec.specs.declared.outcomes.Outcome.{Outcome}
 use Rattle.flame_spec.specs.declared.outcomes.Outcome.TheVariants.{Ended}
-use Rattle.flame_code.specs.declared.instrs.Instr.{Instr}
 use Rattle.flame_code.specs.declared.instrs.Instr.TheVariants.{Call}
 use Rattle.flame_code.specs.Feeds.{Fed}
 use Rattle.flame_code.specs.InputRows.{rows_of, HaveWidths}
@@ -56,29 +56,19 @@ count_there : (parameters : List ℕ) (h n : ℕ) (o : Option ℕ) → slice_get
 count_there parameters h n None e t = cc
 count_there parameters h n (Some m) e t = e ∙ ap Some (eqb-true m n t)
 
-all_at : (test : Instr → Bool) (code : List Instr) (p : ℕ) (i : Instr) → list_all test code ≡ true → slice_get code p ≡ Some i → test i ≡ true
-all_at test [] p i all e = cc
-all_at test (x ∷ xs) zero i all e = let same : x ≡ i = cc in subst (λ y. test y ≡ true) same (and_parts _ _ all).0
-all_at test (x ∷ xs) (suc p) i all e = all_at test xs p i (and_parts _ _ all).1 e
-
 pub call_counts : (parameters : List ℕ) (r : Routine) (p l h n : ℕ) → calls_fit parameters r ≡ true → slice_get r.instrs p ≡ Some (Call l h n) → slice_get parameters h ≡ Some n
-call_counts parameters r p l h n fit at = count_there parameters h n (slice_get parameters h) refl (all_at (call_fits parameters) r.instrs p (Call l h n) fit at)
+call_counts parameters r p l h n fit at = count_there parameters h n (slice_get parameters h) refl (list_all-at (call_fits parameters) r.instrs p (Call l h n) fit at)
 
 -- a call goes to a smaller height
 pub call_falls : (heights : List ℕ) (height : ℕ) (r : Routine) (p l h n : ℕ) → list_all (calls_below heights height) r.instrs ≡ true → slice_get r.instrs p ≡ Some (Call l h n) → slice_index heights h < height
 call_falls heights height r p l h n below at =
-    ltb-true (slice_index heights h) height (all_at (calls_below heights height) r.instrs p (Call l h n) below at)
-
-some_routine : (rs : List Routine) (h : ℕ) → h < length rs → (r : Routine) × (slice_get rs h ≡ Some r)
-some_routine [] h lt = absurd (omega arith)
-some_routine (r ∷ rs) zero lt = (r, refl)
-some_routine (r ∷ rs) (suc h) lt = some_routine rs h (omega arith)
+    ltb-true (slice_index heights h) height (list_all-at (calls_below heights height) r.instrs p (Call l h n) below at)
 
 -- a call that fits names a helper
 pub call_named : (helpers : HelperCodes) (r : Routine) (p l h n : ℕ) → AreHelpers helpers → calls_fit helpers.parameters r ≡ true → slice_get r.instrs p ≡ Some (Call l h n) → (helper : Routine) × (slice_get helpers.routines h ≡ Some helper)
 call_named helpers r p l h n are fit at =
     let w = slice_get_within helpers.parameters h n (call_counts helpers.parameters r p l h n fit at) in
-    some_routine helpers.routines h (omega (arith, are.counts))
+    slice_get-some helpers.routines h (omega (arith, are.counts))
 
 -- ---- ends
 
@@ -163,7 +153,7 @@ module _ (g : Given) (helpers : HelperCodes) (are : AreHelpers helpers) (all_val
 ready_stands : (helpers : HelperCodes) (r : Routine) (from : Entry) → IsReady helpers r from → IsOnPath r (begun from.memory from.feeds from.fuel)
 ready_stands helpers r from ready = begun_stands r from.memory from.feeds from.fuel ready.entry.memory ready.entry.rows
 
-abbrev given : Entry → Given
+abbrev pub given : Entry → Given
 given from = record { constants = from.constants; iteration = from.iteration }
 
 pub some_meaning : (helpers : HelperCodes) (r : Routine) (from : Entry) → IsReady helpers r from → (o : Outcome) × Means helpers.routines r from o

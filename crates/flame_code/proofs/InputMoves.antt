@@ -4,7 +4,7 @@ use Rattle.std.specs.Prelude.{ℤ, slice_get, slice_set, slice_index, option_and
 use Rattle.std.specs.Option.{option_map_or}
 use Rattle.std.proofs.lemmas.Bool.{ltb-true, eqb-true, eq-eqb, cases_Bool}
 use Rattle.std.proofs.lemmas.Option.{slice_get-map, get_or_from_slice_get}
-use Rattle.flame_rows.proofs.Lists.{slice_get-slice_set}
+use Rattle.flame_rows.proofs.Lists.{slice_get-slice_set, slice_get-some}
 use Rattle.flame_code.specs.Feeds.{Fed, with_come, has_more, with_more, with_input, last_of, last_come, at_start, has_next, at_next, field}
 use Rattle.flame_code.specs.InputRows.{rows_of, HaveWidths}
 use Rattle.flame_code.specs.Routines.{Delivered, delivery}
@@ -69,11 +69,6 @@ left_current i d feeds all k e =
     (λ f. all k (sym (ap (λ b. cond b false (d k)) f) ∙ e))
     (cases_Bool (k == i))
 
-some_row : (rows : List (List ℤ)) (p : ℕ) → p < length rows → (row : List ℤ) × (slice_get rows p ≡ Some row)
-some_row [] p h = absurd (omega arith)
-some_row (r ∷ rs) zero h = (r, refl)
-some_row (r ∷ rs) (suc p) h = some_row rs p (omega arith)
-
 pub last_of-next : (rows : List (List ℤ)) (p : ℕ) → last_of (p + 1) rows ≡ slice_get rows p
 last_of-next rows p = let e : p + 1 ≡ suc p = omega arith in ap (λ n. last_of n rows) e
 
@@ -81,7 +76,7 @@ came_by : (i : ℕ) (feeds : List Fed) (o : Option Fed) → slice_get feeds i �
     → (row : List ℤ) × (option_and_then last_come (slice_get (option_map_or (λ fed. slice_set feeds i (with_more fed)) o feeds) i) ≡ Some row)
 came_by i feeds None e h = absurd (let bad : false ≡ true = h in cc)
 came_by i feeds (Some fed) e h =
-    let row = some_row fed.rows fed.come (ltb-true _ _ h) in
+    let row = slice_get-some fed.rows fed.come (ltb-true _ _ h) in
     let moved : with_more fed ≡ with_come (fed.come + 1) fed = ap (λ b. cond b (with_come (fed.come + 1) fed) fed) h in
     (row.0, ap (option_and_then last_come) (slice_get-slice_set feeds i (with_more fed) fed e) ∙ ap last_come moved ∙ last_of-next fed.rows fed.come ∙ row.1)
 
@@ -106,16 +101,11 @@ row_wide : (w : List ℕ) (feeds : List Fed) (i : ℕ) (row : List ℤ) (o : Opt
 row_wide w feeds i row None all e h = cc
 row_wide w feeds i row (Some fed) all e h = wide_of w feeds i fed row all e fed.come h
 
-some_number : (row : List ℤ) (v : ℕ) → v < length row → (x : ℤ) × (slice_get row v ≡ Some x)
-some_number [] v h = absurd (omega arith)
-some_number (x ∷ xs) zero h = (x, refl)
-some_number (x ∷ xs) (suc v) h = some_number xs v (omega arith)
-
 -- a column of a row that was delivered is there
 pub field_there : (w : List ℕ) (d : Delivered) (feeds : List Fed) (i v : ℕ) → HaveWidths w (rows_of feeds) → AreCurrent d feeds → d i ≡ true → v < slice_index w i → (x : ℤ) × (field i v feeds ≡ Some x)
 field_there w d feeds i v all now came h =
     let row = now i came in
     let wide = row_wide w feeds i row.0 (slice_get feeds i) all refl row.1 in
     let size : slice_index w i ≡ length row.0 = get_or_from_slice_get w i (length row.0) 0 wide in
-    let x = some_number row.0 v (omega arith) in
+    let x = slice_get-some row.0 v (omega arith) in
     (x.0, ap (option_and_then (λ row. slice_get row v)) row.1 ∙ x.1)

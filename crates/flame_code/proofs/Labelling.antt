@@ -3,7 +3,7 @@ use Rattle.std.proofs.Common.{◌≡◌, ◌≢◌, ℕ, zero, suc, ◌+◌, ◌
 use Rattle.std.specs.Prelude.{slice_get, nat_le}
 use Rattle.std.specs.List.{list_all}
 use Rattle.std.specs.Option.{option_map_or}
-use Rattle.std.proofs.lemmas.Bool.{and_parts, false_from_ne_true, eqb-true, ltb-true, leb-true, not-true}
+use Rattle.std.proofs.lemmas.Bool.{and_parts, false_from_ne_true, eqb-true, ltb-true, leb-true, not-true, or_cases}
 use Rattle.std.proofs.lemmas.Option.{slice_get_within}
 use Rattle.flame_spec.specs.declared.outcomes.Widths.{Widths}
 use Rattle.flame_code.specs.declared.instrs.Instr.{Instr}
@@ -15,10 +15,6 @@ use Rattle.flame_code.specs.declared.labels.Label.{Label}
 use Rattle.flame_code.specs.Routines.{Routine, takes, leaves, goes_on, target, reads, Delivered, passed, jumped, IsWithin}
 use Rattle.flame_code.specs.Validity.{Path, starts, goes, jumps, SpendsFuel, GoesForward, IsValid}
 use Rattle.flame_code.specs.Labels.{has_input, has_passed, has_jumped, fits_at, goes_fit, spends, forward_fit, target_fit, is_within, place_fits, all_fit, starts_fit, is_return, labels_fit}
-
-either : (a b : Bool) → (a || b) ≡ true → (a ≡ true) ⊎ (b ≡ true)
-either true b e = inl refl
-either false b e = inr e
 
 six : (a b c d e f : Bool) → (a && (b && (c && (d && (e && f))))) ≡ true → (a ≡ true) × (b ≡ true) × (c ≡ true) × (d ≡ true) × (e ≡ true) × (f ≡ true)
 six true true true true true f h = (refl, refl, refl, refl, refl, h)
@@ -35,7 +31,7 @@ member test [] k all e = absurd (let bad : false ≡ true = e in cc)
 member test (x ∷ xs) k all e =
     ⊎_elim (λ t. subst (λ y. test y ≡ true) (eqb-true x k t) (and_parts _ _ all).0)
     (λ t. member test xs k (and_parts _ _ all).1 t)
-    (either (x == k) (has_input xs k) e)
+    (or_cases (x == k) (has_input xs k) e)
 
 gone : (k i : ℕ) (rows : List ℕ) (d : Delivered) → ((k : ℕ) → has_input rows k ≡ true → d k ≡ true) → (not (k == i) && has_input rows k) ≡ true → cond (k == i) false (d k) ≡ true
 gone k i rows d knows e =
@@ -43,7 +39,7 @@ gone k i rows d knows e =
     ap (λ b. cond b false (d k)) (not-true (k == i) p.0) ∙ knows k p.1
 
 come : (k i : ℕ) (rows : List ℕ) (d : Delivered) → ((k : ℕ) → has_input rows k ≡ true → d k ≡ true) → ((k == i) || has_input rows k) ≡ true → cond (k == i) true (d k) ≡ true
-come k i rows d knows e = by_case (k == i) (either (k == i) (has_input rows k) e) (knows k)
+come k i rows d knows e = by_case (k == i) (or_cases (k == i) (has_input rows k) e) (knows k)
   where
     by_case : (b : Bool) → (b ≡ true) ⊎ (has_input rows k ≡ true) → (has_input rows k ≡ true → d k ≡ true) → cond b true (d k) ≡ true
     by_case true o f = refl
@@ -178,7 +174,7 @@ module _ (r : Routine) (labels : List Label) (fit : labels_fit r labels ≡ true
     next_label g =
         ⊎_elim (λ n. absurd (let bad : false ≡ true = sym (not-true (goes_on i) n) ∙ g in cc))
         (λ e. behind r.widths i here.label (has_passed i here.label.rows) (slice_get labels (p + 1)) e)
-        (either (not (goes_on i)) _ part_goes)
+        (or_cases (not (goes_on i)) _ part_goes)
 
     aimed : (t : ℕ) → target i ≡ Some t → target_fit r labels p i here.label (Some t) ≡ true
     aimed t e = subst (λ o. target_fit r labels p i here.label o ≡ true) e part_target
@@ -249,7 +245,7 @@ module _ (r : Routine) (labels : List Label) (fit : labels_fit r labels ≡ true
     spends = λ p t i j at aims le there.
         ⊎_elim (λ lt. let w : p < t = ltb-true _ _ lt in absurd (omega arith))
         (λ s. spends_there p t j (slice_get r.instrs t) there s)
-        (either _ _ (and_parts _ _ (aimed p i at t aims)).1);
+        (or_cases _ _ (and_parts _ _ (aimed p i at t aims)).1);
     level = λ {p} {h} {k} {d} {e} a b.
         let x = says p h d a in let y = says p k e b in
         let same = ap (λ (l : Label). l.height) (same_label p x.label y.label x.at y.at) in

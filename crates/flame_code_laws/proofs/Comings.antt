@@ -1,10 +1,11 @@
 -- What statements come to, step by step, and locals that are set.
-use Rattle.std.proofs.Common.{◌≡◌, ℕ, suc, ◌<◌, ◌≤◌, ◌==◌, Bool, true, false, cond, List, [], ◌∷◌, ◌++◌, length, reverse, take, drop, refl, sym, ap, ◌∙◌, arith, length-append, lt-ltb}
+use Rattle.std.proofs.Common.{◌≡◌, ℕ, suc, ◌<◌, ◌≤◌, ◌==◌, Bool, true, false, cond, List, [], ◌∷◌, ◌++◌, length, reverse, take, drop, refl, sym, ap, ◌∙◌, arith, length-append, lt-ltb, append_assoc}
 use Rattle.std.specs.Prelude.{ℤ, Result, Ok, Err, nat_lt, option_and_then}
 use Rattle.std.proofs.lemmas.Bool.{eqb-true, eqb-false, ltb-true, le-leb}
 use Rattle.std.proofs.lemmas.List.{length-reverse, reverse-append, reverse-reverse}
 use Rattle.std.proofs.Math.Seq.{take-append_seam, drop-append_seam}
 use Rattle.flame_spec.specs.declared.faults.Fault.{Fault}
+use Rattle.flame_spec.proofs.FirstBelow.{below_last}
 use Rattle.flame_code.specs.Feeds.{last_come}
 use Rattle.flame_code.specs.Machine.{Config, StepEnd, with_row, stuck, returned as given_back, faulted as fell}
 use Rattle.flame_meaning.specs.Scenes.{Local, Progress}
@@ -16,16 +17,11 @@ use Rattle.flame_code_laws.specs.Standings.{Frame, IsSound, Follows, Reached, Co
 
 -- ---- rows on the stack
 
--- one value between two lists
-append_one : (xs : List ℤ) (v : ℤ) (ys : List ℤ) → (xs ++ v ∷ []) ++ ys ≡ xs ++ v ∷ ys
-append_one [] v ys = refl
-append_one (x ∷ xs) v ys = ap (λ zs. x ∷ zs) (append_one xs v ys)
-
 -- numbers on the stack, the last first
 pushed_reverse : (vs stack : List ℤ) → pushed vs stack ≡ reverse vs ++ stack
 pushed_reverse [] stack = refl
 pushed_reverse (v ∷ vs) stack =
-    pushed_reverse vs (v ∷ stack) ∙ sym (append_one (reverse vs) v stack)
+    pushed_reverse vs (v ∷ stack) ∙ sym (append_assoc (reverse vs) (v ∷ []) stack)
     ∙ ap (λ xs. xs ++ stack) (sym (reverse-append (v ∷ []) vs))
 
 -- they are taken from the stack as they are
@@ -77,10 +73,6 @@ other_same a k n e d =
     ] in
     go (k == n) refl
 
--- a number below the next one that is not the same is below
-pub other_less : (k n : ℕ) → k < suc n → (n ≡ k → ⊥) → k < n
-other_less k n less other = omega (arith, less, other)
-
 -- the newest local is set, or an older one; it is read, or an older one
 read_by :
     (k number : ℕ) (v : ℤ) (x : Local) (xs : List Local) (b d : Bool)
@@ -104,8 +96,7 @@ read_by k number v x xs false true sets reads older within =
 read_by k number v x xs false false sets reads older within =
     ap (λ n. cond (n == k) x.value (local_at k (set_local_at number v xs))) (set_long number v xs)
     ∙ ap (λ t. cond t x.value (local_at k (set_local_at number v xs))) reads
-    ∙ older (lt-ltb k (length xs) (other_less k (length xs) (ltb-true k (suc (length xs)) within)
-    (eqb-false (length xs) k reads)))
+    ∙ older (lt-ltb k (length xs) (below_last k (length xs) (eqb-false (length xs) k reads) (ltb-true k (suc (length xs)) within)))
 
 -- it is read there, and the others are as they were
 pub set_read :

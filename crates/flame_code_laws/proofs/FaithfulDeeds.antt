@@ -25,7 +25,8 @@ use Rattle.flame_code_laws.proofs.Going.{has_left, has_right, has_first, has_res
 use Rattle.flame_code_laws.proofs.FaithfulExpressions.{arguments_give, numbers_long}
 use Rattle.flame_code_laws.proofs.Comings.{row_taken, refuel, alike_of, refueled, comes_led, values_come}
 use Rattle.flame_meaning.proofs.Fitting.{fitted_whole}
-use Rattle.flame_code_laws.proofs.FaithfulStores.{values_count, comes_at, arrived, call_comes, column_set}
+use Rattle.flame_compile.proofs.LabelledExpressions.{values_counted}
+use Rattle.flame_code_laws.proofs.FaithfulStores.{comes_at, arrived, call_comes, column_set}
 
 module _ (run : Running) (f : Frame) (sound : IsSound run f) where
   -- ---- call statements
@@ -160,7 +161,7 @@ module _ (run : Running) (f : Frame) (sound : IsSound run f) where
       let one_of = and_parts (nat_lt column f.around.widths.memory) (length es == 1) parts.0 in
       let single : length es ≡ 1 = eqb-true (length es) 1 one_of.1 in
       arguments_come es (length es) s c p (SetMem column ∷ []) (λ vs. done (Sets column) vs f.before s) follows
-      (values_count es f.around parts.1) low_it has
+      (values_counted es f.around parts.1) low_it has
       (λ vs q long has_last. single_set column vs s c q follows (long ∙ single) has_last)
   deed_comes (Sends number) es s c p follows fit_it low_it has =
       let width = slice_index_or f.around.widths.messages number 0 in
@@ -179,7 +180,7 @@ module _ (run : Running) (f : Frame) (sound : IsSound run f) where
   deed_comes (Calls line h) es s c p follows fit_it low_it has =
       let call = Call line h (length es) in
       arguments_come es (length es) s c p (call ∷ Drop ∷ []) (λ vs. done (Calls line h) vs f.before s) follows
-      (values_count es f.around fit_it) low_it has
+      (values_counted es f.around fit_it) low_it has
       (λ vs q long has_last.
       let two : q + 1 + 1 ≡ q + 2 = omega arith in
       call_comes run f sound s c line h (length es) vs q f.stack (length s.locals) (q + 2) (λ v t. went_on t) follows long

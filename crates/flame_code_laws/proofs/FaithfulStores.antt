@@ -6,6 +6,7 @@ use Rattle.std.proofs.lemmas.Bool.{and_parts, eqb-true, eqb-false, ltb-true, ne_
 use Rattle.flame_ops.specs.declared.integers.Op.{Op}
 use Rattle.flame_ops.specs.Integers.{applied}
 use Rattle.flame_spec.specs.Conditions.{number_at}
+use Rattle.flame_spec.proofs.FirstBelow.{below_last}
 use Rattle.flame_body.specs.declared.slots.Cells.{Cells}
 use Rattle.flame_body.specs.declared.slots.SlotExpr.{SlotExpr}
 use Rattle.flame_body.specs.declared.slots.SlotValue.{SlotValue}
@@ -14,7 +15,7 @@ use Rattle.flame_body.specs.declared.slots.SlotItem.{SlotItem}
 use Rattle.flame_body.specs.declared.slots.SlotTarget.{SlotTarget}
 use Rattle.flame_body.specs.declared.slots.SlotTarget.TheVariants as target
 use Rattle.flame_body.specs.declared.slots.SlotAssign.{SlotAssign}
-use Rattle.flame_body.specs.BodyFits.{Around, fit, fits, values_fit, numbers_of as count_of, together, stored_fits, initial_fits, target_fits, are_within, assignment_fits}
+use Rattle.flame_body.specs.BodyFits.{fits, stored_fits, initial_fits, target_fits, are_within, assignment_fits}
 use Rattle.flame_code.specs.declared.instrs.Instr.{Instr}
 use Rattle.flame_code.specs.declared.instrs.Instr.TheVariants.{Push, Dup, Loc, SetLoc, Mem, SetMem, MemAt, SetMemAt, Call}
 use Rattle.flame_code.specs.Machine.{Config, StepEnd, calls, act, set_local, store as stores, with_element, pay_from}
@@ -33,22 +34,9 @@ use Rattle.flame_code_laws.specs.LocalNumbers.{stored_below, initial_below, item
 use Rattle.flame_code_laws.specs.Standings.{Answered, Frame, IsSound, Follows, Comes}
 use Rattle.flame_code_laws.proofs.Going.{has_left, has_right, has_first, has_rest, valued, numbered, performed, failed as fails}
 use Rattle.flame_code_laws.proofs.FaithfulExpressions.{expression_does, arguments_give, numbers_long, operator_runs, cell_runs}
-use Rattle.flame_code_laws.proofs.Comings.{row_taken, other_less, set_long, set_read, refuel, alike_of, refueled, comes_led, value_comes, values_come}
-use Rattle.flame_body.proofs.FittedCalls.{value-number}
+use Rattle.flame_code_laws.proofs.Comings.{row_taken, set_long, set_read, refuel, alike_of, refueled, comes_led, value_comes, values_come}
+use Rattle.flame_compile.proofs.LabelledExpressions.{values_counted}
 use Rattle.flame_code_laws.proofs.FormNumbers.{same_column}
-
--- single values are as many numbers as there are values
-pub values_count :
-    (es : List SlotExpr) (around : Around)
-    → values_fit around es ≡ true
-    → count_of (map (fit around) es) ≡ Some (length es)
-values_count [] around e = refl
-values_count (e ∷ es) around all_fit_it =
-    let parts = and_parts (fits around e) (values_fit around es) all_fit_it in
-    let count : 1 + length es ≡ suc (length es) = omega arith in
-    ap (λ o. together o (count_of (map (fit around) es))) (value-number (fit around e) parts.0)
-    ∙ ap (together (Some 1)) (values_count es around parts.1)
-    ∙ ap Some count
 
 -- a local that is declared is read, and the others are as they were
 declared_read :
@@ -71,7 +59,7 @@ declared_read v s c number k reads is within =
           let less : k < suc (length s.locals) = ltb-true k (suc (length s.locals)) within in
           ap (λ t. cond t v (c.locals k))
           (ne_eqb k number (λ same. other (sym is ∙ sym same)))
-          ∙ reads k (lt-ltb k (length s.locals) (other_less k (length s.locals) less other))
+          ∙ reads k (lt-ltb k (length s.locals) (below_last k (length s.locals) other less))
     ] in
     go (length s.locals == k) refl
 
@@ -196,7 +184,7 @@ module _ (run : Running) (f : Frame) (sound : IsSound run f) where
   stored_comes (stored.Call line h es) s c p stack count q go follows fit_it low_it has comes =
       let args = (arguments es).code p in
       let alike = alike_of run f s c sound follows in
-      let counts = values_count es f.around fit_it in
+      let counts = values_counted es f.around fit_it in
       let call = Call line h (length es) in
       let end : p + length args + 1 ≡ p + length (args ++ call ∷ []) =
       (let long = length-append args (call ∷ []) in omega (arith, long)) in

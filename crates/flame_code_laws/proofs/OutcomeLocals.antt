@@ -1,6 +1,6 @@
 -- The locals with which a helper begins.
 use Rattle.std.proofs.Common.{◌≡◌, ℕ, zero, suc, ◌==◌, cond, List, [], ◌∷◌, ◌++◌, length, map, reverse, refl, sym, ap, ◌∙◌}
-use Rattle.std.specs.Prelude.{ℤ, pos, Some, slice_get, slice_index}
+use Rattle.std.specs.Prelude.{ℤ, pos}
 use lib.Dec.{eqb-zero-suc, eqb-suc-zero, eqb-suc-suc}
 use Rattle.std.proofs.lemmas.List.{length-reverse, reverse-append, reverse-reverse}
 use Rattle.flame_spec.specs.Conditions.{number_at}
@@ -62,9 +62,3 @@ entry_read vs k =
 -- there is a local for each argument
 pub entry_long : (vs : List ℤ) → length (reverse (map nameless vs)) ≡ length vs
 entry_long vs = length-reverse (map nameless vs) ∙ nameless_long vs
-
--- a number that is there is that at its place
-pub index_found : (xs : List ℕ) (h n : ℕ) → slice_get xs h ≡ Some n → slice_index xs h ≡ n
-index_found [] h n e = cc
-index_found (x ∷ xs) zero n e = cc
-index_found (x ∷ xs) (suc h) n e = index_found xs h n e

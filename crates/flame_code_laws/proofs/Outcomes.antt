@@ -3,6 +3,7 @@ use Rattle.std.proofs.Common.{◌≡◌, ℕ, zero, suc, ◌<◌, ◌≤◌, fal
 use Rattle.std.specs.Prelude.{ℤ, slice_get, slice_index, option_map}
 use Rattle.std.proofs.lemmas.Bool.{ltb-true}
 use Rattle.std.proofs.lemmas.Option.{slice_get-map}
+use Rattle.flame_rows.proofs.Lists.{slice_index-there}
 use Rattle.flame_spec.specs.declared.outcomes.Outcome.{Outcome}
 use Rattle.flame_spec.specs.HelperFaults.{deepest_calls}
 use Rattle.flame_body.specs.FunctionBodies.{NumberedBody}
@@ -13,7 +14,7 @@ use Rattle.flame_code.specs.Machine.{Given, Config, returned as given_back}
 use Rattle.flame_code.specs.Meanings.{Entry, Means, begun, entry}
 use Rattle.flame_code.specs.Routines.{Routine}
 use Rattle.flame_code.specs.Validity.{IsValid}
-use Rattle.flame_code.proofs.Endings.{AreValid, call_counts, call_falls, call_named, entry_stands, run_fell}
+use Rattle.flame_code.proofs.Endings.{AreValid, call_counts, call_falls, call_named, entry_stands, run_fell, given}
 use Rattle.flame_code.proofs.Uniqueness.{one_meaning}
 use Rattle.flame_compile.proofs.LabelledBodies.{emitted_valid}
 use Rattle.flame_meaning.specs.Scenes.{Gave, gave, failed}
@@ -25,7 +26,7 @@ use Rattle.flame_code_laws.specs.CodeRuns.{Ends}
 use Rattle.flame_code_laws.specs.LocalNumbers.{tree_numbered}
 use Rattle.flame_code_laws.specs.CodeOutcomes.{code_of, AreHelperBodies, IsFunctionBody, OutcomesRun}
 use Rattle.flame_code_laws.specs.Standings.{AnswerRuns, Answered, Helps, IsSound, Follows}
-use Rattle.flame_code_laws.proofs.OutcomeLocals.{entry_read, entry_long, index_found}
+use Rattle.flame_code_laws.proofs.OutcomeLocals.{entry_read, entry_long}
 use Rattle.flame_code_laws.proofs.OutcomeEnds.{running, opened, body_closed, closed_answers, closed_finishes}
 
 -- a body has before it what it has at its beginning
@@ -139,7 +140,7 @@ module _ (g : Given) (helpers : HelperCodes) (bodies : List NumberedBody) (are :
         most = omega arith;
       } in
       let many : slice_index helpers.parameters h ≡ length (entered values fuel).locals =
-      index_found helpers.parameters h (length values) counted ∙ sym (entry_long values) in
+      slice_index-there helpers.parameters h (length values) counted ∙ sym (entry_long values) in
       closed_answers run values fuel (runs_of body.tree before (entered values fuel))
       (helper_falls h body e values fuel)
       (body_closed g helpers.routines body before (entered values fuel) (entry values fuel)
@@ -222,10 +223,6 @@ module _ (g : Given) (helpers : HelperCodes) (bodies : List NumberedBody) (are :
   all_within body fit p line h n there =
       let named = call_named helpers (code_of body) p line h n are.helping fit there in
       (are.helping.bounded h named.0 named.1).0.1
-
--- what a code is given
-abbrev given : Entry → Given
-given from = record { constants = from.constants; iteration = from.iteration }
 
 -- the outcome of the body
 abbrev outcome_from : List NumberedBody → NumberedBody → Entry → Outcome

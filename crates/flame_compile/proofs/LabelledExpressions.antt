@@ -497,7 +497,7 @@ arguments_labelled (e ∷ es) around p h n sound number =
     (arguments_labelled es around (p + length ((expression e).code p)) (h + sums.left) sums.right sound sums.right_is))
 
 -- single values are as many numbers as there are values
-values_counted :
+pub values_counted :
     (es : List SlotExpr) (around : Around)
     → values_fit around es ≡ true
     → numbers_of (map (fit around) es) ≡ Some (length es)

@@ -4,7 +4,7 @@ use Rattle.std.specs.Prelude.{ℤ, pos}
 use Rattle.std.specs.Option.{option_or}
 use Rattle.std.specs.Ordering.{int_eq}
 use Rattle.std.specs.Cmp.{int_eq_equiv, signed_Decides}
-use Rattle.std.proofs.lemmas.Bool.{and_parts}
+use Rattle.std.proofs.lemmas.Bool.{and_parts, or_parts}
 use Rattle.flame_ops.specs.declared.integers.Op.{Op}
 use Rattle.flame_ops.specs.declared.integers.Op.TheVariants.{Eq}
 use Rattle.flame_spec.specs.Conditions.{Moment, number_at, compares, in_unit}
@@ -23,7 +23,7 @@ meets equality now = has_value equality.column (equal_value equality.equal now.m
 same_meets : (found equality : Equality) (now : Moment) → Some found ≡ Some equality → meets found now ≡ meets equality now
 same_meets found equality now e = let same : found ≡ equality = cc in ap (λ one. meets one now) same
 
-int_eq-sym : (a b : ℤ) → int_eq a b ≡ int_eq b a
+pub int_eq-sym : (a b : ℤ) → int_eq a b ≡ int_eq b a
 int_eq-sym = int_eq_equiv.symm
 
 between-meets : (a b : Term) (equality : Equality) (now : Moment)
@@ -94,10 +94,6 @@ one_equality_is_first test one = one_form-first (form_of test) one
 
 -- ---- the memory
 
-neither_left : (a b : Bool) → (a || b) ≡ false → a ≡ false
-neither_left true b h = h
-neither_left false b h = refl
-
 neither_right : (a b : Bool) → (a || b) ≡ false → b ≡ false
 neither_right true b h = absurd (true≢false h)
 neither_right false b h = h
@@ -117,15 +113,15 @@ module _ (memory other row : List ℤ) (iteration : ℤ) where
   unread-form : (form : TestForm) → reads_memory form ≡ false → form_truth form here ≡ form_truth form there
   unread-form (comparison op a b) h =
       ap₂ (compares op)
-      (unread-term a (neither_left (is_remembered a) (is_remembered b) h))
+      (unread-term a ((or_parts (is_remembered a) (is_remembered b) h).0))
       (unread-term b (neither_right (is_remembered a) (is_remembered b) h))
   unread-form (both left right) h =
       ap₂ ◌&&◌
-      (unread-form left (neither_left (reads_memory left) (reads_memory right) h))
+      (unread-form left ((or_parts (reads_memory left) (reads_memory right) h).0))
       (unread-form right (neither_right (reads_memory left) (reads_memory right) h))
   unread-form (either left right) h =
       ap₂ ◌||◌
-      (unread-form left (neither_left (reads_memory left) (reads_memory right) h))
+      (unread-form left ((or_parts (reads_memory left) (reads_memory right) h).0))
       (unread-form right (neither_right (reads_memory left) (reads_memory right) h))
   unread-form (negation part) h = ap not (unread-form part h)
   unread-form (timing period phase duration) h = ap (λ z. in_unit period z duration iteration) (unread-term phase h)

@@ -11,6 +11,7 @@ use Rattle.flame_spec.specs.declared.conditions.Operand.{Operand}
 use Rattle.flame_spec.specs.declared.conditions.Operand.TheVariants.{Number, Agent, Message}
 use Rattle.flame_spec.specs.TimeUnits.{unit_length}
 use Rattle.flame_spec.specs.Conditions.{Scope, Moment, operand_value, compares, in_unit, truth}
+use Rattle.flame_spec.proofs.ConditionForms.{truth-Compare, truth-Time}
 use Rattle.flame_cond.specs.declared.forms.Test.{Test, Compare, And, Or, Not, Time, the_lemmas}
 use Rattle.flame_cond.specs.declared.forms.Test.{And', Or', Not', more_of-Test, end_of-Test}
 use Rattle.flame_cond.specs.declared.forms.Test.TheBlock.{shape-the_row-Test-0, hidden-the_row-Test-0}
@@ -76,15 +77,6 @@ truth-Or scope a b now = search (rules, of_conditions)
 
 truth-Not : (scope : Scope) (a : Condition) (now : Moment) → truth scope (NotC a) now ≡ not (truth scope a now)
 truth-Not scope a now = search (rules, of_conditions)
-
-truth-Compare : (scope : Scope) (op : Op) (a b : Operand) (now : Moment)
-    → truth scope (CompareC op a b) now ≡ compares op (operand_value scope a now) (operand_value scope b now)
-truth-Compare scope op a b now = search (rules, of_conditions)
-
-truth-Time : (scope : Scope) (unit : List ℕ) (phase : Operand) (duration : ℤ) (now : Moment)
-    → truth scope (TimeC unit phase duration) now
-    ≡ in_unit (unit_length scope.units unit) (operand_value scope phase now) duration now.iteration
-truth-Time scope unit phase duration now = search (rules, of_conditions)
 
 test_of-And : (scope : Scope) (a b : Condition) → test_of scope (AndC a b) ≡ both (test_of scope a) (test_of scope b)
 test_of-And scope a b = search (rules, of_conditions)

@@ -1,14 +1,9 @@
 -- The units of a part of a condition have lengths where those of the whole do.
-use Rattle.std.proofs.Common.{◌≡◌, Bool, true, false, true≢false, ◌&&◌, List, IsTrue, sym, ap, ◌∙◌, rules}
-use Rattle.flame_spec.specs.declared.conditions.Condition.{Condition, And, Or, the_lemmas}
+use Rattle.std.proofs.Common.{◌≡◌, Bool, true, false, true≢false, ◌&&◌, List, IsTrue, sym, ap, ◌∙◌}
+use Rattle.flame_spec.specs.declared.conditions.Condition.{Condition, And, Or}
 use Rattle.flame_spec.specs.declared.models.TimeUnit.{TimeUnit}
 use Rattle.flame_spec.specs.Conditions.{has_lengths}
-
-has_lengths-And : (units : List TimeUnit) (a b : Condition) → has_lengths units (And a b) ≡ has_lengths units a && has_lengths units b
-has_lengths-And units a b = search (rules, the_lemmas)
-
-has_lengths-Or : (units : List TimeUnit) (a b : Condition) → has_lengths units (Or a b) ≡ has_lengths units a && has_lengths units b
-has_lengths-Or units a b = search (rules, the_lemmas)
+use Rattle.flame_spec.proofs.ConditionForms.{has_lengths-And, has_lengths-Or}
 
 second_true : (b c : Bool) → (b && c) ≡ true → c ≡ true
 second_true true c h = h

@@ -1,10 +1,9 @@
 -- What a test says of a row by a comparison of one of the row's columns.
-use Rattle.std.proofs.Common.{◌≡◌, Bool, true, false, not, ◌&&◌, refl, sym, ap, ◌∙◌, Option, Some, None, List}
+use Rattle.std.proofs.Common.{◌≡◌, true, not, ◌&&◌, refl, sym, ap, ◌∙◌, Option, Some, None, List}
 use Rattle.std.specs.Prelude.{ℤ, pos}
 use Rattle.std.specs.Option.{option_or}
-use Rattle.std.specs.Ordering.{int_eq}
-use Rattle.std.specs.Cmp.{int_eq_equiv}
 use Rattle.std.proofs.lemmas.Bool.{and_parts}
+use Rattle.flame_rows.proofs.Truths.{and-implied}
 use Rattle.flame_ops.specs.declared.integers.Op.{Op}
 use Rattle.flame_ops.specs.declared.integers.Op.TheVariants.{Lt, Gt, Le, Ge, Eq, Ne}
 use Rattle.flame_spec.specs.Conditions.{number_at, compares}
@@ -18,9 +17,7 @@ use Rattle.flame_cond.specs.Said.{passes}
 use Rattle.flame_cond.specs.RowTests.{column_passes}
 use Rattle.flame_cond.specs.ColumnTests.{turned, column_test, first_column_test, only_column_test}
 use Rattle.flame_cond.proofs.FormTruths.{form_truth, answer-form}
-
-int_eq-sym : (a b : ℤ) → int_eq a b ≡ int_eq b a
-int_eq-sym = int_eq_equiv.symm
+use Rattle.flame_cond.proofs.EqualTruths.{int_eq-sym}
 
 compares-turned : (op : Op) (a b : ℤ) → compares op a b ≡ compares (turned op) b a
 compares-turned Lt a b = refl
@@ -76,12 +73,6 @@ module _ (memory row : List ℤ) (test : ColumnTest) where
   first_form (negation part) e holds = cc
   first_form (timing period phase duration) e holds = cc
 
--- where the second holds the first does
-and-needed : (a b : Bool) → (b ≡ true → a ≡ true) → (a && b) ≡ b
-and-needed true b needed = refl
-and-needed false true needed = needed refl
-and-needed false false needed = refl
-
 -- a test that is one comparison passes the rows that pass it
 pub only_column : (filter : Test) (memory : List ℤ) (test : ColumnTest)
     → only_column_test (form_of filter) memory ≡ Some test
@@ -94,5 +85,5 @@ pub first_column : (filter : Test) (memory : List ℤ) (test : ColumnTest)
     → first_column_test (form_of filter) memory ≡ Some test
     → (row : List ℤ) → (column_passes test row && passes filter memory row) ≡ passes filter memory row
 first_column filter memory test e row =
-    and-needed (column_passes test row) (passes filter memory row)
+    and-implied (column_passes test row) (passes filter memory row)
     (λ holds. first_form memory row test (form_of filter) e (sym (answer-form filter (moment memory row (pos 0))) ∙ holds))

@@ -4,6 +4,7 @@ use Rattle.std.specs.Prelude.{not}
 use Rattle.std.proofs.lemmas.Bool.{and_parts, cases_Bool, ltb-true, true≢false}
 use Rattle.std.proofs.lemmas.List.{length-map}
 use Rattle.std.proofs.lemmas.Option.{slice_get_within}
+use Rattle.flame_rows.proofs.Lists.{slice_get-some}
 use Rattle.flame_spec.specs.declared.models.Model.{Model}
 use Rattle.flame_spec.specs.Before.{function_count}
 use Rattle.flame_spec.specs.Below.{is_in}
@@ -12,7 +13,6 @@ use Rattle.flame_events.specs.LegalEvents.{may_freeze, may_hand_in, may_shut, ou
 use Rattle.flame_events.proofs.Sound.{opens_with}
 use Rattle.flame_events.proofs.Works.{kept_is_output}
 use Rattle.flame_events.specs.CoreFits.{FitsCore, FitsWork}
-use Rattle.flame_events.proofs.Spots.{get_there}
 use Rattle.flame_spec.specs.Functions.{functions}
 use Rattle.flame_pieces.specs.Waiting.{thing_at}
 use Rattle.flame_pieces.specs.KeptStatuses.{status_of as kept_status}
@@ -87,7 +87,7 @@ module _ (model : Model) (progress : Progress) (counts : Counts) (tallies : Tall
       let less : f < length progress.statuses.items =
       omega (arith, open_within core.statuses f (works_of (status_of core f)) is, length-map progress.statuses.items kept_status) in
       let below : f < function_count model = omega (arith, less, tallies.functions) in
-      let place = get_there (functions model) f below in
+      let place = slice_get-some (functions model) f below in
       let work = each_at (FitsWork model f place.0.type) (works_of (status_of core f)) k hands.one (fits.works f place.0 place.1) hands.there in
       let among : is_in m outputs ≡ true = kept_is_output outputs hands.one.parts m hands.rows work.parts hands.part in
       record {

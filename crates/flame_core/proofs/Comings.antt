@@ -7,6 +7,7 @@ use Rattle.std.specs.List.{All, cons_option}
 use Rattle.std.proofs.lemmas.Bool.{and_from, cases_eq}
 use Rattle.std.proofs.lemmas.List.{length-map}
 use Rattle.std.proofs.lemmas.Result.{IfOk-weaker}
+use Rattle.std.proofs.lemmas.Slice.Zip.{AllZip-long}
 use Rattle.flame_rows.specs.Bags.{ascending, merge}
 use Rattle.flame_spec.specs.declared.models.Model.{Model}
 use Rattle.flame_spec.specs.Accepted.{IsAccepted}
@@ -31,7 +32,6 @@ use Rattle.flame_events.specs.Histories.{Leads}
 use Rattle.flame_events.specs.LegalEvents.{is_legal, outputs_of}
 use Rattle.flame_events.proofs.CoreWidths.{fitting_cores_open}
 use Rattle.flame_events.proofs.Growing.{histories_fit, histories_grow}
-use Rattle.flame_route.proofs.Places.{zip-length}
 use Rattle.flame_pieces.specs.declared.works.Work as run
 use Rattle.flame_pieces.specs.declared.statuses.Status as kept
 use Rattle.flame_pieces.specs.declared.statuses.Status.TheVariants as is
@@ -271,7 +271,7 @@ ending-iteration every seen accepted reached complete =
     let round = round_in seen in
     let start = start_in seen in
     let left = reached.leads.left in
-    let many = sym (zip-length _ seen.source.model.agents seen.world.agents reached.fits.agents) in
+    let many = sym ((sym (AllZip-long _ seen.source.model.agents seen.world.agents reached.fits.agents))) in
     ap (ending round) left
     ∙ (every seen.source seen.world seen.iteration seen.fuel seen.pieces reached.events accepted many reached.some reached.leads.legal).0
     (ap (is_complete seen.source.model) (sym left) ∙ complete)
@@ -281,7 +281,7 @@ pub goes_on : EveryOrderIsTheIteration → (seen : Seen) → IsAccepted seen.sou
     → CanGoOn seen.source.model seen.core
 goes_on every seen accepted reached less =
     let left = reached.leads.left in
-    let many = sym (zip-length _ seen.source.model.agents seen.world.agents reached.fits.agents) in
+    let many = sym ((sym (AllZip-long _ seen.source.model.agents seen.world.agents reached.fits.agents))) in
     subst (λ (core : Core). CanGoOn seen.source.model core) (sym left)
     ((every seen.source seen.world seen.iteration seen.fuel seen.pieces reached.events accepted many reached.some reached.leads.legal).1
     (ap (is_complete seen.source.model) (sym left) ∙ less))

@@ -3,9 +3,9 @@ use Rattle.std.proofs.Common.{◌≡◌, ℕ, zero, suc, ◌<◌, Bool, true, Li
 use Rattle.std.specs.Prelude.{ℤ, slice_get, slice_index_or}
 use Rattle.std.specs.List.{All, list_all}
 use Rattle.std.proofs.lemmas.Bool.{and_parts, false≢true, ltb-true}
+use Rattle.flame_rows.proofs.Lists.{slice_get-some}
 use Rattle.flame_events.specs.CoreStates.{Work, Core, work_of}
 use Rattle.flame_events.specs.LegalEvents.{may_run}
-use Rattle.flame_events.proofs.Spots.{get_there}
 use Rattle.flame_core.specs.NextAgents.{HasNext, IsNext}
 
 -- a piece that may run has a next agent
@@ -15,7 +15,7 @@ has_next core f k may = go (work_of core f k) refl may
     go : (o : Option Work) → work_of core f k ≡ o → may_run o ≡ true → HasNext core f k
     go None is left = absurd (false≢true left)
     go (Some work) is left =
-        let row = get_there work.agents work.ran (ltb-true work.ran (length work.agents) left) in
+        let row = slice_get-some work.agents work.ran (ltb-true work.ran (length work.agents) left) in
         record { memory = row.0; is = record { work = work; there = is; next = row.1 } }
 
 -- and so many agents are left in it

@@ -5,8 +5,8 @@ use Rattle.std.specs.List.{All, cons_option, filter_map, list_any}
 use Rattle.std.proofs.lemmas.Bool.{cases_eq, cases_lt, eq-eqb, ne_eqb, lt-ltb, le-ltb, ltb-true, and_parts, or_right}
 use Rattle.std.proofs.lemmas.List.{take_more}
 use Rattle.std.proofs.lemmas.List.Folds.{list_any-append}
-use Rattle.std.proofs.lemmas.Option.{slice_get_within}
-use Rattle.flame_rows.proofs.Lists.{list_any_map}
+use Rattle.std.proofs.lemmas.Option.{slice_get_within, slice_get_past}
+use Rattle.flame_rows.proofs.Lists.{list_any_map, slice_get-some}
 use Rattle.flame_spec.specs.declared.models.Model.{Model}
 use Rattle.flame_spec.specs.Before.{before, both_stand, function_count}
 use Rattle.flame_spec.specs.Below.{all_below, is_in}
@@ -17,7 +17,7 @@ use Rattle.flame_depend.specs.Edges.{edge, edges_below, edges_of, edges_to}
 use Rattle.flame_meaning.specs.Outcomes.{outputs_at}
 use Rattle.flame_events.specs.CoreStates.{Waiting}
 use Rattle.flame_events.specs.LegalEvents.{inputs_at, inputs_of, outputs_of}
-use Rattle.flame_events.proofs.Spots.{get_there, output_named}
+use Rattle.flame_events.proofs.Spots.{output_named}
 use Rattle.flame_pieces.specs.FreeThings.{Tells}
 use Rattle.flame_pieces.specs.Waiting as waits
 use Rattle.flame_pieces.specs.declared.statuses.Status.TheVariants as is
@@ -101,11 +101,6 @@ edge_below n stands (suc k) f g =
     ∙ (λ i. edge_below n stands k f g i || row i)
     ∙ last_or_less k f (λ h. nat_lt g n && stands h g)
 
-past_get : {X : Type 0} (xs : List X) (k : ℕ) → length xs ≤ k → slice_get xs k ≡ None
-past_get [] k over = refl
-past_get (x ∷ xs) zero over = absurd (omega (arith, over))
-past_get (x ∷ xs) (suc k) over = past_get xs k (omega (arith, over))
-
 stands_no : (one : Option Place) → both_stand one None ≡ false
 stands_no None = refl
 stands_no (Some place) = refl
@@ -120,7 +115,7 @@ edges_tell model f g less =
     (λ (within : g < n). ap (λ b. b && before model f g) (lt-ltb g n within))
     (λ (over : n ≤ g).
     ap (λ b. b && before model f g) (le-ltb g n over)
-    ∙ sym (ap (both_stand (slice_get (functions model) f)) (past_get (functions model) g over) ∙ stands_no (slice_get (functions model) f)))
+    ∙ sym (ap (both_stand (slice_get (functions model) f)) (slice_get_past (functions model) g over) ∙ stands_no (slice_get (functions model) f)))
     (cases_lt g n)
 
 -- ---- edges are between functions
@@ -144,12 +139,6 @@ edges_between model k e less at =
     let one = and_parts (nat_lt e.before n) (nat_lt e.after n && before model e.before e.after) is in
     let two = and_parts (nat_lt e.after n) (before model e.before e.after) one.1 in
     record { from = ltb-true e.before n one.0; to = ltb-true e.after n two.0 }
-
--- what is there is there, whatever stands for what is not
-pub other_default : {X : Type 0} (xs : List X) (k : ℕ) (d e : X) → k < length xs → get_or xs k d ≡ get_or xs k e
-other_default [] k d e less = absurd (omega (arith, less))
-other_default (x ∷ xs) zero d e less = refl
-other_default (x ∷ xs) (suc k) d e less = other_default xs k d e (omega (arith, less))
 
 -- one edge more
 pub edge_more : (edges : List Edge) (k : ℕ) (e : Edge) (f g : ℕ) → k < length edges → e ≡ get_or edges k e
@@ -248,7 +237,7 @@ all_read model m f = ⊎_elim
     (λ (less : f < function_count model). ap (λ b. b && is_in m (inputs_of model f)) (lt-ltb f (function_count model) less))
     (λ (over : function_count model ≤ f).
     ap (λ b. b && is_in m (inputs_of model f)) (le-ltb f (function_count model) over)
-    ∙ sym (ap (λ o. is_in m (inputs_at o model)) (past_get (functions model) f over)))
+    ∙ sym (ap (λ o. is_in m (inputs_at o model)) (slice_get_past (functions model) f over)))
     (cases_lt f (function_count model))
 
 -- all functions are told of
@@ -257,7 +246,7 @@ all_told n f b less = ap (λ t. t && b) (lt-ltb f n less)
 
 pub output_below : (model : Model) (f m : ℕ) → f < function_count model → is_in m (outputs_of model f) ≡ true → m < length model.messages
 output_below model f m less among =
-    let place = get_there (functions model) f less in
+    let place = slice_get-some (functions model) f less in
     let output = output_named model place.0 m (sym (ap (λ o. is_in m (outputs_at o model)) place.1) ∙ among) in
     slice_get_within model.messages m output.named.message output.named.there
 

@@ -1,6 +1,7 @@
 -- Routes of a program, function by function.
 use Rattle.std.proofs.Common.{◌≡◌, ℕ, ◌<◌, length, get_or, sym, ap, ◌∙◌, arith, refl}
 use Rattle.std.proofs.lemmas.Option.{slice_get_read}
+use Rattle.std.proofs.lemmas.Slice.Zip.{AllZip-long}
 use Rattle.flame_rows.proofs.Lists.{AllZip-at}
 use Rattle.flame_spec.specs.declared.models.Model.{Model}
 use Rattle.flame_spec.specs.Before.{function_count}
@@ -10,12 +11,11 @@ use Rattle.flame_events.specs.LegalEvents.{outputs_of}
 use Rattle.flame_route.specs.declared.routes.Route.{Route}
 use Rattle.flame_route.specs.declared.routes.Routes.{Routes}
 use Rattle.flame_route.specs.ModelRoutes.{AreRoutesOf, IsRouteOf}
-use Rattle.flame_route.proofs.Places.{zip-length}
 use Rattle.flame_round.specs.KeptRounds.{GoesBy}
 use Rattle.flame_round.proofs.Gets.{has-at}
 
 pub routes_many : (model : Model) (routes : Routes) → AreRoutesOf model routes → function_count model ≡ length routes.routes
-routes_many model routes are = zip-length (IsRouteOf model) (functions model) routes.routes are.each
+routes_many model routes are = (sym (AllZip-long (IsRouteOf model) (functions model) routes.routes are.each))
 
 pub goes_at : (model : Model) (routes : Routes) → AreRoutesOf model routes → (f : ℕ) (route : Route) → f < function_count model
     → route ≡ get_or routes.routes f route → GoesBy model f route

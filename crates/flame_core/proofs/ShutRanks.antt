@@ -6,6 +6,7 @@ use Rattle.std.proofs.Math.Dec.{eqb-suc-suc, eqb-zero-suc}
 use Rattle.std.proofs.lemmas.Bool.{cases_lt, false≢true}
 use Rattle.std.proofs.lemmas.List.Folds.{length-prefix_len}
 use Rattle.std.proofs.lemmas.List.Sums.{prefix_len-le-length, prefix_len_passes, prefix_len_stops, take_while-cons}
+use Rattle.flame_rows.proofs.Truths.{is_some-false}
 use Rattle.flame_spec.specs.declared.models.Model.{Model}
 use Rattle.flame_spec.specs.ModelOrder.{model_order}
 use Rattle.flame_world.specs.declared.faults.SimFault.{SimFault}
@@ -141,16 +142,12 @@ fault_stays model round pieces core next e own same legal is none was =
     ∙ ap (least_fault_rank round.source.model) (sym is)
     ∙ ap (λ (m : Model). least_fault_rank m next) same
 
-not_some : (o : Option SimFault) → is_some o ≡ false → o ≡ None
-not_some None none = refl
-not_some (Some fault) none = absurd (false≢true (sym none))
-
 -- and where the function that it shuts is not faulted
 pub fault_stays_shut : (model : Model) (round : Round) (pieces f : ℕ) (core next : Core) (own : Option ℕ) → round.source.model ≡ model
     → is_legal round.source.model core (event.Shut f) ≡ true → next ≡ after round pieces core (event.Shut f) → is_faulted next f ≡ false
     → own ≡ least_fault_rank model core → own ≡ least_fault_rank model next
 fault_stays_shut model round pieces f core next own same legal is sound was =
-    let none = ap (λ (k : Core). fault_of (status_of k f)) (sym is) ∙ not_some (fault_of (status_of next f)) sound in
+    let none = ap (λ (k : Core). fault_of (status_of k f)) (sym is) ∙ is_some-false (fault_of (status_of next f)) sound in
     was
     ∙ ap (λ (m : Model). least_fault_rank m core) (sym same)
     ∙ sym (ranks_stay_without_fault round pieces f core legal none)

@@ -6,6 +6,7 @@ use Rattle.std.proofs.lemmas.List.{length-map}
 use Rattle.std.proofs.lemmas.Option.{same_Some}
 use Rattle.std.proofs.lemmas.Simd.{map-map}
 use Rattle.flame_rows.specs.Bags.{ascending, merge}
+use Rattle.flame_rows.proofs.Lists.{slice_get-some}
 use Rattle.flame_spec.specs.declared.models.Model.{Model}
 use Rattle.flame_spec.specs.declared.outcomes.Outcome.{Outcome}
 use Rattle.flame_spec.specs.declared.outcomes.Source.{Source}
@@ -33,7 +34,6 @@ use Rattle.flame_events.specs.Histories.{Leads}
 use Rattle.flame_events.specs.LegalEvents.{outputs_of}
 use Rattle.flame_events.proofs.Absorbing.{agents_run_at_once}
 use Rattle.flame_events.proofs.Sound.{opens_with, past_waiting}
-use Rattle.flame_events.proofs.Spots.{get_there}
 use Rattle.flame_route.specs.declared.routes.Route.{Route}
 use Rattle.flame_progress.specs.declared.counts.Counts.{Counts}
 use Rattle.flame_progress.specs.declared.leavings.PartedLeaving.{PartedLeaving}
@@ -157,7 +157,7 @@ leads_on seen share fits can =
     let model = seen.source.model in
     let f = (piece_of share).function in
     let k = (piece_of share).number in
-    let place = get_there (functions model) f (piece_below model seen.core f k can.work fits can.there) in
+    let place = slice_get-some (functions model) f (piece_below model seen.core f k can.work fits can.there) in
     let is = each_at (FitsWork model f place.0.type) (works_of (status_of seen.core f)) k can.work (fits.works f place.0 place.1) can.there in
     record {
       legal = (agents_run_at_once (round_in seen) seen.pieces f k place.0 can.work seen.core place.1 can.there can.new is.some).0;
@@ -181,7 +181,7 @@ ranks_stay seen share next ranks fits can left ranked =
     let core = seen.core in
     let f = (piece_of share).function in
     let k = (piece_of share).number in
-    let place = get_there (functions model) f (piece_below model core f k can.work fits can.there) in
+    let place = slice_get-some (functions model) f (piece_below model core f k can.work fits can.there) in
     let is = each_at (FitsWork model f place.0.type) (works_of (status_of core f)) k can.work (fits.works f place.0 place.1) can.there in
     let same : next ≡ ran_agents (round_in seen) f k place.0 can.work core =
     left ∙ (agents_run_at_once (round_in seen) seen.pieces f k place.0 can.work core place.1 can.there can.new is.some).1 in

@@ -5,11 +5,12 @@ use Rattle.std.specs.Str.{bytes_eq}
 use Rattle.std.proofs.Math.Bool.{or-false}
 use Rattle.std.proofs.lemmas.Bool.{eq-eqb, ne_eqb, cases_eq}
 use Rattle.std.proofs.lemmas.List.{length-set}
+use Rattle.flame_rows.proofs.Lists.{slice_get-set_same, slice_get-set_other}
 use Rattle.flame_spec.specs.Functions.{Place}
 use Rattle.flame_spec.specs.Below.{is_in}
 use Rattle.flame_depend.specs.FunctionTables.{Table, listed}
 use Rattle.flame_depend.specs.Links.{enters_at, listed_at, AreEntering}
-use Rattle.flame_depend.proofs.Gets.{slice_get-set_same, slice_get-set_other, some_within, test_more, noted}
+use Rattle.flame_depend.proofs.Gets.{some_within, test_more, noted}
 
 pub entering_more : (types : ℕ) (ps : List Place) (tables : List Table) (i : ℕ) (p : Place) (old new : Table)
     → AreEntering types (take i ps) tables

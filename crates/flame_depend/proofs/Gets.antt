@@ -1,5 +1,5 @@
 -- What stands at a place, and one element more.
-use Rattle.std.proofs.Common.{◌≡◌, ℕ, zero, suc, ◌+◌, ◌<◌, List, [], ◌∷◌, ◌++◌, length, take, get_or, set, map, refl, sym, ap, ◌∙◌, arith, true, false, Bool, Some, None, Option, cond, ⊎_elim}
+use Rattle.std.proofs.Common.{◌≡◌, ℕ, zero, suc, ◌+◌, ◌<◌, List, [], ◌∷◌, ◌++◌, length, take, get_or, map, refl, sym, ap, ◌∙◌, arith, true, false, Bool, Some, None, Option, cond, ⊎_elim}
 use Rattle.std.specs.Prelude.{◌==◌, ◌&&◌, ◌||◌, slice_get, option_map}
 use Rattle.std.proofs.Math.Bool.{or-false}
 use Rattle.std.proofs.lemmas.Bool.{eq-eqb, ne_eqb, cases_eq}
@@ -11,18 +11,6 @@ use Rattle.flame_depend.specs.declared.place.Placed.{Placed}
 use Rattle.flame_depend.specs.PlacedFunctions.{shown}
 
 module _ {X : Type 0} where
-  pub slice_get-set_same : (xs : List X) (i : ℕ) (y : X) → i < length xs → slice_get (set xs i y) i ≡ Some y
-  slice_get-set_same [] i y h = absurd (omega arith)
-  slice_get-set_same (x ∷ xs) zero y h = refl
-  slice_get-set_same (x ∷ xs) (suc i) y h = slice_get-set_same xs i y (omega arith)
-
-  pub slice_get-set_other : (xs : List X) (i j : ℕ) (y : X) → (i ≡ j → ⊥) → slice_get (set xs i y) j ≡ slice_get xs j
-  slice_get-set_other [] i j y h = refl
-  slice_get-set_other (x ∷ xs) zero zero y h = absurd (h refl)
-  slice_get-set_other (x ∷ xs) zero (suc j) y h = refl
-  slice_get-set_other (x ∷ xs) (suc i) zero y h = refl
-  slice_get-set_other (x ∷ xs) (suc i) (suc j) y h = slice_get-set_other xs i j y (λ e. h (ap suc e))
-
   push_get : (xs : List X) (y : X) (f : ℕ) → slice_get (xs ++ y ∷ []) f ≡ cond (length xs == f) (Some y) (slice_get xs f)
   push_get [] y zero = refl
   push_get [] y (suc f) = sym (ap (λ b. cond b (Some y) None) (ne_eqb 0 (suc f) (λ e. absurd (omega (arith, e)))))

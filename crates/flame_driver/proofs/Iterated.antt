@@ -8,15 +8,11 @@ use Rattle.flame_spec.specs.declared.outcomes.Source.{Source}
 use Rattle.flame_world.specs.declared.faults.SimFault.{SimFault}
 use Rattle.flame_world.specs.declared.turns.Turn.{Turn}
 use Rattle.flame_world.specs.declared.turns.Turn.TheVariants.{Done, Faulted}
-use Rattle.flame_world.specs.declared.worlds.World.{World}
 use Rattle.flame_world.specs.Iterations.{iteration}
 use Rattle.flame_popfile.specs.declared.starts.Start.{Start}
+use Rattle.flame_popfile.proofs.StartParts.{start_from}
 use Rattle.flame_driver.specs.Runs.{Stage, stage, Run, and_run, run, run_by}
 use Rattle.flame_driver.specs.IteratedRuns.{start_behind, RunsAreIterated, and_then, RunsGoOn}
-
--- the start of this number and world
-abbrev pub start_at : ℤ → World → Start
-start_at itno world = record { itno = itno; world = world }
 
 pub no_some : {X R : Type 0} (x : X) → None ≡ Some x → R
 no_some x same = absurd (cc same)
@@ -55,7 +51,7 @@ module _ (source : Source) (fuel : ℕ) where
       by_turn rest (Done world boards) zero is =
           sym (ap (λ (s : Stage). s.itno) (same_Some (stage (next start) world boards) done is))
       by_turn rest (Done world boards) (suc place) is =
-          rest (start_at (next start) world) place is
+          rest (start_from (next start) world) place is
           ∙ one_on start.itno (place + 1) (suc place + 1) (omega arith)
 
   turn :
@@ -84,7 +80,7 @@ module _ (source : Source) (fuel : ℕ) where
       by_turn rest (Done world boards) came_is zero is =
           subst (λ (s : Stage). iteration source start.world s.itno fuel ≡ Done s.world s.boards)
           (same_Some (stage (next start) world boards) done is) came_is
-      by_turn rest (Done world boards) came_is (suc place) is = rest (start_at (next start) world) place is
+      by_turn rest (Done world boards) came_is (suc place) is = rest (start_from (next start) world) place is
 
   whole :
       (turns : ℕ) (start : Start)
@@ -102,7 +98,7 @@ module _ (source : Source) (fuel : ℕ) where
           → length (run_by (next start) came (run source fuel turns)).stages ≡ suc turns
       by_turn rest (Faulted fault) none = no_some fault (sym none)
       by_turn rest (Done world boards) none =
-          let count = rest (start_at (next start) world) none in
+          let count = rest (start_from (next start) world) none in
           omega (arith, count)
 
   fault :
@@ -131,12 +127,12 @@ module _ (source : Source) (fuel : ℕ) where
           ≡ Faulted f)
       by_turn rest (Faulted other) came_is is = (omega arith, came_is ∙ ap Faulted (same_Some other f is))
       by_turn rest (Done world boards) came_is is =
-          let found = rest (start_at (next start) world) is in
-          let left = (run source fuel turns (start_at (next start) world)).stages in (
+          let found = rest (start_from (next start) world) is in
+          let left = (run source fuel turns (start_from (next start) world)).stages in (
             omega (arith, found.0),
             subst
                 (λ (itno : ℤ).
-                iteration source (start_behind (start_at (next start) world) left).world itno fuel ≡ Faulted f)
+                iteration source (start_behind (start_from (next start) world) left).world itno fuel ≡ Faulted f)
                 (one_on start.itno (length left + 1) (suc (length left) + 1) (omega arith)) found.1,
           )
 
@@ -169,7 +165,7 @@ module _ (source : Source) (fuel : ℕ) where
           (run source fuel more (start_behind start (run_by (next start) came (run source fuel first)).stages))
       by_turn rest (Faulted fault) none = no_some fault (sym none)
       by_turn rest (Done world boards) none =
-          ap (λ (r : Run). and_run (stage (next start) world boards) r) (rest (start_at (next start) world) none)
+          ap (λ (r : Run). and_run (stage (next start) world boards) r) (rest (start_from (next start) world) none)
 
   ends :
       (first more : ℕ) (start : Start) (fault : SimFault)
@@ -191,7 +187,7 @@ module _ (source : Source) (fuel : ℕ) where
           ≡ run_by (next start) came (run source fuel first)
       by_turn rest (Faulted other) is = refl
       by_turn rest (Done world boards) is =
-          ap (λ (r : Run). and_run (stage (next start) world boards) r) (rest (start_at (next start) world) is)
+          ap (λ (r : Run). and_run (stage (next start) world boards) r) (rest (start_from (next start) world) is)
 
 pub runs_are_iterated : RunsAreIterated
 runs_are_iterated = record { number = number; turn = turn; whole = whole; fault = fault }

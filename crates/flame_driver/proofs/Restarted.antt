@@ -20,11 +20,12 @@ use Rattle.flame_popfile.specs.PopulationStarts.{start_of}
 use Rattle.flame_popfile.specs.IterationTexts.{text}
 use Rattle.flame_popfile.specs.StartLaws.{LeavesRoom}
 use Rattle.flame_popfile.specs.WrittenLaws.{ReadBack, WrittenReadsBack}
+use Rattle.flame_popfile.proofs.StartParts.{start_from}
 use Rattle.flame_driver.specs.Runs.{Stage, stage, Run, run, run_by}
 use Rattle.flame_driver.specs.RunScripts.{Writing, file_name, stage_text, stage_line}
 use Rattle.flame_driver.specs.IteratedRuns.{start_behind, and_then}
 use Rattle.flame_driver.specs.RestartLaws.{WritesBoth, GoesOnFrom, RunsRestart}
-use Rattle.flame_driver.proofs.Iterated.{start_at, no_some, one_on, runs_are_iterated, runs_go_on}
+use Rattle.flame_driver.proofs.Iterated.{no_some, one_on, runs_are_iterated, runs_go_on}
 use Rattle.flame_driver.proofs.StageActs.{stages_are_written}
 
 -- ---- numbers
@@ -63,14 +64,14 @@ last_start :
     (stages : List Stage) (start : Start) (place : ℕ) (last : Stage)
     → slice_get stages place ≡ Some last
     → length stages ≡ suc place
-    → start_behind start stages ≡ start_at last.itno last.world
+    → start_behind start stages ≡ start_from last.itno last.world
 last_start [] start place last found count = no_some last found
 last_start (done ∷ []) start zero last found count =
-    ap (λ (s : Stage). start_at s.itno s.world) (same_Some done last found)
+    ap (λ (s : Stage). start_from s.itno s.world) (same_Some done last found)
 last_start (done ∷ []) start (suc place) last found count = absurd (omega (arith, count))
 last_start (done ∷ next ∷ stages) start zero last found count = absurd (omega (arith, count))
 last_start (done ∷ next ∷ stages) start (suc place) last found count =
-    last_start (next ∷ stages) (start_at done.itno done.world) place last found (omega (arith, count))
+    last_start (next ∷ stages) (start_from done.itno done.world) place last found (omega (arith, count))
 
 -- an iteration that is done, with a world and boards of the model
 pub record IsStageOf (source : Source) (done : Stage) : Type 0 where
@@ -120,7 +121,7 @@ module _ (stay : WorldsStayWorlds) (source : Source) (fuel : ℕ) (writes : AllW
       by_turn rest (Done world boards) came_is (suc place) there =
           let int = numbers 0 (omega arith) in
           let after = stay source start.world world (next start) fuel boards writes int is came_is in
-          rest (start_at (next start) world) place after.0
+          rest (start_from (next start) world) place after.0
           (λ n less.
           let same = one_on start.itno (n + 1) (suc n + 1) (omega arith) in
           subst IsInt (sym same) (numbers (suc n) (omega (arith, less))))
@@ -157,7 +158,7 @@ module _
   last_stage : IsStageOf source last
   last_stage = stage_of stay source fuel writes (place + 1) start place last world int_behind found
 
-  behind_last : start_behind start first.stages ≡ start_at last.itno last.world
+  behind_last : start_behind start first.stages ≡ start_from last.itno last.world
   behind_last =
       let count : length first.stages ≡ suc place
       = runs_are_iterated.whole source fuel (place + 1) start none ∙ omega arith
@@ -180,7 +181,7 @@ module _
     where
       held :
           (population_faults source.model more back.value ≡ [])
-          × (start_of source.model back.value ≡ start_at last.itno last.world)
+          × (start_of source.model back.value ≡ start_from last.itno last.world)
       held = back.holds more (is_at_most (last.itno +ℤ pos more) high)
 
       second : Run

@@ -8,6 +8,9 @@ use Rattle.std.proofs.lemmas.List.Elements.{filter_map-append}
 use Rattle.std.proofs.lemmas.Option.{slice_get_within}
 use Rattle.flame_rows.specs.Bags.{ascending, merge}
 use Rattle.flame_rows.proofs.BagLaws.{weigh-append, weigh-ascending, merge_adds_weights, equal_by_weighings, IsAscending-merge}
+use Rattle.flame_rows.proofs.Merging.{merge-append}
+use Rattle.flame_rows.proofs.Lists.{slice_get-slice_set}
+use Rattle.flame_rows.proofs.Truths.{option_or-option_or}
 use Rattle.flame_spec.specs.declared.outcomes.Outcome.{Outcome}
 use Rattle.flame_spec.specs.declared.outcomes.Sent.{Sent}
 use Rattle.flame_spec.specs.Functions.{Place, functions}
@@ -18,23 +21,19 @@ use Rattle.flame_spec.specs.States.{state_place}
 use Rattle.flame_spec.proofs.Numbered.{first-cons_option}
 use Rattle.flame_world.specs.Fields.{Field, changed, changed_pool, joined_from, joined}
 use Rattle.flame_world.specs.Iterations.{Round, outcome_in}
+use Rattle.flame_world.proofs.JoinedBags.{births_of-append}
 use Rattle.flame_events.specs.declared.events.Event.TheVariants as event
 use Rattle.flame_events.specs.CoreStates.{Work, Waiting, Open, works_of, Core, status_of, work_of}
 use Rattle.flame_events.specs.LegalEvents.{outputs_of, may_run, is_legal}
 use Rattle.flame_events.specs.EventSteps.{with_sent, with_agent, with_work, ran_agent, ran_next, after, replay, are_legal}
 use Rattle.flame_events.specs.AbsorbedPieces.{agent_events, with_agents, ran_agents, AgentsRunAtOnce}
 use Rattle.flame_events.proofs.Weights.{Row, Rows}
-use Rattle.flame_events.proofs.Holding.{messages_of-append, births_of-append}
+use Rattle.flame_events.proofs.Holding.{messages_of-append}
 use Rattle.flame_events.proofs.CoreWidths.{status_below}
 
 -- ---- twice
 
-merged_twice : (pool one other : Rows) → merge (merge pool one) other ≡ merge pool (one ++ other)
-merged_twice pool one other =
-    equal_by_weighings (merge (merge pool one) other) (merge pool (one ++ other)) (IsAscending-merge (merge pool one) other) (IsAscending-merge pool (one ++ other))
-    (λ w. omega (arith, merge_adds_weights w (merge pool one) other, merge_adds_weights w pool one, merge_adds_weights w pool (one ++ other), weigh-append w one other))
-
-sorted_twice : (pool one other : Rows) → merge (merge pool (ascending one)) (ascending other) ≡ merge pool (ascending (one ++ other))
+pub sorted_twice : (pool one other : Rows) → merge (merge pool (ascending one)) (ascending other) ≡ merge pool (ascending (one ++ other))
 sorted_twice pool one other =
     equal_by_weighings (merge (merge pool (ascending one)) (ascending other)) (merge pool (ascending (one ++ other)))
     (IsAscending-merge (merge pool (ascending one)) (ascending other)) (IsAscending-merge pool (ascending (one ++ other)))
@@ -49,7 +48,7 @@ sorted_twice pool one other =
       weigh-append w one other,
     ))
 
-changed_twice : {X : Type 0} (place : ℕ) (one other both : X → X) → ((x : X) → other (one x) ≡ both x) → (xs : List X) → changed place other (changed place one xs) ≡ changed place both xs
+pub changed_twice : {X : Type 0} (place : ℕ) (one other both : X → X) → ((x : X) → other (one x) ≡ both x) → (xs : List X) → changed place other (changed place one xs) ≡ changed place both xs
 changed_twice place one other both same [] = refl
 changed_twice zero one other both same (x ∷ xs) = ap (λ y. y ∷ xs) (same x)
 changed_twice (suc place) one other both same (x ∷ xs) = ap (λ ys. x ∷ ys) (changed_twice place one other both same xs)
@@ -57,7 +56,7 @@ changed_twice (suc place) one other both same (x ∷ xs) = ap (λ ys. x ∷ ys) 
 joined_twice : (i : ℕ) (one other both : ℕ → Rows) → ((k : ℕ) → one k ++ other k ≡ both k) → (bags : List Rows) → joined_from i other (joined_from i one bags) ≡ joined_from i both bags
 joined_twice i one other both same [] = refl
 joined_twice i one other both same (bag ∷ bags) =
-    let here = merged_twice bag (one i) (other i) ∙ ap (merge bag) (same i) in
+    let here = merge-append bag (one i) (other i) ∙ ap (merge bag) (same i) in
     let rest = joined_twice (i + 1) one other both same bags in
     λ j. here j ∷ rest j
 
@@ -71,11 +70,7 @@ sent_twice (output ∷ outs) one other (part ∷ parts) =
         → option_map (λ rows. merge rows (messages_of other output)) (option_map (λ rows. merge rows (messages_of one output)) part)
         ≡ option_map (λ rows. merge rows (messages_of (one ++ other) output)) part
     by None = refl
-    by (Some rows) = ap Some (merged_twice rows (messages_of one output) (messages_of other output) ∙ ap (merge rows) (sym (messages_of-append output one other)))
-
-option_or-assoc : (a b c : Option SimFault) → option_or (option_or a b) c ≡ option_or a (option_or b c)
-option_or-assoc None b c = refl
-option_or-assoc (Some fault) b c = refl
+    by (Some rows) = ap Some (merge-append rows (messages_of one output) (messages_of other output) ∙ ap (merge rows) (sym (messages_of-append output one other)))
 
 -- ---- some agents of a piece, all at once
 
@@ -119,7 +114,7 @@ module _ (round : Round) (f k : ℕ) (place : Place) (run : Row → Outcome) whe
       let later = filter_map (λ memory. fault_by round.iteration f memory (run memory)) rows in
       let fault =
       ap (λ o. option_or (option_or work.fault o) (first later)) (first-cons_option own [] ∙ or_none own)
-      ∙ option_or-assoc work.fault own (first later)
+      ∙ option_or-option_or work.fault own (first later)
       ∙ ap (option_or work.fault) (sym (first-cons_option own later)) in
       λ i. record { agents = work.agents; ran = ran i; parts = parts i; fault = fault i }
     where
@@ -145,11 +140,6 @@ module _ (round : Round) (f k : ℕ) (place : Place) (run : Row → Outcome) whe
       λ i. record { pools = pools i; born = born i; boards = field.boards }
 
 -- ---- one after another
-
-pub get_set : (works : List Work) (k : ℕ) (work other : Work) → slice_get works k ≡ Some work → slice_get (slice_set works k other) k ≡ Some other
-get_set [] k work other at = absurd cc
-get_set (w ∷ works) zero work other at = refl
-get_set (w ∷ works) (suc k) work other at = get_set works k work other at
 
 drop_next : (rows : Rows) (i : ℕ) (row : Row) (rest : Rows) → drop i rows ≡ row ∷ rest → (slice_get rows i ≡ Some row) × (drop (i + 1) rows ≡ rest)
 drop_next [] zero row rest is = absurd cc
@@ -185,7 +175,7 @@ module _ (round : Round) (pieces f k : ℕ) (place : Place) (there : slice_get (
       let q = worked round f k place run work (memory ∷ []) in
       let works = works_of (status_of core f) in
       ap (λ s. slice_get (works_of s) k) (get_or-set_same core.statuses f (Open (slice_set works k q)) Waiting (status_below core f k work at))
-      ∙ get_set works k work q at
+      ∙ slice_get-slice_set works k q work at
 
   both_at_once : (core : Core) (work : Work) (memory : Row) (rows : Rows) → work_of core f k ≡ Some work
       → all_at_once round f k place (outcome_in round f core.field)

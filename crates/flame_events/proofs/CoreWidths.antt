@@ -7,7 +7,7 @@ use Rattle.std.proofs.lemmas.List.{length-map, set_past}
 use Rattle.std.proofs.lemmas.Option.{slice_get_within}
 use Rattle.flame_rows.specs.Order.{row_order}
 use Rattle.flame_rows.specs.Bags.{merge}
-use Rattle.flame_rows.proofs.Lists.{slice_index_or-map_one}
+use Rattle.flame_rows.proofs.Lists.{slice_index_or-map_one, slice_get-some}
 use Rattle.flame_spec.specs.declared.models.AgentType.{AgentType}
 use Rattle.flame_spec.specs.declared.models.MessageType.{MessageType}
 use Rattle.flame_spec.specs.declared.models.Model.{Model}
@@ -36,7 +36,6 @@ use Rattle.flame_events.specs.EventSteps.{fresh_work, opened, with_sent, with_ag
 use Rattle.flame_events.specs.CoreFits.{FitsWork, FitsCore, FittingCoresOpen, FittingCoresStay}
 use Rattle.flame_events.proofs.EvenCuts.{share_counts}
 use Rattle.flame_events.proofs.Weights.{Row, Rows}
-use Rattle.flame_events.proofs.Spots.{get_there}
 use Rattle.flame_events.proofs.Moves.{has_changed}
 use Rattle.flame_events.proofs.Works.{each_set, more_of, part_in-with_sent, length-with_sent, kept_is_output, without, part_in-without, part_in-without-else}
 use Rattle.flame_events.proofs.Sound.{set_table, put_all, past_waiting}
@@ -344,7 +343,7 @@ fits_handed : (model : Model) (core : Core) (f k m : â„•) (work : Option Work) â
 fits_handed model core f k m None fits at = fits
 fits_handed model core f k m (Some work) fits at =
     let less : f < function_count model = omega (arith, status_below core f k work at, fits.statuses) in
-    let place = get_there (functions model) f less in
+    let place = slice_get-some (functions model) f less in
     fits_board model core f k m work (part_in (outputs_of model f) work.parts m) fits at refl place.0 place.1
 
 -- ---- all events

@@ -60,15 +60,15 @@ pools_up model agents = go model.agents agents
     go (type ∷ types) [] = tt
     go (type ∷ types) (bag ∷ bags) = (begun_up type bag, go types bags)
 
-nothing_from : (b : Bool) (w : Weight) → weigh w (cond b [] []) ≡ 0
+pub nothing_from : (b : Bool) (w : Weight) → weigh w (cond b [] []) ≡ 0
 nothing_from true w = refl
 nothing_from false w = refl
 
-always : (o : Option ℕ) → rests (λ f. true) o ≡ true
+pub always : (o : Option ℕ) → rests (λ f. true) o ≡ true
 always None = refl
 always (Some f) = refl
 
-begins : (round : Round) (agents : List Rows) (t : Ideal) → length agents ≡ length round.source.model.agents
+pub begins : (round : Round) (agents : List Rows) (t : Ideal) → length agents ≡ length round.source.model.agents
     → Holds round (λ p. pool_at round.source.model (opening round.source.model agents).pools p) t (opening round.source.model agents) (λ f. true) (λ g. []) (λ m g. [])
 begins round agents t many =
     let model = round.source.model in
@@ -96,7 +96,7 @@ begins round agents t many =
       };
     }
 
-sound_opening : (round : Round) (agents : List Rows) (t : Ideal) → length agents ≡ length round.source.model.agents
+pub sound_opening : (round : Round) (agents : List Rows) (t : Ideal) → length agents ≡ length round.source.model.agents
     → Sound round (λ p. pool_at round.source.model (opening round.source.model agents).pools p) t (opening_core round.source.model agents)
 sound_opening round agents t many =
     let model = round.source.model in

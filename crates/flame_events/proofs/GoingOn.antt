@@ -4,6 +4,7 @@ use Rattle.std.specs.Prelude.{not, ◌&&◌, nat_lt, slice_get, is_some, is_none
 use Rattle.std.specs.List.{list_all}
 use Rattle.std.proofs.lemmas.Bool.{cases_Bool, and_from, and_cases, lt-ltb, ltb-true, and_parts, true≢false, false≢true}
 use Rattle.std.proofs.lemmas.Option.{slice_get_within}
+use Rattle.flame_rows.proofs.Lists.{slice_get-some}
 use Rattle.flame_spec.specs.declared.models.Model.{Model}
 use Rattle.flame_spec.specs.Before.{before, function_count}
 use Rattle.flame_spec.specs.Below.{all_below, is_in}
@@ -15,7 +16,7 @@ use Rattle.flame_events.specs.CoreStates.{Work, Status, Waiting, Open, Shut, Fau
 use Rattle.flame_events.specs.LegalEvents.{inputs_at, inputs_of, outputs_of, are_shut, may_run, may_hand_in, is_over, may_shut}
 use Rattle.flame_events.specs.CoreEnds.{is_faulted, unfaulted, is_complete}
 use Rattle.flame_events.specs.EveryOrder.{CanGoOn}
-use Rattle.flame_events.proofs.Spots.{get_there, input_named, writes_before}
+use Rattle.flame_events.proofs.Spots.{input_named, writes_before}
 use Rattle.flame_events.proofs.Serial.{is_in-self, is_in-later, is_in-cases, IsOrdered, order_is_ordered}
 use Rattle.flame_events.proofs.Ends.{unfaulted-cons}
 
@@ -93,7 +94,7 @@ first_wanted model core done (f ∷ fs) ordered shut open_yet =
 
 -- ---- tests of lists
 
-all_when : (test : ℕ → Bool) (numbers : List ℕ) → ((n : ℕ) → is_in n numbers ≡ true → test n ≡ true) → list_all test numbers ≡ true
+pub all_when : (test : ℕ → Bool) (numbers : List ℕ) → ((n : ℕ) → is_in n numbers ≡ true → test n ≡ true) → list_all test numbers ≡ true
 all_when test [] each = refl
 all_when test (n ∷ numbers) each =
     and_from (test n) (list_all test numbers) (each n (is_in-self n numbers)) (all_when test numbers (λ k within. each k (is_in-later k n numbers within)))
@@ -138,7 +139,7 @@ module _ (model : Model) (core : Core) (f : ℕ) (first : IsFirst model core (mo
       (λ (unfed : list_all (is_frozen core) (inputs_of model f) ≡ false).
       let found = one_fails (is_frozen core) (inputs_of model f) unfed in
       let m = found.0 in
-      let place = get_there (functions model) f first.below in
+      let place = slice_get-some (functions model) f first.below in
       let input = input_named model place.0 m (sym (ap (λ o. is_in m (inputs_at o model)) place.1) ∙ found.1) in
       let less : m < length model.messages = slice_get_within model.messages m input.named.message input.named.there in (
         event.Freeze m,

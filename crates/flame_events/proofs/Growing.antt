@@ -10,7 +10,7 @@ use Rattle.flame_events.specs.CoreFits.{FitsCore}
 use Rattle.flame_events.specs.Histories.{HistoriesGrow, HistoriesFit}
 use Rattle.flame_events.proofs.CoreWidths.{fitting_cores_stay}
 
-replay-append : (round : Round) (pieces : ℕ) (core : Core) (events more : List Event)
+pub replay-append : (round : Round) (pieces : ℕ) (core : Core) (events more : List Event)
     → replay round pieces core (events ++ more) ≡ replay round pieces (replay round pieces core events) more
 replay-append round pieces core [] more = refl
 replay-append round pieces core (e ∷ events) more = replay-append round pieces (after round pieces core e) events more

@@ -5,6 +5,7 @@ use Rattle.std.specs.List.{list_all, position_or_len}
 use Rattle.std.proofs.lemmas.Bool.{and_from, eq-eqb, false≢true, ne_eqb}
 use Rattle.std.proofs.lemmas.List.Sums.{sum_by-cons}
 use Rattle.flame_rows.specs.Bags.{merge}
+use Rattle.flame_rows.proofs.Lists.{slice_get-slice_set, slice_set-read}
 use Rattle.flame_spec.specs.Below.{times, HasNoTwice}
 use Rattle.flame_spec.proofs.FirstBelow.{times-append}
 use Rattle.flame_world.specs.Fields.{changed}
@@ -18,7 +19,6 @@ use Rattle.flame_events.proofs.Weights.{Rows}
 use Rattle.flame_events.proofs.Works.{past_end}
 use Rattle.flame_events.proofs.Sound.{opens_with}
 use Rattle.flame_events.proofs.CoreWidths.{status_below}
-use Rattle.flame_events.proofs.Absorbing.{get_set}
 
 -- ---- places of outputs
 
@@ -113,16 +113,11 @@ set_got [] k x at = refl
 set_got (y ∷ xs) zero x at = let same : y ≡ x = cc in ap (λ z. z ∷ xs) (sym same)
 set_got (y ∷ xs) (suc k) x at = ap (λ l. y ∷ l) (set_got xs k x at)
 
-set_read : {X : Type 0} (xs : List X) (k : ℕ) (x d : X) → k < length xs → slice_index_or xs k d ≡ x → slice_set xs k x ≡ xs
-set_read [] k x d less at = refl
-set_read (y ∷ xs) zero x d less at = ap (λ z. z ∷ xs) (sym at)
-set_read (y ∷ xs) (suc k) x d less at = ap (λ l. y ∷ l) (set_read xs k x d (omega (arith, less)) at)
-
 put_back_work : (core : Core) (f k : ℕ) (work : Work) → work_of core f k ≡ Some work → with_work core f k work ≡ core.statuses
 put_back_work core f k work at =
     let works = works_of (status_of core f) in
     ap (λ l. slice_set core.statuses f (Open l)) (set_got works k work at)
-    ∙ set_read core.statuses f (Open works) Waiting (status_below core f k work at) (opens_with (status_of core f) k work at)
+    ∙ slice_set-read core.statuses f (Open works) Waiting (status_below core f k work at) (opens_with (status_of core f) k work at)
 
 -- ---- one after another
 
@@ -176,7 +171,7 @@ module _ (round : Round) (pieces f k : ℕ) where
       let works = works_of (status_of core f) in
       let below = status_below core f k work at in
       let again : work_of middle f k ≡ Some next =
-      ap (λ s. slice_get (works_of s) k) (get_or-set_same core.statuses f (Open (slice_set works k next)) Waiting below) ∙ get_set works k work next at in
+      ap (λ s. slice_get (works_of s) k) (get_or-set_same core.statuses f (Open (slice_set works k next)) Waiting below) ∙ slice_get-slice_set works k next work at in
       let tail = handed (before ++ m ∷ []) rest parts next middle again over (whole ∙ sym (append_assoc before (m ∷ []) rest)) next_has more some once in
       let last : Work = record work { parts = nones outs } in
       let statuses : with_work middle f k last ≡ with_work core f k last =

@@ -7,6 +7,7 @@ use Rattle.flame_rows.specs.Order.{row_order}
 use Rattle.flame_rows.specs.Sorted.{IsAscending}
 use Rattle.flame_rows.specs.Bags.{merge, weigh}
 use Rattle.flame_rows.proofs.BagLaws.{weigh-append, weigh-ascending, merge_adds_weights, IsAscending-merge}
+use Rattle.flame_rows.proofs.Lists.{slice_get-some}
 use Rattle.flame_spec.specs.Below.{is_in}
 use Rattle.flame_spec.specs.Functions.{functions}
 use Rattle.flame_world.specs.Fields.{Field, changed}
@@ -16,7 +17,7 @@ use Rattle.flame_events.specs.CoreStates.{Work, Status, Open, is_waiting, is_shu
 use Rattle.flame_events.specs.LegalEvents.{outputs_of, may_hand_in}
 use Rattle.flame_events.specs.EventSteps.{joined_board, handed_in as after_hand_in}
 use Rattle.flame_events.proofs.Weights.{Rows, Weight}
-use Rattle.flame_events.proofs.Spots.{Spot, get_there, output_named, same_spot, enters, pool_at}
+use Rattle.flame_events.proofs.Spots.{Spot, output_named, same_spot, enters, pool_at}
 use Rattle.flame_events.proofs.Holding.{Ideal, lived, sent, born, sent-append}
 use Rattle.flame_events.proofs.Pools.{changed-here, changed-else}
 use Rattle.flame_events.proofs.Moves.{put, put-else, Adds, holds-more}
@@ -53,7 +54,7 @@ module _ (round : Round) (start : Spot → Rows) (t : Ideal) (core : Core) (f k 
 
   message_there : m < length round.source.model.messages
   message_there =
-      let place = get_there (functions round.source.model) f now.below in
+      let place = slice_get-some (functions round.source.model) f now.below in
       let output = output_named round.source.model place.0 m (sym (ap (λ o. is_in m (outputs_at o round.source.model)) place.1) ∙ writes) in
       slice_get_within round.source.model.messages m output.named.message output.named.there
 

@@ -9,11 +9,10 @@ use Rattle.std.proofs.lemmas.List.Concat.{flat_map-append}
 use Rattle.flame_rows.specs.Order.{row_order}
 use Rattle.flame_rows.specs.Sorted.{IsAscending}
 use Rattle.flame_rows.specs.Bags.{ascending, weigh}
-use Rattle.flame_rows.proofs.BagLaws.{IsAscending-ascending, weigh-ascending, equal_by_weighings}
+use Rattle.flame_rows.proofs.BagLaws.{IsAscending-ascending, weigh-ascending, equal_by_weighings, IsAscending-filter}
 use Rattle.flame_spec.specs.declared.models.Model.{Model}
 use Rattle.flame_spec.specs.declared.outcomes.Outcome.{Outcome}
 use Rattle.flame_spec.specs.declared.outcomes.Sent.{Sent}
-use Rattle.flame_spec.specs.declared.outcomes.Born.{Born}
 use Rattle.flame_spec.specs.Before.{function_count}
 use Rattle.flame_spec.specs.Below.{is_in}
 use Rattle.flame_spec.specs.Choice.{is_chosen}
@@ -21,8 +20,9 @@ use Rattle.flame_meaning.specs.Outcomes.{outcome}
 use Rattle.flame_world.specs.AgentRuns.{kept, sent_by, born_by, sent_from, born_from, messages_of, births_of}
 use Rattle.flame_world.specs.Fields.{Field, HasPools}
 use Rattle.flame_world.specs.Iterations.{Round}
+use Rattle.flame_world.proofs.JoinedBags.{births_of-append}
 use Rattle.flame_events.specs.LegalEvents.{inputs_of, outputs_of}
-use Rattle.flame_events.proofs.Weights.{Row, Rows, Weight, only, weigh-filter, weigh-same, IsAscending-filter, all_from, all_from-same}
+use Rattle.flame_events.proofs.Weights.{Row, Rows, Weight, only, weigh-filter, weigh-same, all_from, all_from-same}
 use Rattle.flame_events.proofs.Spots.{Spot, same_spot, same_spot-true, leaves, enters, pool_at, choice_at}
 use Rattle.flame_events.proofs.Pools.{pools_same}
 
@@ -49,11 +49,6 @@ pub messages_of-append : (m : ℕ) (xs ys : List Sent) → messages_of (xs ++ ys
 messages_of-append m xs ys =
     ap (map (λ (s : Sent). s.row)) (filter-append (λ (s : Sent). s.message == m) xs ys)
     ∙ map-append (λ (s : Sent). s.row) (filter (λ (s : Sent). s.message == m) xs) (filter (λ (s : Sent). s.message == m) ys)
-
-pub births_of-append : (k : ℕ) (xs ys : List Born) → births_of (xs ++ ys) k ≡ births_of xs k ++ births_of ys k
-births_of-append k xs ys =
-    ap (map (λ (b : Born). b.row)) (filter-append (λ (b : Born). b.agent == k) xs ys)
-    ∙ map-append (λ (b : Born). b.row) (filter (λ (b : Born). b.agent == k) xs) (filter (λ (b : Born). b.agent == k) ys)
 
 pub sent-append : (t : Ideal) (f m : ℕ) (xs ys : Rows) → sent t f m (xs ++ ys) ≡ sent t f m xs ++ sent t f m ys
 sent-append t f m xs ys =

@@ -5,7 +5,7 @@ use Rattle.std.specs.List.{list_all, position_or_len}
 use Rattle.std.proofs.lemmas.Bool.{and_parts, cases_Bool, cases_lt, ltb-true, lt-ltb, true≢false, false≢true, not-true}
 use Rattle.std.proofs.lemmas.List.{length-map}
 use Rattle.std.proofs.lemmas.Option.{slice_get_within}
-use Rattle.flame_rows.proofs.Lists.{slice_index_or-map_one}
+use Rattle.flame_rows.proofs.Lists.{slice_index_or-map_one, slice_get-some}
 use Rattle.flame_spec.specs.declared.models.Model.{Model}
 use Rattle.flame_spec.specs.declared.outcomes.Outcome.{Outcome}
 use Rattle.flame_spec.specs.declared.outcomes.Sent.{Sent}
@@ -27,7 +27,7 @@ use Rattle.flame_events.specs.EventSteps.{fresh_work, opened, with_sent, with_ag
 use Rattle.flame_events.specs.CoreLaws.{EventsLeadTo, WhatBeganMayBegin, FrozenBoardsAreWritten, PiecesAreFewAndFilled, UnrunPiecesAreFresh, PartsAreKeptUntilAllRan, BoardsGatherWhatIsHandedIn}
 use Rattle.flame_events.proofs.EvenCuts.{cuts_are_even}
 use Rattle.flame_events.proofs.Weights.{Row, Rows}
-use Rattle.flame_events.proofs.Spots.{get_there, output_named}
+use Rattle.flame_events.proofs.Spots.{output_named}
 use Rattle.flame_events.proofs.Works.{each_set, kept_is_output, length-with_sent, all_of_list, without}
 use Rattle.flame_events.proofs.Sound.{set_table, put_all, both_wait, can_open, opens_with, past_waiting}
 use Rattle.flame_events.proofs.Legality.{may_shut_is, each_also, in_writers, put_true, frozen_cases}
@@ -96,7 +96,7 @@ cut_few : (pieces : ℕ) (agents : Rows) → length (cut pieces agents) ≤ piec
 cut_few zero agents = omega arith
 cut_few (suc pieces) agents = (cuts_are_even agents (suc pieces) (omega arith)).few
 
-cut_filled : (pieces : ℕ) (agents : Rows) → Each (λ bag. 0 < length bag) (cut pieces agents)
+pub cut_filled : (pieces : ℕ) (agents : Rows) → Each (λ bag. 0 < length bag) (cut pieces agents)
 cut_filled zero agents = tt
 cut_filled (suc pieces) agents =
     each_from (λ bag. 0 < length bag) (cut (suc pieces) agents) (λ k bag at. ((cuts_are_even agents (suc pieces) (omega arith)).filled k bag at).0)
@@ -320,7 +320,7 @@ boards_gather_what_is_handed_in round pieces f k m core led legal = by_work (wor
         let fine = kept_piece round pieces f k work core led there in
         let writes = kept_is_output (outputs_of model f) work.parts m rows fine.long is in
         let below : f < function_count model = omega (arith, status_below core f k work there, kept.long) in
-        let place = get_there (functions model) f below in
+        let place = slice_get-some (functions model) f below in
         let output = output_named model place.0 m (sym (ap (λ o. is_in m (outputs_at o model)) place.1) ∙ writes) in (
           slice_get_within model.messages m output.named.message output.named.there,
           ⊎_elim

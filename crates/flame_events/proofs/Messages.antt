@@ -6,6 +6,7 @@ use Rattle.std.specs.Str.{bytes_eq}
 use Rattle.std.proofs.lemmas.Bool.{cases_order, eqb-true, true≢false, false≢true}
 use Rattle.std.proofs.lemmas.Option.{slice_get_within}
 use Rattle.flame_rows.proofs.Bytes.{bytes_eq-true, bytes_eq-same}
+use Rattle.flame_rows.proofs.Lists.{slice_get-some}
 use Rattle.flame_spec.specs.declared.models.Model.{Model}
 use Rattle.flame_spec.specs.declared.models.MessageType.{MessageType}
 use Rattle.flame_spec.specs.declared.outcomes.Sent.{Sent}
@@ -24,7 +25,7 @@ use Rattle.flame_spec_laws.specs.NameLaws.{MessagesDiffer}
 use Rattle.flame_world.specs.AgentRuns.{sent_by, messages_of}
 use Rattle.flame_world.specs.Fields.{Field}
 use Rattle.flame_world.specs.Iterations.{Round, outcome_in}
-use Rattle.flame_events.proofs.Spots.{get_there, named}
+use Rattle.flame_events.proofs.Spots.{named}
 use Rattle.flame_events.proofs.Serial.{is_in-self, is_in-later, ideal, met, Sends}
 
 -- ---- what has a name is found
@@ -128,7 +129,7 @@ sent_none model place m (Faulted fault) differ out all = refl
 pub accepted_sends : MessagesDiffer → (round : Round) (field : Field) → IsAccepted round.source → Sends round (ideal round field)
 accepted_sends messages_differ round field accepted f less memory m out =
     let model = round.source.model in
-    let place = get_there (functions model) f less in
+    let place = slice_get-some (functions model) f less in
     let boards = (met round field f).boards in
     sent_none model place.0 m (outcome_in round f (met round field f) memory) (messages_differ model accepted.named).0
     (sym (ap (λ o. is_in m (outputs_at o model)) place.1) ∙ out)

@@ -6,7 +6,7 @@ use Rattle.std.proofs.lemmas.Bool.{eq-eqb, ne_eqb, false≢true}
 use Rattle.flame_rows.specs.Order.{row_order}
 use Rattle.flame_rows.specs.Sorted.{IsAscending}
 use Rattle.flame_rows.specs.Bags.{ascending, merge, weigh}
-use Rattle.flame_rows.proofs.BagLaws.{weigh-append, weigh-ascending, merge_adds_weights, IsAscending-merge}
+use Rattle.flame_rows.proofs.BagLaws.{weigh-append, weigh-ascending, merge_adds_weights, IsAscending-merge, IsAscending-filter}
 use Rattle.flame_spec.specs.declared.models.Model.{Model}
 use Rattle.flame_spec.specs.declared.models.AgentType.{AgentType}
 use Rattle.flame_spec.specs.Before.{function_count}
@@ -18,7 +18,7 @@ use Rattle.flame_world.specs.Fields.{Field, HasPools, changed, changed_pool}
 use Rattle.flame_world.specs.Iterations.{Round, staying}
 use Rattle.flame_world.proofs.Eachs.{zip_changed}
 use Rattle.flame_events.specs.LegalEvents.{outputs_of}
-use Rattle.flame_events.proofs.Weights.{Row, Rows, Weight, only, weigh-filter, weigh-same, IsAscending-filter, all_from, weigh-all_from-more}
+use Rattle.flame_events.proofs.Weights.{Row, Rows, Weight, only, weigh-filter, weigh-same, all_from, weigh-all_from-more}
 use Rattle.flame_events.proofs.Spots.{Spot, same_spot, same_spot-true, true-same_spot, leaves_at, leaves, enters_at, enters, pool_at, choice_at, choice_leaves, at_type}
 use Rattle.flame_events.proofs.Pools.{changed_pool-here, changed_pool-else}
 use Rattle.flame_events.proofs.Holding.{Ideal, lived, sent, born, into, onto, bore, rests, resting, HasShape, Holds}

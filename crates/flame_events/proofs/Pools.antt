@@ -8,6 +8,7 @@ use Rattle.std.proofs.lemmas.List.Folds.{list_any-append}
 use Rattle.std.proofs.lemmas.Slice.Zip.{AllZip-long}
 use Rattle.flame_rows.specs.Bags.{merge}
 use Rattle.flame_rows.proofs.Bytes.{bytes_eq-true, bytes_eq-same}
+use Rattle.flame_rows.proofs.Lists.{slice_get-some}
 use Rattle.flame_spec.specs.declared.models.Model.{Model}
 use Rattle.flame_spec.specs.declared.models.AgentType.{AgentType}
 use Rattle.flame_spec.specs.declared.models.Function.{Function}
@@ -15,8 +16,9 @@ use Rattle.flame_spec.specs.KnownNames.{is_among}
 use Rattle.flame_spec.specs.States.{distinct_after, states, ends, state_place}
 use Rattle.flame_world.specs.Fields.{Field, HasPools, pool_in, changed, changed_pool, joined_from, joined}
 use Rattle.flame_world.proofs.Eachs.{zip_at}
+use Rattle.flame_world.proofs.Tallies.{length-joined_from}
 use Rattle.flame_events.proofs.Weights.{Rows}
-use Rattle.flame_events.proofs.Spots.{Spot, state_at, pool_at, get_there}
+use Rattle.flame_events.proofs.Spots.{Spot, state_at, pool_at}
 
 -- ---- one element changed
 
@@ -172,12 +174,8 @@ module _ (model : Model) (field : Field) (agent : ℕ) (type : AgentType) (state
 
 -- ---- rows joined
 
-length-joined_from : (i : ℕ) (rows : ℕ → Rows) (bags : List Rows) → length (joined_from i rows bags) ≡ length bags
-length-joined_from i rows [] = refl
-length-joined_from i rows (bag ∷ bags) = ap suc (length-joined_from (i + 1) rows bags)
-
 pub length-joined : (rows : ℕ → Rows) (bags : List Rows) → length (joined rows bags) ≡ length bags
-length-joined rows bags = length-joined_from 0 rows bags
+length-joined rows bags = length-joined_from rows 0 bags
 
 joined_from-at : (i : ℕ) (rows : ℕ → Rows) (bags : List Rows) (k : ℕ) → k < length bags
     → slice_index_or (joined_from i rows bags) k [] ≡ merge (slice_index_or bags k []) (rows (i + k))
@@ -201,7 +199,7 @@ pools_same model field other has have same =
     let long : length field.pools ≡ length other.pools = many ∙ sym (AllZip-long R model.agents other.pools have) in
     ext_get_or [] field.pools other.pools long
     (λ a less.
-    let found = get_there model.agents a (omega (arith, less, many)) in
+    let found = slice_get-some model.agents a (omega (arith, less, many)) in
     let type = found.0 in
     let one = pools_long model field a type has found.1 in
     let two = pools_long model other a type have found.1 in

@@ -15,13 +15,13 @@ use Rattle.flame_world.specs.Iterations.{Round, outcome_in, taking}
 use Rattle.flame_events.specs.declared.events.Event.{Event}
 use Rattle.flame_events.specs.declared.events.Event.TheVariants as event
 use Rattle.flame_rows.specs.Cuts.{cut}
+use Rattle.flame_rows.proofs.Lists.{slice_get-some}
 use Rattle.flame_events.specs.CoreStates.{Work, Status, Waiting, Open, works_of, has_left, part_in, fault_in, Core, status_of, work_of, is_frozen}
 use Rattle.flame_events.specs.LegalEvents.{outputs_of, are_shut, writers, may_open, may_run, may_hand_in, may_shut, may_freeze, is_legal}
 use Rattle.flame_events.specs.EventSteps.{fresh_work, opened, with_sent, with_agent, with_work, ran_agent, ran_next, joined_board, handed_in, done_with, after, are_legal}
 use Rattle.flame_events.specs.CoreFits.{FitsWork, FitsCore}
 use Rattle.flame_events.specs.EventBounds.{turns_left, events_left, piece_events_left, pieces_left, is_of_piece, EventsRunOut, PieceEventsRunOut, LegalEventsAreBounded, PieceEventsAreBounded}
 use Rattle.flame_events.proofs.Weights.{Row, Rows}
-use Rattle.flame_events.proofs.Spots.{get_there}
 use Rattle.flame_events.proofs.Works.{past_end, without}
 use Rattle.flame_events.proofs.Sound.{waiting_is, can_open, opens_with}
 use Rattle.flame_events.proofs.Legality.{may_shut_is}
@@ -41,7 +41,7 @@ opened_once : (round : Round) (pieces : ℕ) (core : Core) (f : ℕ) (place : Op
     → events_left (opened round pieces f place core) + 1 ≡ events_left core
 opened_once round pieces core f None fits legal at =
     let can = can_open round.source.model core f legal in
-    absurd (none_there (sym at ∙ (get_there (functions round.source.model) f can.below).1))
+    absurd (none_there (sym at ∙ (slice_get-some (functions round.source.model) f can.below).1))
   where
     none_there : {X : Type 0} {x : X} → None ≡ Some x → ⊥
     none_there e = cc
@@ -146,7 +146,7 @@ agent_out : (round : Round) (core : Core) (f k : ℕ) (place : Place) (work : Wo
     → work_of core f k ≡ Some work → has_left work ≡ true → slice_get work.agents work.ran ≡ memory
     → RunsOut core (ran_agent round f k place work memory core)
 agent_out round core f k place work None fits there more at =
-    absurd (none_there (sym at ∙ (get_there work.agents work.ran (ltb-true work.ran (length work.agents) more)).1))
+    absurd (none_there (sym at ∙ (slice_get-some work.agents work.ran (ltb-true work.ran (length work.agents) more)).1))
   where
     none_there : {X : Type 0} {x : X} → None ≡ Some x → ⊥
     none_there e = cc
@@ -163,7 +163,7 @@ next_out : (round : Round) (core : Core) (f k : ℕ) (work : Option Work) → Fi
 next_out round core f k None fits there may = absurd (false≢true may)
 next_out round core f k (Some work) fits there may =
     let model = round.source.model in
-    let place = get_there (functions model) f (omega (arith, status_below core f k work there, fits.statuses)) in
+    let place = slice_get-some (functions model) f (omega (arith, status_below core f k work there, fits.statuses)) in
     subst (λ o. RunsOut core (ran_next round f k o (Some work) core)) (sym place.1)
     (agent_out round core f k place.0 work (slice_get work.agents work.ran)
     (each_at (FitsWork model f place.0.type) (works_of (status_of core f)) k work (fits.works f place.0 place.1) there) there may refl)

@@ -8,13 +8,15 @@ use Rattle.flame_spec.specs.Below.{is_in}
 use Rattle.flame_spec.specs.Functions.{Place, functions}
 use Rattle.flame_spec.specs.ModelOrder.{model_order, left_over}
 use Rattle.std.specs.List.{filter}
+use Rattle.std.proofs.lemmas.Option.{none-some, same_Some}
 use Rattle.flame_rows.specs.Bags.{ascending}
+use Rattle.flame_rows.proofs.Lists.{slice_get-some}
 use Rattle.flame_world.specs.declared.faults.SimFault.{SimFault}
 use Rattle.flame_world.specs.AgentRuns.{least_fault}
 use Rattle.flame_world.specs.Fields.{Field}
 use Rattle.flame_world.specs.Iterations.{Round, taking, outcome_in, unless_faulted, step_at, step, and_on, steps}
 use Rattle.flame_events.proofs.Weights.{Rows}
-use Rattle.flame_events.proofs.Spots.{Spot, get_there, leaves, pool_at, enters_before, writes_before}
+use Rattle.flame_events.proofs.Spots.{Spot, leaves, pool_at, enters_before, writes_before}
 use Rattle.flame_events.proofs.Holding.{Ideal, inflow, takes, IsIdealAt, IsIdeal, Holds, meets_agents, meets_board, same_fields}
 use Rattle.flame_events.proofs.Serial.{is_in-self, is_in-later, is_in-cases, IsOrdered, order_is_ordered, order_is_whole, IsDone, nothing_done, done_more, stepped_at, stepped, before_of, taken_at, met, ideal, should_fault, first_should, all_of, HoldsAfter, is_function, IsEnd, Sends, moved_by, holds-moved_by, taking_is, over_same}
 
@@ -40,19 +42,13 @@ holds_all round start t done a h is whole =
 
 -- ---- an end is told by what should be
 
-some_is : (x y : SimFault) → Some x ≡ Some y → x ≡ y
-some_is x y e = cc
-
-none_is : (x : SimFault) → None ≡ Some x → ⊥
-none_is x e = cc
-
 pub one_end : (round : Round) (start : Spot → Rows) (t : Ideal) (fault : Option SimFault) (x y : Result Field SimFault)
     → IsEnd round start t fault x → IsEnd round start t fault y → x ≡ y
 one_end round start t fault (Ok a) (Ok b) h k =
     ap Ok (same_fields round start t a b (λ f. not (is_function round f)) (all_of t (is_function round)) (λ m. all_of t (is_function round)) h.1 k.1)
-one_end round start t fault (Ok a) (Err y) h k = absurd (none_is y (sym h.0 ∙ k))
-one_end round start t fault (Err x) (Ok b) h k = absurd (none_is x (sym k.0 ∙ h))
-one_end round start t fault (Err x) (Err y) h k = ap Err (some_is x y (sym h ∙ k))
+one_end round start t fault (Ok a) (Err y) h k = absurd (none-some y (sym h.0 ∙ k))
+one_end round start t fault (Err x) (Ok b) h k = absurd (none-some x (sym k.0 ∙ h))
+one_end round start t fault (Err x) (Err y) h k = ap Err (same_Some x y (sym h ∙ k))
 
 -- ---- the serial run
 
@@ -81,7 +77,7 @@ module _ (round : Round) (field : Field) (sends : Sends round (ideal round field
     below = facing.ordered.1
 
     found : (place : Place) × (slice_get (functions round.source.model) f ≡ Some place)
-    found = get_there (functions round.source.model) f below
+    found = slice_get-some (functions round.source.model) f below
 
     meets : met round field f ≡ a
     meets = facing.agrees f facing.ordered.0 ∙ ap (λ b. cond b a (before_of round fs (stepped round f a) f)) (eq-eqb f f refl)

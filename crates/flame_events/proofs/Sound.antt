@@ -12,11 +12,12 @@ use Rattle.flame_spec.proofs.FirstBelow.{is_in-all_below}
 use Rattle.flame_world.specs.Fields.{Field}
 use Rattle.flame_world.specs.Iterations.{Round, taking, outcome_in}
 use Rattle.flame_rows.specs.Cuts.{cut}
+use Rattle.flame_rows.proofs.Lists.{slice_get-some}
 use Rattle.flame_events.specs.CoreStates.{Work, Status, Waiting, Open, Shut, Faulted, is_waiting, is_shut, works_of, Core, status_of, is_frozen}
 use Rattle.flame_events.specs.LegalEvents.{predecessors, inputs_at, inputs_of, outputs_of, may_open}
 use Rattle.flame_events.specs.EventSteps.{fresh_work, opened}
 use Rattle.flame_events.proofs.Weights.{Row, Rows}
-use Rattle.flame_events.proofs.Spots.{Spot, get_there, input_named, enters, enters_before}
+use Rattle.flame_events.proofs.Spots.{Spot, input_named, enters, enters_before}
 use Rattle.flame_events.proofs.Holding.{Ideal, over, IsIdeal, Holds, meets_agents, meets_board, resting}
 use Rattle.flame_events.proofs.Moves.{put, put-same, put-else, left, holds-opened}
 use Rattle.flame_events.proofs.Serial.{nobody_late, taking_is}
@@ -89,7 +90,7 @@ pub core_runs : (round : Round) (start : Spot → Rows) (t : Ideal) (core : Core
     → outcome_in round f core.field ≡ t.run f
 core_runs round start t core f ideal h below fed =
     let model = round.source.model in
-    let place = get_there (functions model) f below in
+    let place = slice_get-some (functions model) f below in
     let there : (m : ℕ) → is_in m (inputs_of model f) ≡ true → m < length model.messages =
     λ m reads.
     let input = input_named model place.0 m (sym (ap (λ o. is_in m (inputs_at o model)) place.1) ∙ reads) in

@@ -1,11 +1,11 @@
 -- Where functions find their agents and leave them, what they read and write, and who stands before whom by that.
-use Rattle.std.proofs.Common.{◌≡◌, ℕ, zero, suc, ◌+◌, ◌<◌, Bool, true, false, cond, List, [], ◌∷◌, length, Option, Some, None, refl, sym, ap, ◌∙◌, arith, one-add}
+use Rattle.std.proofs.Common.{◌≡◌, ℕ, suc, ◌+◌, ◌<◌, Bool, true, false, cond, List, [], ◌∷◌, length, Option, Some, None, refl, sym, ap, ◌∙◌, arith, one-add}
 use Rattle.std.specs.Prelude.{◌==◌, ◌&&◌, ◌||◌, not, slice_get, option_map, position, nat_lt}
 use Rattle.std.specs.List.{filter_map, cons_option, position_or_len}
 use Rattle.std.specs.Str.{bytes_eq}
 use Rattle.std.proofs.lemmas.Bool.{ltb-true, eqb-true, eq-eqb, and_parts, and_from, or_left, or_right, false≢true}
 use Rattle.flame_rows.proofs.Bytes.{bytes_eq-true, bytes_eq-same}
-use Rattle.flame_rows.proofs.Lists.{list_any-at}
+use Rattle.flame_rows.proofs.Lists.{list_any-at, slice_get-some}
 use Rattle.flame_spec.specs.declared.models.Model.{Model}
 use Rattle.flame_spec.specs.declared.models.AgentType.{AgentType}
 use Rattle.flame_spec.specs.declared.models.MessageType.{MessageType}
@@ -16,21 +16,15 @@ use Rattle.flame_spec.specs.Choice.{may_take, choice}
 use Rattle.flame_spec.specs.Functions.{Place, functions}
 use Rattle.flame_spec.specs.States.{states, state_place}
 use Rattle.flame_spec.proofs.Numbered.{numbered_from-passes}
+use Rattle.flame_spec.proofs.FunctionPlaces.{functions_from-function}
 use Rattle.flame_meaning.specs.Outcomes.{message_named, outputs_at}
 use Rattle.flame_meaning.proofs.Sending.{found_get}
 use Rattle.flame_world.specs.Fields.{pool_in}
 use Rattle.flame_world.specs.Iterations.{Round}
 use Rattle.flame_world.proofs.RowsKept.{place_type}
-use Rattle.flame_world.proofs.NextStates.{current_state, next_state, function_at}
+use Rattle.flame_world.proofs.NextStates.{current_state, next_state}
 use Rattle.flame_events.specs.LegalEvents.{inputs_at, inputs_of, outputs_of}
 use Rattle.flame_events.proofs.Weights.{Row, Rows}
-
--- ---- lists
-
-pub get_there : {X : Type 0} (xs : List X) (i : ℕ) → i < length xs → (x : X) × (slice_get xs i ≡ Some x)
-get_there [] i less = absurd (omega (arith, less))
-get_there (x ∷ xs) zero less = (x, refl)
-get_there (x ∷ xs) (suc i) less = get_there xs i (omega (arith, less))
 
 -- ---- spots
 
@@ -143,8 +137,8 @@ pub enters_before : (model : Model) (f g : ℕ)
     → f < function_count model → g < function_count model
     → enters model f ≡ leaves model g → before model f g ≡ true
 enters_before model f g fl gl meet =
-    let one = get_there (functions model) f fl in
-    let other = get_there (functions model) g gl in
+    let one = slice_get-some (functions model) f fl in
+    let other = slice_get-some (functions model) g gl in
     let same : enters_at (Some one.0) ≡ leaves_at (Some other.0) = sym (ap enters_at one.1) ∙ meet ∙ ap leaves_at other.1 in
     before_at model f g one.0 other.0 one.1 other.1
     ∙ or_left (leads_to one.0 other.0) (feeds one.0.function other.0.function)
@@ -227,8 +221,8 @@ pub writes_before : (model : Model) (f g m : ℕ)
     → f < function_count model → g < function_count model
     → is_in m (outputs_of model f) ≡ true → is_in m (inputs_of model g) ≡ true → before model f g ≡ true
 writes_before model f g m fl gl writes reads =
-    let one = get_there (functions model) f fl in
-    let other = get_there (functions model) g gl in
+    let one = slice_get-some (functions model) f fl in
+    let other = slice_get-some (functions model) g gl in
     let output = output_named model one.0 m (sym (ap (λ o. is_in m (outputs_at o model)) one.1) ∙ writes) in
     let input = input_named model other.0 m (sym (ap (λ o. is_in m (inputs_at o model)) other.1) ∙ reads) in
     let same : input.input.message ≡ output.name = one_message model m input.input.message output.name input.named output.named in
@@ -247,7 +241,7 @@ pub record IsAtType (model : Model) (place : Place) : Type 0 where
 
 pub at_type : (model : Model) (f : ℕ) (place : Place) → slice_get (functions model) f ≡ Some place → IsAtType model place
 at_type model f place at =
-    let found = function_at 0 model.agents f place at in
+    let found = functions_from-function 0 model.agents f place at in
     record {
       type = place_type model f place at;
       current = current_state place.type.functions found.0 place.function found.1;

@@ -3,8 +3,6 @@ use Rattle.std.proofs.Common.{◌≡◌, ℕ, zero, suc, ◌+◌, ◌<◌, Bool,
 use Rattle.std.specs.Prelude.{ℤ}
 use Rattle.std.specs.List.{filter}
 use Rattle.std.proofs.lemmas.Bool.{cases_eq}
-use Rattle.flame_rows.specs.Order.{row_order}
-use Rattle.flame_rows.specs.Sorted.{IsAscending, IsBelowAll}
 use Rattle.flame_rows.specs.Bags.{weigh}
 use Rattle.flame_rows.proofs.BagLaws.{weigh-append}
 
@@ -34,22 +32,6 @@ weigh-filter w passes (row ∷ rows) =
 
 pub weigh-same : (v w : Weight) (rows : Rows) → ((row : Row) → v row ≡ w row) → weigh v rows ≡ weigh w rows
 weigh-same v w rows same = ap (λ (u : Weight). weigh u rows) (λ i row. same row i)
-
-below-filter : (row : Row) (passes : Row → Bool) (rows : Rows) → IsBelowAll row_order row rows → IsBelowAll row_order row (filter passes rows)
-below-filter row passes [] below = tt
-below-filter row passes (other ∷ rows) below =
-    elim (passes other) as (λ t. IsBelowAll row_order row (cond t (other ∷ filter passes rows) (filter passes rows))) [
-      | true ↦ (below.0, below-filter row passes rows below.1)
-      | false ↦ below-filter row passes rows below.1
-    ]
-
-pub IsAscending-filter : (passes : Row → Bool) (rows : Rows) → IsAscending row_order rows → IsAscending row_order (filter passes rows)
-IsAscending-filter passes [] up = tt
-IsAscending-filter passes (row ∷ rows) up =
-    elim (passes row) as (λ t. IsAscending row_order (cond t (row ∷ filter passes rows) (filter passes rows))) [
-      | true ↦ (below-filter row passes rows up.0, IsAscending-filter passes rows up.1)
-      | false ↦ IsAscending-filter passes rows up.1
-    ]
 
 -- ---- rows of all functions
 

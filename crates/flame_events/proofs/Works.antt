@@ -6,7 +6,7 @@ use Rattle.std.specs.List.{filter_map, flat_map, list_all, position_or_len}
 use Rattle.std.proofs.lemmas.Bool.{cases_eq, cases_lt, eqb-true, and_parts, ltb-false, lt-ltb, false≢true}
 use Rattle.std.proofs.lemmas.List.{take_more}
 use Rattle.std.proofs.lemmas.List.Elements.{filter_map-append}
-use Rattle.std.proofs.lemmas.Option.{slice_get_within, same_Some}
+use Rattle.std.proofs.lemmas.Option.{slice_get_within, same_Some, none-some}
 use Rattle.flame_rows.specs.Bags.{ascending, merge, weigh}
 use Rattle.flame_rows.proofs.BagLaws.{IsAscending-ascending, weigh-append, weigh-ascending, merge_adds_weights, equal_by_weighings, IsAscending-merge}
 use Rattle.flame_spec.specs.declared.outcomes.Sent.{Sent}
@@ -72,13 +72,10 @@ Fits round t f (Faulted fault) = should_fault round t f ≡ Some fault
 
 -- ---- one piece changed
 
-none_work : (x : Work) → None ≡ Some x → ⊥
-none_work x e = cc
-
 pub gather_set : (F : Rows → ℕ) → ((xs ys : Rows) → F (xs ++ ys) ≡ F xs + F ys)
     → (h : Work → Rows) (more : ℕ) (works : List Work) (k : ℕ) (p q : Work) → slice_get works k ≡ Some p
     → F (h q) ≡ F (h p) + more → F (flat_map h (slice_set works k q)) ≡ F (flat_map h works) + more
-gather_set F add h more [] k p q at new = absurd (none_work p at)
+gather_set F add h more [] k p q at new = absurd (none-some p at)
 gather_set F add h more (w ∷ works) zero p q at new =
     let same : F (h w) ≡ F (h p) = ap (λ v. F (h v)) (same_Some w p at) in
     omega (arith, new, same, add (h q) (flat_map h works), add (h w) (flat_map h works))

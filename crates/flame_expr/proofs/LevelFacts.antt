@@ -1,7 +1,7 @@
 -- The levels of operators.
 use Rattle.std.proofs.Common.{◌≡◌, ℕ, zero, suc, ◌<◌, [], ◌∷◌, refl, sym, arith, Bool, true, false, Some, None}
 use Rattle.std.specs.Prelude.{is_some, not, Option}
-use Rattle.std.proofs.lemmas.Bool.{false≢true}
+use Rattle.std.proofs.lemmas.Bool.{false≢true, not-true}
 use Rattle.flame_ops.specs.declared.integers.Op.{Op}
 use Rattle.flame_spec.specs.declared.trees.SignKind.{SignKind}
 use Rattle.flame_expr.specs.declared.lexemes.Lexeme.{Lexeme}
@@ -71,15 +71,11 @@ nothing (Some y) b is h = cc
 abbrev unlisted : ℕ → Lexeme → Bool
 unlisted k d = or (is_some (op_of k d)) (not (among d (operators k)))
 
-not_true : (b : Bool) → not b ≡ true → b ≡ false
-not_true false h = refl
-not_true true h = absurd (false≢true h)
-
 pub none_among : (k : ℕ) (d : Lexeme) → k < 4 → op_of k d ≡ None → among d (operators k) ≡ false
-none_among zero d h e = not_true _ (nothing (op_of 0 d) _ e (everywhere (unlisted 0) refl d))
-none_among (suc zero) d h e = not_true _ (nothing (op_of 1 d) _ e (everywhere (unlisted 1) refl d))
-none_among (suc (suc zero)) d h e = not_true _ (nothing (op_of 2 d) _ e (everywhere (unlisted 2) refl d))
-none_among (suc (suc (suc zero))) d h e = not_true _ (nothing (op_of 3 d) _ e (everywhere (unlisted 3) refl d))
+none_among zero d h e = not-true _ (nothing (op_of 0 d) _ e (everywhere (unlisted 0) refl d))
+none_among (suc zero) d h e = not-true _ (nothing (op_of 1 d) _ e (everywhere (unlisted 1) refl d))
+none_among (suc (suc zero)) d h e = not-true _ (nothing (op_of 2 d) _ e (everywhere (unlisted 2) refl d))
+none_among (suc (suc (suc zero))) d h e = not-true _ (nothing (op_of 3 d) _ e (everywhere (unlisted 3) refl d))
 none_among (suc (suc (suc (suc k)))) d h e = absurd (omega arith)
 
 pub sign_real : (d : Lexeme) (s : SignKind) → sign_of d ≡ Some s → is_real d ≡ true

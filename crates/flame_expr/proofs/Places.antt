@@ -1,8 +1,8 @@
 -- Tokens at a place.
-use Rattle.std.proofs.Common.{◌≡◌, ◌⊎◌, inl, inr, ℕ, ◌+◌, ◌<◌, ◌≤◌, List, [], ◌∷◌, length, drop, refl, sym, ap, ◌∙◌, subst, arith, true, get_or, add-one, drop-cons}
-use Rattle.std.proofs.Math.ListN.{drop_of_length-le}
+use Rattle.std.proofs.Common.{◌≡◌, ◌⊎◌, inl, inr, ℕ, ◌+◌, ◌<◌, ◌≤◌, List, [], ◌∷◌, length, drop, sym, ap, ◌∙◌, subst, arith, true}
 use Rattle.std.proofs.lemmas.Bool.{cases_lt}
 use Rattle.std.proofs.lemmas.Bool.{false≢true}
+use Rattle.std.proofs.lemmas.List.{drop_more, drop_all}
 use Rattle.flame_lex.specs.declared.token.Token.{Token}
 use Rattle.flame_expr.specs.declared.lexemes.Lexeme.{Lexeme}
 use Rattle.flame_rows.specs.declared.fails.Fail.{Fail}
@@ -14,26 +14,20 @@ use Rattle.flame_expr.specs.ViablePrefixes.{lexeme}
 use Rattle.flame_expr.specs.ReadParts.{Passes, Ended, Stopped, Fails}
 use Rattle.flame_expr.proofs.Parts.{lexeme_pass, lexeme_halt}
 
-pub at_front : (tokens : List Token) (i : ℕ) (d : Token) → i < length tokens → drop i tokens ≡ get_or tokens i d ∷ drop (i + 1) tokens
-at_front tokens i d h = rw (add-one, drop-cons tokens i d) refl
-
-pub past_end : (tokens : List Token) (i : ℕ) → length tokens ≤ i → drop i tokens ≡ []
-past_end tokens i h = drop_of_length-le tokens h
-
 there_of : (tokens : List Token) (i : ℕ) → (i < length tokens) ⊎ (length tokens ≤ i) → is_real (first (drop i tokens)) ≡ true → i < length tokens
 there_of tokens i (inl h) r = h
-there_of tokens i (inr h) r = absurd (false≢true (sym (ap (λ ts. is_real (first ts)) (past_end tokens i h)) ∙ r))
+there_of tokens i (inr h) r = absurd (false≢true (sym (ap (λ ts. is_real (first ts)) (drop_all i tokens h)) ∙ r))
 
 -- a token stands there
 pub there : (tokens : List Token) (i : ℕ) (l : Lexeme) → first (drop i tokens) ≡ l → is_real l ≡ true → i < length tokens
 there tokens i l f r = there_of tokens i (cases_lt i (length tokens)) (ap is_real f ∙ r)
 
 behind_of : (tokens : List Token) (i : ℕ) (token : Token) → (i < length tokens) ⊎ (length tokens ≤ i) → behind (drop i tokens) ≡ drop (i + 1) tokens
-behind_of tokens i token (inl h) = ap behind (at_front tokens i token h)
-behind_of tokens i token (inr h) = ap behind (past_end tokens i h) ∙ sym (past_end tokens (i + 1) (omega (arith, h)))
+behind_of tokens i token (inl h) = ap behind (drop_more tokens i token h)
+behind_of tokens i token (inr h) = ap behind (drop_all i tokens h) ∙ sym (drop_all (i + 1) tokens (omega (arith, h)))
 
 pub behind-drop : (tokens : List Token) (i : ℕ) → behind (drop i tokens) ≡ drop (i + 1) tokens
-behind-drop [] i = ap behind (past_end [] i (omega arith)) ∙ sym (past_end [] (i + 1) (omega arith))
+behind-drop [] i = ap behind (drop_all i [] (omega arith)) ∙ sym (drop_all (i + 1) [] (omega arith))
 behind-drop (token ∷ ts) i = behind_of (token ∷ ts) i token (cases_lt i (length (token ∷ ts)))
 
 pub fails_weaker : {P Q : ℕ → Type 0} (f : Fail ParseFault) → ((n : ℕ) → P n → Q n) → Fails f P → Fails f Q

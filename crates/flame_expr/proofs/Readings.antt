@@ -1,5 +1,5 @@
 -- What readers have read, token by token.
-use Rattle.std.proofs.Common.{◌≡◌, ℕ, suc, ◌+◌, ◌<◌, ◌≤◌, List, [], ◌∷◌, ◌++◌, length, drop, refl, sym, ap, ◌∙◌, subst, arith, Option, Some, None}
+use Rattle.std.proofs.Common.{◌≡◌, ℕ, suc, ◌+◌, ◌<◌, ◌≤◌, List, [], ◌∷◌, ◌++◌, length, drop, refl, sym, ap, ◌∙◌, subst, arith, Option, Some, None, append_assoc, append-nil}
 use Rattle.flame_ops.specs.declared.integers.Op.{Op}
 use Rattle.flame_spec.specs.declared.trees.Sign.{Sign}
 use Rattle.flame_spec.specs.declared.trees.SignKind.{SignKind}
@@ -93,10 +93,6 @@ pub record SignsOn (tokens : List Token) (at place : ℕ) (found : List Sign) : 
 pub signs_begin : (tokens : List Token) (at : ℕ) → at ≤ length tokens → SignsOn tokens at at []
 signs_begin tokens at h = record { ahead = omega arith; within = h; tree = λ ss rest s. s; ended = λ end e. e }
 
-append_one : (found ss : List Sign) (s : Sign) → (found ++ s ∷ []) ++ ss ≡ found ++ s ∷ ss
-append_one [] ss s = refl
-append_one (x ∷ found) ss s = ap (λ ys. x ∷ ys) (append_one found ss s)
-
 pub signs_step : (tokens : List Token) (at place : ℕ) (found : List Sign) (kind : SignKind) → SignsOn tokens at place found → sign_of
     (first (drop place tokens)) ≡ Some kind → place < length tokens → SignsOn tokens at (place + 1)
     (found ++ record { kind = kind; line = line (drop place tokens) } ∷ [])
@@ -106,17 +102,13 @@ signs_step tokens at place found kind i s h =
       ahead = omega (arith, i.ahead);
       within = omega (arith, h);
       tree = λ ss rest x. subst (λ ys. Signs (drop at tokens) ys rest)
-          (sym (append_one found ss (record { kind = kind; line = line (drop place tokens) })))
+          (sym (append_assoc found ((record { kind = kind; line = line (drop place tokens) }) ∷ []) ss))
           (i.tree _ rest (a_sign s (at_next (λ ts. Signs ts ss rest) tokens place x)));
       ended = λ end x. i.ended end (begin_ended signs (many (one_of signs) ∷ []) (many (one_of signs) ∷ []) tokens place end (first (drop place tokens)) p.0 p.1 p.2 refl x);
     }
 
-append_none : (found : List Sign) → found ++ [] ≡ found
-append_none [] = refl
-append_none (x ∷ found) = ap (λ ys. x ∷ ys) (append_none found)
-
 pub signs_read : (tokens : List Token) (at place : ℕ) (found : List Sign) → SignsOn tokens at place found → Signs (drop at tokens) found (drop place tokens)
-signs_read tokens at place found i = subst (λ ys. Signs (drop at tokens) ys (drop place tokens)) (append_none found) (i.tree [] _ no_sign)
+signs_read tokens at place found i = subst (λ ys. Signs (drop at tokens) ys (drop place tokens)) (append-nil found) (i.tree [] _ no_sign)
 
 pub signs_ended : (tokens : List Token) (at place : ℕ) (found : List Sign) → SignsOn tokens at place found → sign_of (first (drop place tokens)) ≡
     None → Ended signs (many (one_of signs) ∷ []) tokens at place

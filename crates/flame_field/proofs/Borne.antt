@@ -1,35 +1,20 @@
 -- Births that are kept as they come.
 use Rattle.std.proofs.Common.{◌≡◌, ℕ, ◌+◌, List, [], ◌∷◌, ◌++◌, length, map, Vec, refl, sym, ap, ◌∙◌, arith}
 use Rattle.std.specs.Global.{Global}
-use Rattle.std.specs.List.{filter}
-use Rattle.std.specs.Prelude.{ℤ, ◌==◌}
-use Rattle.std.proofs.lemmas.List.{length-map, map-append}
-use Rattle.std.proofs.lemmas.List.Elements.{filter-append}
-use Rattle.flame_rows.specs.Bags.{merge}
+use Rattle.std.specs.Prelude.{ℤ}
+use Rattle.std.proofs.lemmas.List.{length-map}
 use Rattle.flame_spec.specs.declared.outcomes.Born.{Born}
 use Rattle.flame_world.specs.AgentRuns.{births_of}
-use Rattle.flame_world.specs.Fields.{changed, changed_pool, joined, joined_from}
+use Rattle.flame_world.specs.Fields.{changed, changed_pool, joined}
 use Rattle.flame_world.proofs.Counting.{length-changed}
 use Rattle.flame_field.specs.declared.pools.Pool.{Pool}
 use Rattle.flame_field.specs.KeptPools.{pools_of, pool_bags}
-use Rattle.flame_rows.proofs.Merging.{merge-append}
-
-births-append : (births more : List Born) (k : ℕ) → births_of (births ++ more) k ≡ births_of births k ++ births_of more k
-births-append births more k =
-    ap (map (λ (b : Born). b.row)) (filter-append (λ (b : Born). b.agent == k) births more)
-    ∙ map-append (λ (b : Born). b.row) (filter (λ (b : Born). b.agent == k) births) (filter (λ (b : Born). b.agent == k) more)
-
-joined_from-twice : (i : ℕ) (one other both : ℕ → List (List ℤ)) → ((k : ℕ) → both k ≡ one k ++ other k) → (bags : List (List (List ℤ)))
-    → joined_from i both bags ≡ joined_from i other (joined_from i one bags)
-joined_from-twice i one other both same [] = refl
-joined_from-twice i one other both same (bag ∷ bags) =
-    let here : merge bag (both i) ≡ merge (merge bag (one i)) (other i) = ap (merge bag) (same i) ∙ sym (merge-append bag (one i) (other i)) in
-    λ j. here j ∷ joined_from-twice (i + 1) one other both same bags j
+use Rattle.flame_world.proofs.JoinedBags.{joined_from-twice, births_of-append}
 
 pub joined-later : (born births : List Born) (bags : List (List (List ℤ)))
     → joined (births_of (born ++ births)) bags ≡ joined (births_of births) (joined (births_of born) bags)
 joined-later born births bags =
-    joined_from-twice 0 (births_of born) (births_of births) (births_of (born ++ births)) (births-append born births) bags
+    joined_from-twice 0 (births_of born) (births_of births) (births_of (born ++ births)) (λ k. births_of-append k born births) bags
 
 pub same_for_all : {X Y Z : Type 0} (z : Z) (xs : List X) (ys : List Y) → length xs ≡ length ys → map (λ x. z) xs ≡ map (λ y. z) ys
 same_for_all z [] [] long = refl

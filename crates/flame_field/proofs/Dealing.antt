@@ -4,14 +4,16 @@ use Rattle.std.specs.Prelude.{ℤ, ◌==◌, not, slice_get, slice_set, slice_in
 use Rattle.std.specs.List.{All, filter, flat_map}
 use Rattle.std.specs.Vec.{vec_len, vec_capacity}
 use Rattle.std.proofs.lemmas.Bool.{eqb-true, eq-eqb, ne_eqb, cases_lt}
+use Rattle.std.proofs.lemmas.Option.{slice_get_read}
+use Rattle.std.proofs.lemmas.List.{nil_from_length}
 use Rattle.flame_rows.specs.Order.{row_order}
-use Rattle.flame_rows.specs.Sorted.{IsBelowAll, IsAscending}
+use Rattle.flame_rows.specs.Sorted.{IsAscending}
 use Rattle.flame_rows.specs.Bags.{ascending, merge, merge_all, weigh}
 use Rattle.flame_rows.proofs.Truths.{cases_Option}
-use Rattle.flame_rows.proofs.BagLaws.{IsAscending-ascending, IsAscending-merge, equal_by_weighings, merge_adds_weights, weigh-append, weigh-ascending, weigh-ones}
+use Rattle.flame_rows.proofs.BagLaws.{IsAscending-ascending, IsAscending-merge, equal_by_weighings, merge_adds_weights, weigh-append, weigh-ascending, weigh-ones, IsAscending-filter}
+use Rattle.flame_rows.proofs.Lists.{slice_get-slice_set_cases}
 use Rattle.flame_field.specs.declared.gatherings.Gathering.{Gathering}
 use Rattle.flame_field.specs.declared.pools.Pool.{Pool}
-use Rattle.flame_field.proofs.Gathered.{none_left}
 use Rattle.flame_field.specs.KeptGatherings.{bag_of, bags_of}
 use Rattle.flame_field.specs.KeptPools.{pool_bag, choosing, AreApart}
 
@@ -77,23 +79,6 @@ weighs-written w (own ∷ all) (suc place) old new within at =
 pub weighs-push : (w : Weight) (all : List Gathering) (new : Gathering) → weighs w (all ++ new ∷ []) ≡ weighs w all + weigh w new.rows.items
 weighs-push w [] new = omega arith
 weighs-push w (own ∷ all) new = omega (arith, weighs-push w all new)
-
-pub got-there : {X : Type 0} (xs : List X) (k : ℕ) (x : X) → k < length xs → x ≡ get_or xs k x → slice_get xs k ≡ Some x
-got-there [] k x within at = absurd (omega (arith, within))
-got-there (y ∷ xs) zero x within at = ap Some (sym at)
-got-there (y ∷ xs) (suc k) x within at = got-there xs k x (omega (arith, within)) at
-
-pub got-set : {X : Type 0} (xs : List X) (place k : ℕ) (new x : X) → slice_get (slice_set xs place new) k ≡ Some x
-    → ((place ≡ k) × (new ≡ x)) ⊎ ((place ≡ k → ⊥) × (slice_get xs k ≡ Some x))
-got-set [] place k new x at = absurd (cc)
-got-set (y ∷ xs) zero zero new x at = inl (refl, cc)
-got-set (y ∷ xs) zero (suc k) new x at = inr ((λ same. omega (arith, same)), at)
-got-set (y ∷ xs) (suc place) zero new x at = inr ((λ same. omega (arith, same)), at)
-got-set (y ∷ xs) (suc place) (suc k) new x at =
-    elim (got-set xs place k new x at) [
-      | inl same ↦ inl (ap suc same.0, same.1)
-      | inr there ↦ inr ((λ same. there.0 (omega (arith, same))), there.1)
-    ]
 
 pub got-push : {X : Type 0} (xs : List X) (k : ℕ) (new x : X) → slice_get (xs ++ new ∷ []) k ≡ Some x → (new ≡ x) ⊎ (slice_get xs k ≡ Some x)
 got-push [] zero new x at = inl cc
@@ -161,7 +146,7 @@ apart-to choose all apart place =
 pub apart-written : (choose : List ℤ → ℕ) (all : List Gathering) (place : ℕ) (new : Gathering) → Apart choose all
     → weigh (strays choose place) new.rows.items ≡ 0 → Apart choose (slice_set all place new)
 apart-written choose all place new apart none k own at =
-    elim (got-set all place k new own at) [
+    elim (slice_get-slice_set_cases all place k new own at) [
       | inl same ↦ subst (λ n. weigh (strays choose n) own.rows.items ≡ 0) same.0 (subst (λ (o : Gathering). weigh (strays choose place) o.rows.items ≡ 0) same.1 none)
       | inr there ↦ apart k own there.1
     ]
@@ -182,25 +167,9 @@ apart-more choose all place old new row apart within at more is =
     apart-written choose all place new apart
     (ap (weigh (strays choose place)) more
     ∙ weigh-append (strays choose place) old.rows.items (row ∷ [])
-    ∙ omega (arith, here, apart place old (got-there all place old within at)))
+    ∙ omega (arith, here, apart place old (slice_get_read all (length all) place old refl within at)))
 
 -- ---- those that chose a place, and the others
-
-below-filter : (row : List ℤ) (passes : List ℤ → Bool) (rows : Rows) → IsBelowAll row_order row rows → IsBelowAll row_order row (filter passes rows)
-below-filter row passes [] below = tt
-below-filter row passes (other ∷ rows) below =
-    elim (passes other) as (λ t. IsBelowAll row_order row (cond t (other ∷ filter passes rows) (filter passes rows))) [
-      | true ↦ (below.0, below-filter row passes rows below.1)
-      | false ↦ below-filter row passes rows below.1
-    ]
-
-IsAscending-filter : (passes : List ℤ → Bool) (rows : Rows) → IsAscending row_order rows → IsAscending row_order (filter passes rows)
-IsAscending-filter passes [] up = tt
-IsAscending-filter passes (row ∷ rows) up =
-    elim (passes row) as (λ t. IsAscending row_order (cond t (row ∷ filter passes rows) (filter passes rows))) [
-      | true ↦ (below-filter row passes rows up.0, IsAscending-filter passes rows up.1)
-      | false ↦ IsAscending-filter passes rows up.1
-    ]
 
 -- what the rows weigh that chose the place, and what the others do
 abbrev on : (List ℤ → ℕ) → ℕ → Weight → Weight
@@ -299,7 +268,7 @@ from_first choose all apart k own at =
 pub ons-there : (choose : List ℤ → ℕ) (place : ℕ) (w : Weight) (all : List Gathering) (own : Gathering) → Apart choose all
     → place < length all → own ≡ get_or all place own → weighs (on choose place w) all ≡ weigh w own.rows.items
 ons-there choose place w all own apart within at =
-    ons-at choose place w 0 place all own (got-there all place own within at) (omega arith) (from_first choose all apart)
+    ons-at choose place w 0 place all own (slice_get_read all (length all) place own refl within at) (omega arith) (from_first choose all apart)
 
 pub ons-none : (choose : List ℤ → ℕ) (place : ℕ) (w : Weight) (all : List Gathering) → Apart choose all
     → length all ≤ place → weighs (on choose place w) all ≡ 0
@@ -348,7 +317,7 @@ length-there all place own within at =
     sym (weigh-ones own.rows.items)
     ∙ sym (weigh-ascending (λ row. 1) own.rows.items)
     ∙ weigh-ones (bag_of own)
-    ∙ ap length (sym (bag-at all place own (got-there all place own within at)))
+    ∙ ap length (sym (bag-at all place own (slice_get_read all (length all) place own refl within at)))
 
 -- ---- room for those that choose a place
 
@@ -371,18 +340,18 @@ choosing-more choice place choices =
 pub room-there : (choice : ℕ) (choices : List ℕ) (all : List Gathering) (own : Gathering) → RoomsIn (choice ∷ choices) all
     → choice < length all → own ≡ get_or all choice own → vec_len own.rows < vec_capacity own.rows
 room-there choice choices all own rooms within at =
-    omega (arith, rooms choice own (got-there all choice own within at), choosing-own choice choices)
+    omega (arith, rooms choice own (slice_get_read all (length all) choice own refl within at), choosing-own choice choices)
 
 pub rooms_left : (choice : ℕ) (choices : List ℕ) (all : List Gathering) (old new : Gathering) → RoomsIn (choice ∷ choices) all
     → choice < length all → old ≡ get_or all choice old
     → vec_len new.rows ≡ vec_len old.rows + 1 → vec_capacity new.rows ≡ vec_capacity old.rows
     → RoomsIn choices (slice_set all choice new)
 rooms_left choice choices all old new rooms within at long wide place own there =
-    elim (got-set all choice place new own there) [
+    elim (slice_get-slice_set_cases all choice place new own there) [
       | inl same ↦
           subst (λ (o : Gathering). vec_len o.rows + choosing choices place ≤ vec_capacity o.rows) same.1
           (subst (λ n. vec_len new.rows + choosing choices n ≤ vec_capacity new.rows) same.0
-          (omega (arith, long, wide, rooms choice old (got-there all choice old within at), choosing-own choice choices)))
+          (omega (arith, long, wide, rooms choice old (slice_get_read all (length all) choice old refl within at), choosing-own choice choices)))
       | inr still ↦ omega (arith, rooms place own still.1, choosing-more choice place choices)
     ]
 
@@ -396,7 +365,7 @@ pub rooms_more : (choices : List ℕ) (all : List Gathering) (place : ℕ) (new 
     → (k : ℕ) (own : Gathering) → k < place + 1 → slice_get (slice_set all place new) k ≡ Some own
     → vec_len own.rows + choosing choices k ≤ vec_capacity own.rows
 rooms_more choices all place new rooms room k own less at =
-    elim (got-set all place k new own at) [
+    elim (slice_get-slice_set_cases all place k new own at) [
       | inl same ↦
           subst (λ (o : Gathering). vec_len o.rows + choosing choices k ≤ vec_capacity o.rows) same.1
           (subst (λ n. vec_len new.rows + choosing choices n ≤ vec_capacity new.rows) same.0 room)
@@ -418,16 +387,7 @@ apart-moved choose all place old new apart is chose =
     (ap (λ (o : Gathering). weigh (strays choose place) o.rows.items) is ∙ all-strays choose place old.rows.items chose)
 
 pub none_there : (own : Gathering) → bag_of own ≡ [] → own.rows.items ≡ []
-none_there own none = none_left own.rows.items (sym (weigh-ones own.rows.items) ∙ weigh-none (λ row. 1) own none)
-
-pub length-push : {X : Type 0} (xs : List X) (x : X) → length (xs ++ x ∷ []) ≡ length xs + 1
-length-push [] x = omega arith
-length-push (y ∷ xs) x = omega (arith, length-push xs x)
-
-pub got_some : {X : Type 0} (xs : List X) (k : ℕ) (x : X) → slice_get xs k ≡ Some x → k < length xs
-got_some [] k x at = absurd (cc)
-got_some (y ∷ xs) zero x at = omega arith
-got_some (y ∷ xs) (suc k) x at = omega (arith, got_some xs k x at)
+none_there own none = nil_from_length own.rows.items (sym (weigh-ones own.rows.items) ∙ weigh-none (λ row. 1) own none)
 
 all_mapped : (choose : List ℤ → ℕ) (choice : ℕ) (rows : Rows) → All (λ other. other ≡ choice) (map choose rows) → All (λ memory. choose memory ≡ choice) rows
 all_mapped choose choice [] all k d less = absurd (omega (arith, less))

@@ -1,5 +1,5 @@
 -- Bags of rows that came together bit by bit.
-use Rattle.std.proofs.Common.{◌≡◌, ◌+◌, List, [], ◌∷◌, ◌++◌, length, refl, sym, ap, ◌∙◌, arith, IsPermutation}
+use Rattle.std.proofs.Common.{◌≡◌, ◌+◌, List, [], ◌++◌, sym, ap, ◌∙◌, arith, IsPermutation}
 use Rattle.std.specs.Prelude.{ℤ}
 use Rattle.std.proofs.lemmas.List.Sorted.{sum_by-IsPermutation}
 use Rattle.flame_rows.specs.Order.{row_order}
@@ -13,10 +13,6 @@ use Rattle.flame_field.specs.KeptGatherings.{bag_of}
 use Rattle.flame_rows.proofs.Sorting.{ascending_once, sum_by-sorted_by}
 use Rattle.flame_rows.proofs.BagLaws.{IsAscending-ascending, rows_tied, rows_total, weigh-ascending, weigh-append}
 use Rattle.flame_rows.proofs.Merging.{same_bag, ascending-ascending}
-
-pub none_left : {X : Type 0} (xs : List X) → length xs ≡ 0 → xs ≡ []
-none_left [] none = refl
-none_left (x ∷ xs) none = absurd (omega (arith, none))
 
 pub merge-none : (rows : List (List ℤ)) → merge (ascending rows) [] ≡ ascending rows
 merge-none rows =

@@ -1,18 +1,11 @@
 -- A pool that is written, and all others.
-use Rattle.std.proofs.Common.{◌≡◌, ℕ, zero, suc, List, [], ◌∷◌, Vec, Some, refl, sym, ap, ◌∙◌, subst, inl, inr}
+use Rattle.std.proofs.Common.{◌≡◌, ℕ, List, [], Vec, Some, sym, ap, ◌∙◌, subst, inl, inr}
 use Rattle.std.specs.Prelude.{ℤ, option_and_then, slice_get, slice_set}
 use Rattle.std.specs.Global.{Global}
 use Rattle.std.proofs.lemmas.Bool.Decides.{eqb_tells}
-use Rattle.flame_rows.proofs.Lists.{slice_get-slice_set}
+use Rattle.flame_rows.proofs.Lists.{slice_get-slice_set, slice_get-slice_set_other}
 use Rattle.flame_field.specs.declared.pools.Pool.{Pool}
 use Rattle.flame_field.specs.KeptPools.{pool_at, IsDealt}
-
-get-other : {X : Type 0} (xs : List X) (place k : ℕ) (x : X) → (k ≡ place → ⊥) → slice_get (slice_set xs place x) k ≡ slice_get xs k
-get-other [] place k x other = refl
-get-other (y ∷ xs) zero zero x other = absurd (other refl)
-get-other (y ∷ xs) zero (suc k) x other = refl
-get-other (y ∷ xs) (suc place) zero x other = refl
-get-other (y ∷ xs) (suc place) (suc k) x other = get-other xs place k x (λ same. other (ap suc same))
 
 module _ (pools : List (Vec Pool Global)) (agent state : ℕ) (old new : Vec Pool Global) (was pool : Pool)
     (own : slice_get pools agent ≡ Some old) (there : slice_get old.items state ≡ Some was) (written : new.items ≡ slice_set old.items state pool) where
@@ -32,10 +25,10 @@ module _ (pools : List (Vec Pool Global)) (agent state : ℕ) (old new : Vec Poo
             let within : pool_at (slice_set pools agent new) agent s ≡ pool_at pools agent s =
             ap (option_and_then (λ (o : Vec Pool Global). slice_get o.items s)) (slice_get-slice_set pools agent new old own)
             ∙ ap (λ (l : List Pool). slice_get l s) written
-            ∙ get-other old.items state s pool (other one.1)
+            ∙ slice_get-slice_set_other old.items state s pool (other one.1)
             ∙ ap (option_and_then (λ (o : Vec Pool Global). slice_get o.items s)) (sym own) in
             subst (λ n. pool_at (slice_set pools agent new) n s ≡ pool_at pools n s) (sym one.1) within
-        | inr differ ↦ ap (option_and_then (λ (o : Vec Pool Global). slice_get o.items s)) (get-other pools agent a new differ.1)
+        | inr differ ↦ ap (option_and_then (λ (o : Vec Pool Global). slice_get o.items s)) (slice_get-slice_set_other pools agent a new differ.1)
       ]
 
   pub pool-dealt : (choose : ℕ → ℕ → List ℤ → ℕ)

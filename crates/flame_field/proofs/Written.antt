@@ -1,5 +1,5 @@
 -- Lists of which one element is written, as they are seen.
-use Rattle.std.proofs.Common.{◌≡◌, ℕ, zero, suc, ◌<◌, List, [], ◌∷◌, length, map, get_or, Option, Some, Result, Ok, Err, OnOk, OnErr, sym, ap, ◌∙◌, arith}
+use Rattle.std.proofs.Common.{◌≡◌, ℕ, zero, suc, ◌<◌, List, [], ◌∷◌, length, map, get_or, Option, Some, Result, Ok, Err, OnErr, sym, ap, ◌∙◌, arith}
 use Rattle.std.specs.Prelude.{slice_get, slice_set, slice_index_or, unwrap_or}
 use Rattle.std.proofs.lemmas.Option.{unwrap_or-slice_get}
 
@@ -24,12 +24,3 @@ or_else_is xs place d got is = sym (unwrap_or-slice_get xs place d) ∙ ap (λ o
 pub on_err : {A E P : Type 0} (r : Result A E) → P → OnErr r P
 on_err (Ok a) holds = tt
 on_err (Err e) holds = holds
-
--- what follows where there is none, and where there is one
-pub then_ok : {A E P Q : Type 0} (r : Result A E) → (P → Q) → OnOk r P → OnOk r Q
-then_ok (Ok a) follows holds = follows holds
-then_ok (Err e) follows holds = tt
-
-pub then_err : {A E P Q : Type 0} (r : Result A E) → (P → Q) → OnErr r P → OnErr r Q
-then_err (Ok a) follows holds = tt
-then_err (Err e) follows holds = follows holds

@@ -12,6 +12,7 @@ use Rattle.flame_events.specs.CoreStates.{Core}
 use Rattle.flame_events.specs.EventSteps.{after, replay, are_legal}
 use Rattle.flame_events.specs.HandedPieces.{hand_in_events}
 use Rattle.flame_events.specs.LegalEvents.{outputs_of, is_legal}
+use Rattle.flame_events.proofs.Growing.{replay-append}
 use Rattle.flame_core.specs.CoreCalls.{CanAbsorb}
 use Rattle.flame_core.specs.SeenCores.{round_in, start_in}
 use Rattle.flame_flow.specs.Goings.{AreWaysOf, Going, with_frozen, with_opened, with_behind, with_shut, GoesOn, work_left}
@@ -21,7 +22,7 @@ use Rattle.flame_flow.proofs.Left.{left_quiet}
 use Rattle.flame_flow.proofs.Lessening.{shut_less, last_first}
 use Rattle.flame_flow.proofs.Opening.{opens_all}
 use Rattle.flame_flow.proofs.Settling.{Settling, settling, settling_goes}
-use Rattle.flame_flow.proofs.Tellings.{gone_round, gone_pieces, replay-append, told_again, told_known}
+use Rattle.flame_flow.proofs.Tellings.{gone_round, gone_pieces, told_again, told_known}
 
 -- ---- a function is shut
 

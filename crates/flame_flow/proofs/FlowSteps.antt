@@ -1,7 +1,9 @@
 -- What the calls of a flow have from what it keeps.
-use Rattle.std.proofs.Common.{◌≡◌, ℕ, zero, suc, ◌+◌, ◌<◌, Bool, true, false, cond, List, [], ◌∷◌, ◌++◌, drop, length, Option, Some, None, refl, sym, ap, ◌∙◌, subst, arith, length-set}
+use Rattle.std.proofs.Common.{◌≡◌, ℕ, ◌+◌, ◌<◌, Bool, true, false, cond, List, [], ◌∷◌, ◌++◌, drop, length, Option, Some, None, refl, sym, ap, ◌∙◌, subst, arith, length-set}
 use Rattle.std.specs.Prelude.{◌==◌, slice_get, slice_index, slice_set}
 use Rattle.std.proofs.lemmas.Bool.{true≢false, ltb-true, ltb-false}
+use Rattle.std.proofs.lemmas.Slice.Zip.{AllZip-long}
+use Rattle.flame_rows.proofs.Lists.{slice_get-some, slice_index-there}
 use Rattle.flame_spec.specs.declared.models.Model.{Model}
 use Rattle.flame_spec.specs.declared.outcomes.Source.{Source}
 use Rattle.flame_spec.specs.Accepted.{IsAccepted}
@@ -9,7 +11,6 @@ use Rattle.flame_spec.specs.Before.{function_count}
 use Rattle.flame_spec.specs.Functions.{functions}
 use Rattle.flame_spec.specs.ModelOrder.{model_order}
 use Rattle.flame_spec_laws.specs.NameLaws.{MessagesDiffer}
-use Rattle.flame_route.proofs.Places.{zip-length}
 use Rattle.flame_world.specs.declared.shares.Share.{Share}
 use Rattle.flame_world.specs.InputBoards.{boards_named}
 use Rattle.flame_world.specs.Iterations.{Round, round_of}
@@ -22,7 +23,6 @@ use Rattle.flame_events.specs.EventSteps.{are_legal}
 use Rattle.flame_events.specs.Histories.{Leads}
 use Rattle.flame_events.specs.LegalEvents.{is_legal, may_run}
 use Rattle.flame_events.proofs.CoreWidths.{status_below}
-use Rattle.flame_events.proofs.Spots.{get_there}
 use Rattle.flame_orders.specs.OneBeginning.{HaveOneBeginning}
 use Rattle.flame_orders.proofs.Lasting.{runs}
 use Rattle.flame_orders.proofs.OneBeginnings.{pieces_agree}
@@ -57,17 +57,12 @@ module _ (model : Model) (begun due : List ℕ) (core : Core) (marks : AreMarksO
   pub nothing_next : slice_get due 0 ≡ None → next_piece model begun core ≡ None
   nothing_next none = next_none model begun due core marks (none_of due none)
 
-  index_of : (xs : List ℕ) (i x : ℕ) → slice_get xs i ≡ Some x → slice_index xs i ≡ x
-  index_of [] i x at = absurd cc
-  index_of (y ∷ xs) zero x at = cc
-  index_of (y ∷ xs) (suc i) x at = index_of xs i x at
-
   pub something_next : (rank f : ℕ) → slice_get due 0 ≡ Some rank → f ≡ slice_index (model_order model) rank
       → is_rank_below (least_fault_rank model core) rank ≡ true → next_piece model begun core ≡ Some (f, slice_index begun f)
   something_next rank f at is below =
       let first = first_of due rank at in
       let has = has_first model begun due core marks rank first.0 first.1 in
-      let same : has.function ≡ f = sym (index_of (model_order model) rank has.function has.at) ∙ sym is in
+      let same : has.function ≡ f = sym (slice_index-there (model_order model) rank has.function has.at) ∙ sym is in
       let there : slice_get (model_order model) rank ≡ Some f = has.at ∙ ap Some same in
       go first.0 first.1 there (least_fault_rank model core) refl below
     where
@@ -99,7 +94,7 @@ module _ (going : GoingOn) (ways : Ways) (begun : List ℕ) (short : Bool) (kept
 
   pub next_there : f < length begun
   next_there =
-      let found = get_there (works_of (status_of core f)) k next_known.below in
+      let found = slice_get-some (works_of (status_of core f)) k next_known.below in
       omega (arith, status_below core f k found.0 found.1, (told_known going.told is).fits.statuses, kept.long)
 
   pub next_due : 0 < length going.due
@@ -172,7 +167,7 @@ due_absorbs differ told share is accepted whole due legal =
     let one : HaveOneBeginning round seen.pieces seen.pieces seen.core other.core = record {
       accepted = accepted;
       agents = seen.world.agents;
-      has_bags = sym (zip-length _ seen.source.model.agents seen.world.agents is.fits.agents);
+      has_bags = sym ((sym (AllZip-long _ seen.source.model.agents seen.world.agents is.fits.agents)));
       some = is.some;
       events = told.history;
       leads = is.leads;

@@ -1,9 +1,10 @@
 -- What pieces are marked as when an event came, and that each stays whole.
-use Rattle.std.proofs.Common.{◌≡◌, ℕ, zero, suc, ◌<◌, inl, inr, ⊎_elim, true, false, List, [], ◌∷◌, length, Option, Some, None, refl, sym, ap, ◌∙◌, arith, subst, get_or-set_same, get_or-set_other}
+use Rattle.std.proofs.Common.{◌≡◌, ℕ, ◌<◌, inl, inr, ⊎_elim, true, false, List, [], length, Option, Some, None, refl, sym, ap, ◌∙◌, arith, subst, get_or-set_same, get_or-set_other}
 use Rattle.std.specs.Prelude.{◌||◌, nat_lt, slice_get, slice_set, slice_index, slice_index_or}
 use Rattle.std.proofs.lemmas.Bool.{cases_Bool, cases_eq, eq-eqb, ne_eqb, ltb-true, ltb-false, lt-ltb, le-ltb, true≢false}
 use Rattle.std.proofs.lemmas.List.{length-set}
-use Rattle.std.proofs.lemmas.Option.{get_or_from_slice_get, slice_get_within}
+use Rattle.std.proofs.lemmas.Option.{get_or_from_slice_get, slice_get_within, none-some, same_Some}
+use Rattle.flame_rows.proofs.Lists.{slice_get-slice_set, slice_get-some, slice_get-slice_set_other}
 use Rattle.flame_meaning.specs.RangeLaws.{Each}
 use Rattle.flame_meaning.proofs.Eachs.{each_at}
 use Rattle.flame_spec.specs.declared.models.Model.{Model}
@@ -19,8 +20,6 @@ use Rattle.flame_events.specs.CoreStates.{Work, Status, Waiting, Open, is_waitin
 use Rattle.flame_events.specs.CoreLaws.{EventsLeadTo}
 use Rattle.flame_events.specs.EventSteps.{with_work, done_with, after}
 use Rattle.flame_events.specs.LegalEvents.{outputs_of, is_over, is_legal}
-use Rattle.flame_events.proofs.Spots.{get_there}
-use Rattle.flame_events.proofs.Absorbing.{get_set}
 use Rattle.flame_events.proofs.CoreWidths.{status_below}
 use Rattle.flame_events.proofs.Sound.{can_open, waiting_is}
 use Rattle.flame_events.proofs.Legality.{done_waits, may_shut_is}
@@ -31,9 +30,6 @@ use Rattle.flame_orders.proofs.FunctionRuns.{opened_pieces_are_takers}
 use Rattle.flame_flow.specs.QuietCores.{ArePiecesWhole}
 use Rattle.flame_flow.specs.BegunPieces.{has_next, is_due, with_number, AreMarksOf}
 use Rattle.flame_flow.proofs.Lists.{in_with_number, rising_with}
-
-none_some : {X : Type 0} {x : X} → None ≡ Some x → ⊥
-none_some e = cc
 
 -- ---- ranks
 
@@ -65,7 +61,7 @@ module _ (round : Round) (pieces : ℕ) (core : Core) where
     opened : (f : ℕ) → is_legal round.source.model core (event.Open f) ≡ true → Opened f
     opened f legal =
         let can = can_open round.source.model core f legal in
-        let there = get_there (functions round.source.model) f can.below in
+        let there = slice_get-some (functions round.source.model) f can.below in
         let takers = opened_pieces_are_takers round pieces f there.0 core led some there.1 legal in
         record { waits = can.waits; opens = takers.0; unrun = takers.1 }
 
@@ -169,7 +165,7 @@ module _ (round : Round) (pieces : ℕ) (core : Core) where
     pub whole_shut : (f : ℕ) → is_legal round.source.model core (event.Shut f) ≡ true → ArePiecesWhole round.source.model core
         → ArePiecesWhole round.source.model (after round pieces core (event.Shut f))
     whole_shut f legal whole g k work there = ⊎_elim
-        (λ (same : g ≡ f). absurd (none_some (sym (ap (λ (works : List Work). slice_get works k) (shut_is f legal)) ∙ ap (λ h. work_of (after round pieces core (event.Shut f)) h k) (sym same) ∙ there)))
+        (λ (same : g ≡ f). absurd (none-some _ (sym (ap (λ (works : List Work). slice_get works k) (shut_is f legal)) ∙ ap (λ h. work_of (after round pieces core (event.Shut f)) h k) (sym same) ∙ there)))
         (λ (apart : g ≡ f → ⊥). whole g k work (ap (λ s. slice_get (works_of s) k) (sym (shut_apart f g apart)) ∙ there))
         (cases_eq g f)
 
@@ -180,7 +176,7 @@ module _ (round : Round) (pieces : ℕ) (core : Core) where
         (λ (less : nat_lt (slice_index begun f) (length (works_of (status_of core f))) ≡ true).
         let outs = outputs_of round.source.model f in
         let k = slice_index begun f in
-        let found = get_there (works_of (status_of core f)) k (ltb-true k (length (works_of (status_of core f))) less) in
+        let found = slice_get-some (works_of (status_of core f)) k (ltb-true k (length (works_of (status_of core f))) less) in
         let left = none_left outs found.0 (over_at outs core f k found.0 legal found.1) in
         let kept = each_at (KeptWork outs) (works_of (status_of core f)) k found.0 ((kept_core round pieces core led).works f).each found.1 in
         let ran : 0 < found.0.ran = omega (arith, ltb-false found.0.ran (length found.0.agents) left, kept.some) in
@@ -201,7 +197,7 @@ module _ (round : Round) (pieces : ℕ) (core : Core) where
           (λ (apart : g ≡ f → ⊥). marks.fresh g (ap is_waiting (sym (shut_apart f g apart)) ∙ waits))
           (cases_eq g f);
       ran = λ g k work there ran. ⊎_elim
-          (λ (same : g ≡ f). absurd (none_some (sym (ap (λ (works : List Work). slice_get works k) (shut_is f legal)) ∙ ap (λ h. work_of (after round pieces core (event.Shut f)) h k) (sym same) ∙ there)))
+          (λ (same : g ≡ f). absurd (none-some _ (sym (ap (λ (works : List Work). slice_get works k) (shut_is f legal)) ∙ ap (λ h. work_of (after round pieces core (event.Shut f)) h k) (sym same) ∙ there)))
           (λ (apart : g ≡ f → ⊥). marks.ran g k work (ap (λ s. slice_get (works_of s) k) (sym (shut_apart f g apart)) ∙ there) ran)
           (cases_eq g f);
     }
@@ -225,13 +221,6 @@ module _ (round : Round) (pieces : ℕ) (core : Core) where
 
 -- ---- a piece changed
 
-get_set_else : (works : List Work) (k j : ℕ) (work : Work) → (j ≡ k → ⊥) → slice_get (slice_set works k work) j ≡ slice_get works j
-get_set_else [] k j work apart = refl
-get_set_else (w ∷ works) zero zero work apart = absurd (apart refl)
-get_set_else (w ∷ works) zero (suc j) work apart = refl
-get_set_else (w ∷ works) (suc k) zero work apart = refl
-get_set_else (w ∷ works) (suc k) (suc j) work apart = get_set_else works k j work (λ same. apart (ap suc same))
-
 -- of all pieces one alone became another
 pub record PieceBecame (core next : Core) (f k : ℕ) (work : Work) : Type 0 where
   pub others : (g : ℕ) → (g ≡ f → ⊥) → status_of next g ≡ status_of core g
@@ -249,8 +238,8 @@ piece_became core next f k old work there is =
       others = λ g away. ap (λ (l : List Status). slice_index_or l g Waiting) is ∙ get_or-set_other core.statuses f g (Open (slice_set works k work)) Waiting away;
       many = ap (λ s. length (works_of s)) own ∙ length-set works k work;
       started = ap is_waiting own;
-      apart = λ j away. ap (λ s. slice_get (works_of s) j) own ∙ get_set_else works k j work away;
-      there = ap (λ s. slice_get (works_of s) k) own ∙ get_set works k old work there;
+      apart = λ j away. ap (λ s. slice_get (works_of s) j) own ∙ slice_get-slice_set_other works k j work away;
+      there = ap (λ s. slice_get (works_of s) k) own ∙ slice_get-slice_set works k work old there;
     }
 
 pub became_again : (core mid next : Core) (f k : ℕ) (one two : Work) → PieceBecame core mid f k one → PieceBecame mid next f k two → PieceBecame core next f k two
@@ -262,16 +251,13 @@ became_again core mid next f k one two first second = record {
   there = second.there;
 }
 
-some_same : (x y : Work) → Some x ≡ Some y → x ≡ y
-some_same x y e = cc
-
 -- where it became one that is over, each piece is whole still
 pub whole_became : (model : Model) (core next : Core) (f k : ℕ) (work : Work) → PieceBecame core next f k work → is_over (outputs_of model f) work ≡ true
     → ArePiecesWhole model core → ArePiecesWhole model next
 whole_became model core next f k work became over whole g j other there = ⊎_elim
     (λ (same : g ≡ f). ⊎_elim
     (λ (here : j ≡ k).
-    let is : work ≡ other = some_same work other (sym became.there ∙ ap (λ i. work_of next f i) (sym here) ∙ ap (λ h. work_of next h j) (sym same) ∙ there) in
+    let is : work ≡ other = same_Some work other (sym became.there ∙ ap (λ i. work_of next f i) (sym here) ∙ ap (λ h. work_of next h j) (sym same) ∙ there) in
     inr (ap (λ h. is_over (outputs_of model h) other) same ∙ ap (is_over (outputs_of model f)) (sym is) ∙ over))
     (λ (away : j ≡ k → ⊥).
     whole g j other (ap (λ h. work_of core h j) same ∙ sym (became.apart j away) ∙ ap (λ h. work_of next h j) (sym same) ∙ there))

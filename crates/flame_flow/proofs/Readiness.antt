@@ -4,6 +4,7 @@ use Rattle.std.specs.Prelude.{◌==◌, ◌||◌, not, nat_lt, is_some, is_none,
 use Rattle.std.specs.List.{list_all, filter_map, cons_option}
 use Rattle.std.proofs.lemmas.Bool.{and_parts, cases_Bool, cases_eq, cases_lt, eqb-true, eq-eqb, ne_eqb, ltb-true, ltb-false, lt-ltb, le-ltb, true≢false, false≢true}
 use Rattle.std.proofs.lemmas.Option.{slice_get_within}
+use Rattle.flame_rows.proofs.Lists.{slice_get-some}
 use Rattle.flame_meaning.proofs.Eachs.{each_at}
 use Rattle.flame_spec.specs.declared.models.Model.{Model}
 use Rattle.flame_spec.specs.Below.{is_in}
@@ -22,7 +23,6 @@ use Rattle.flame_events.proofs.KeptCores.{KeptWork, kept_core}
 use Rattle.flame_events.proofs.LeastRanks.{lower_ranks_are_wanted}
 use Rattle.flame_events.proofs.Serial.{is_in-self, is_in-cases}
 use Rattle.flame_events.proofs.Sound.{opens_with}
-use Rattle.flame_events.proofs.Spots.{get_there}
 use Rattle.flame_events.proofs.Weights.{Rows}
 use Rattle.flame_events.proofs.Works.{all_of_list, kept_is_output}
 use Rattle.flame_orders.proofs.Lasting.{runs, Hands, hands, none_left}
@@ -305,7 +305,7 @@ marks_begun model begun due core f k rank rest marks list at was below inside = 
 
     waits_none : is_waiting (status_of core f) ≡ true → ⊥
     waits_none waits =
-        let found = get_there (works_of (status_of core f)) k below in
+        let found = slice_get-some (works_of (status_of core f)) k below in
         true≢false (sym waits ∙ ap is_waiting (opens_with (status_of core f) k found.0 found.1))
 
     in_rest : (s : ℕ) → (s ≡ rank → ⊥) → is_in s rest ≡ is_in s due

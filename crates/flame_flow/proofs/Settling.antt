@@ -3,7 +3,7 @@ use Rattle.std.proofs.Common.{◌≡◌, ℕ, zero, suc, ◌<◌, Bool, true, fa
 use Rattle.std.specs.Prelude.{◌==◌, not, is_some, is_none, slice_index}
 use Rattle.std.specs.List.{list_all, position_or_len}
 use Rattle.std.proofs.lemmas.Bool.{and_from, and_parts, le-ltb, false≢true}
-use Rattle.flame_rows.proofs.Lists.{slice_index_or-map_one}
+use Rattle.flame_rows.proofs.Lists.{slice_index_or-map_one, slice_get-some}
 use Rattle.flame_meaning.specs.RangeLaws.{Each}
 use Rattle.flame_meaning.proofs.Eachs.{each_at}
 use Rattle.flame_spec.specs.Accepted.{IsAccepted}
@@ -18,7 +18,6 @@ use Rattle.flame_events.specs.CoreStates.{Work, has_left, part_in, works_of, Cor
 use Rattle.flame_events.specs.EventSteps.{fresh_work, with_sent, after, replay, are_legal}
 use Rattle.flame_events.specs.HandedPieces.{hand_in_events, all_handed_in}
 use Rattle.flame_events.specs.LegalEvents.{outputs_of, is_over, is_legal}
-use Rattle.flame_events.proofs.Spots.{get_there}
 use Rattle.flame_events.proofs.Serial.{is_in-self}
 use Rattle.flame_events.proofs.Works.{length-with_sent}
 use Rattle.flame_events.proofs.Absorbing.{agents_run_at_once}
@@ -90,7 +89,7 @@ module _ (round : Round) (pieces : ℕ) (core : Core) (f k : ℕ) (work : Work) 
   settling accepted known there none =
       let model = round.source.model in
       let kept_cores = kept_core round pieces core known.led in
-      let place = get_there (functions model) f (omega (arith, status_below core f k work there, kept_cores.long)) in
+      let place = slice_get-some (functions model) f (omega (arith, status_below core f k work there, kept_cores.long)) in
       let kept = each_at (KeptWork outs) (works_of (status_of core f)) k work (kept_cores.works f).each there in
       let ran = agents_run_at_once round pieces f k place.0 work core place.1 there none kept.some in
       let one : Work = with_agents round f work core in

@@ -1,5 +1,5 @@
 -- Cores with histories, when events came more.
-use Rattle.std.proofs.Common.{◌≡◌, ℕ, ◌+◌, ◌<◌, true, false, List, [], ◌∷◌, ◌++◌, length, get_or, drop, refl, sym, ap, ◌∙◌, append_assoc, add-one, drop-cons}
+use Rattle.std.proofs.Common.{◌≡◌, ℕ, ◌+◌, true, false, List, [], ◌∷◌, ◌++◌, refl, sym, ap, ◌∙◌, append_assoc}
 use Rattle.std.specs.Prelude.{not}
 use Rattle.std.proofs.lemmas.Bool.{and_parts, and_from}
 use Rattle.std.proofs.lemmas.Grind.{flat_map-append}
@@ -12,22 +12,14 @@ use Rattle.flame_events.specs.EventBounds.{is_of_piece}
 use Rattle.flame_events.specs.EventSteps.{after, replay, are_legal}
 use Rattle.flame_events.specs.LegalEvents.{is_legal}
 use Rattle.flame_events.proofs.CoreWidths.{fitting_cores_open}
-use Rattle.flame_events.proofs.Growing.{histories_fit, histories_grow}
+use Rattle.flame_events.proofs.Growing.{histories_fit, histories_grow, replay-append}
 use Rattle.flame_core.specs.SeenCores.{Seen, round_in, start_in, when_came}
 use Rattle.flame_flow.specs.declared.told.Came.{Came}
 use Rattle.flame_flow.specs.SeenFlows.{start_of}
 use Rattle.flame_flow.specs.ToldCores.{ToldCore, IsTold, told_on, HasGrown, HasGoneOn, came_events, history_of}
 use Rattle.flame_flow.proofs.GoneOn.{Known}
 
--- the rest of a list, with its first number
-pub drop_next : (numbers : List ℕ) (i : ℕ) → i < length numbers → drop i numbers ≡ get_or numbers i 0 ∷ drop (i + 1) numbers
-drop_next numbers i less = rw (add-one) (drop-cons numbers i 0 less)
-
 -- ---- what came
-
-pub replay-append : (round : Round) (pieces : ℕ) (core : Core) (events more : List Event) → replay round pieces core (events ++ more) ≡ replay round pieces (replay round pieces core events) more
-replay-append round pieces core [] more = refl
-replay-append round pieces core (e ∷ events) more = replay-append round pieces (after round pieces core e) events more
 
 pub legal-parts : (round : Round) (pieces : ℕ) (core : Core) (events more : List Event) → are_legal round pieces core (events ++ more) ≡ true
     → (are_legal round pieces core events ≡ true) × (are_legal round pieces (replay round pieces core events) more ≡ true)

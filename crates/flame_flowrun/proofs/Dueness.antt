@@ -1,12 +1,12 @@
 -- What a flow gives to run is due.
 use Rattle.std.proofs.Common.{◌≡◌, ℕ, Some, refl, sym, ap, ◌∙◌, arith}
 use Rattle.std.specs.Prelude.{slice_get}
+use Rattle.flame_rows.proofs.Lists.{slice_get-some}
 use Rattle.flame_spec.specs.Functions.{functions}
 use Rattle.flame_world.specs.InputBoards.{boards_named}
 use Rattle.flame_events.specs.CoreStates.{work_of}
 use Rattle.flame_events.proofs.CoreWidths.{status_below, fitting_cores_open}
 use Rattle.flame_events.proofs.Growing.{histories_fit}
-use Rattle.flame_events.proofs.Spots.{get_there}
 use Rattle.flame_core.specs.SeenCores.{round_in, start_in}
 use Rattle.flame_flow.specs.declared.jobs.Job.{Job}
 use Rattle.flame_flow.specs.FlowCalls.{IsJobOf, IsKept}
@@ -21,7 +21,7 @@ job_due flow f k job kept is =
     let there : work_of seen.core job.piece.function job.piece.number ≡ Some is.is.work =
     (λ i. work_of seen.core (function i) (is.is.number_is i)) ∙ is.is.there in
     let fits = histories_fit (round_in seen) seen.pieces (start_in seen) seen.core flow.history (fitting_cores_open model seen.world kept.told.fits) kept.told.leads in
-    let place = get_there (functions model) job.piece.function
+    let place = slice_get-some (functions model) job.piece.function
     (omega (arith, status_below seen.core job.piece.function job.piece.number is.is.work there, fits.statuses)) in
     let at = ap (slice_get (functions model)) (sym function) ∙ place.1 in
     record {

@@ -1,21 +1,18 @@
 -- A mark is set once, and marks in order give a list of those that pass.
 use mathlib.Core.Bool.{or-true}
-use Rattle.std.proofs.Common.{◌≡◌, ℕ, zero, suc, ◌+◌, ◌-◌, List, [], ◌∷◌, ◌++◌, length, refl, sym, ap, ◌∙◌, arith, true, false, Bool, Some, cond}
+use Rattle.std.proofs.Common.{◌≡◌, ℕ, zero, suc, ◌+◌, ◌-◌, List, [], ◌∷◌, ◌++◌, length, refl, sym, ap, ◌∙◌, arith, true, false, Bool, cond}
 use Rattle.std.specs.Prelude.{◌==◌, ◌&&◌, ◌||◌, slice_get}
 use Rattle.std.proofs.lemmas.Bool.{eq-eqb, false≢true, le-ltb}
 use Rattle.std.proofs.lemmas.List.{length_push, append-nil}
+use Rattle.flame_rows.proofs.Lists.{slice_get-behind}
 use Rattle.flame_spec.specs.Below.{all_below, is_in}
 use Rattle.flame_spec.proofs.FirstBelow.{is_in-all_below}
 use Rattle.flame_graph.specs.Marks.{is_it, marked, marked_where}
 
-last_pushed : (g : ℕ) (xs : List ℕ) → slice_get (xs ++ g ∷ []) (length xs) ≡ Some g
-last_pushed g [] = refl
-last_pushed g (x ∷ xs) = last_pushed g xs
-
 is_last : (g : ℕ) (xs : List ℕ) → is_it g (slice_get (xs ++ g ∷ []) (length (xs ++ g ∷ []) - 1)) ≡ true
 is_last g xs =
     let e : length (xs ++ g ∷ []) - 1 ≡ length xs = omega (arith, length_push xs g) in
-    ap (λ k. is_it g (slice_get (xs ++ g ∷ []) k)) e ∙ ap (is_it g) (last_pushed g xs) ∙ eq-eqb g g refl
+    ap (λ k. is_it g (slice_get (xs ++ g ∷ []) k)) e ∙ ap (is_it g) (slice_get-behind xs g []) ∙ eq-eqb g g refl
 
 marked_twice : (g : ℕ) (xs : List ℕ) → marked g (marked g xs) ≡ marked g xs
 marked_twice g xs = go (is_it g (slice_get xs (length xs - 1))) refl

@@ -1,8 +1,7 @@
 -- Steps of the way back.
-use Rattle.std.proofs.Common.{◌≡◌, ℕ, suc, ◌+◌, ◌-◌, ◌<◌, ◌≤◌, List, [], ◌∷◌, ◌++◌, length, take, drop, get_or, set, refl, sym, ap, ◌∙◌, subst, arith, true, false, Bool, not, Some, None, Option, cond, ⊎_elim}
+use Rattle.std.proofs.Common.{◌≡◌, ℕ, suc, ◌+◌, ◌-◌, ◌<◌, ◌≤◌, List, [], ◌∷◌, ◌++◌, length, take, drop, get_or, set, sym, ap, ◌∙◌, subst, arith, true, false, Bool, not, Some, None, Option, cond, ⊎_elim}
 use Rattle.std.specs.Prelude.{◌==◌, ◌&&◌, ◌||◌, slice_index_or}
 use Rattle.std.specs.List.{position_or_len}
-use Rattle.std.specs.Option.{option_or}
 use Rattle.std.proofs.lemmas.Bool.{eq-eqb, ne_eqb, cases_eq, cases_lt, cases_Bool, le-ltb}
 use Rattle.std.proofs.lemmas.List.{get_or-set_same, get_or-set_other, length-set, get_or_past}
 use Rattle.flame_spec.specs.Below.{first_below, is_in}
@@ -13,15 +12,12 @@ use Rattle.flame_graph.specs.Graph.{follows, AreAscending, AreWaiting, open_coun
 use Rattle.flame_graph.specs.Backs.{pointed, ArePointing, back_from, AreSeen}
 use Rattle.flame_graph.proofs.Counting.{count_ready, taken_count}
 use Rattle.std.proofs.Math.Bool.{or-false}
+use Rattle.flame_rows.proofs.Truths.{option_or-None}
 
 -- ---- where nodes point to
 
-or_none : (o : Option ℕ) → option_or o None ≡ o
-or_none None = refl
-or_none (Some f) = refl
-
 pub pointed_none : (f : ℕ) (o : Option ℕ) → pointed f false o ≡ o
-pointed_none f o = or_none o
+pointed_none f o = option_or-None o
 
 pub pointing_more : (k n : ℕ) (before : Relation) (waiting : List ℕ) (backs more : List (Option ℕ)) → ArePointing k n before waiting backs → length more ≡ length backs → ((g : ℕ) → g < n → back_from more g ≡ pointed k (before k g && waits waiting k) (back_from backs g)) → ArePointing (k + 1) n before waiting more
 pointing_more k n before waiting backs more old len h = record {

@@ -1,10 +1,10 @@
 -- Searches in the values of an index: what they pass, and how many probes they take.
-use Rattle.std.proofs.Common.{◌≡◌, ℕ, zero, suc, ◌+◌, ◌-◌, ◌/◌, ◌^◌, ◌<◌, ◌≤◌, ◌↔◌, Bool, true, false, List, length, get_or, Some, refl, sym, ap, ◌∙◌, subst, arith, true≢false, ⊎_elim, IsTrue, filter, slice_get, slice_range, option_map}
+use Rattle.std.proofs.Common.{◌≡◌, ℕ, zero, suc, ◌+◌, ◌-◌, ◌/◌, ◌^◌, ◌<◌, ◌≤◌, ◌↔◌, Bool, true, false, List, length, get_or, Some, sym, ap, ◌∙◌, subst, arith, true≢false, ⊎_elim, IsTrue, filter, slice_get, slice_range, option_map}
 use Rattle.std.specs.Prelude.{ℤ, pos, int_le, int_lt}
 use Rattle.std.specs.Ordering.{is_gt, int_cmp, nat_cmp}
 use Rattle.std.specs.Cmp.{signed_Decides}
 use Rattle.std.proofs.Math.Nat.{pow-succ'}
-use Rattle.std.proofs.lemmas.Bool.{cases_lt}
+use Rattle.std.proofs.lemmas.Bool.{cases_lt, false_from_ne_true}
 use Rattle.std.proofs.lemmas.Int.{ints}
 use Rattle.std.proofs.lemmas.Option.{slice_get-map, slice_get-get_or}
 use Rattle.flame_rows.specs.Sorted.{IsAscending}
@@ -42,10 +42,6 @@ passed_down : (through : Bool) (wanted v w : ℤ) → is_gt (int_cmp v w) ≡ fa
 passed_down true wanted v w up h = le_down wanted v w up h
 passed_down false wanted v w up h = lt_down wanted v w up h
 
-not_true : (b : Bool) → (b ≡ true → ⊥) → b ≡ false
-not_true true never = absurd (never refl)
-not_true false never = refl
-
 -- of values in order a search passes those before a place, or leaves those from there
 module _ (values : List ℤ) (through : Bool) (wanted : ℤ) where
   abbrev pub IsPassedBelow : ℕ → Type 0
@@ -71,7 +67,7 @@ module _ (values : List ℤ) (through : Bool) (wanted : ℤ) where
     left_from stays at value here least =
         ⊎_elim
         (λ (after : middle < at).
-        not_true (is_passed through wanted value)
+        false_from_ne_true (is_passed through wanted value)
         (λ passed. true≢false (sym (passed_down through wanted found value (IsAscending-at int_cmp values middle at found value after up there here) passed) ∙ stays)))
         (λ (before : at ≤ middle).
         let same : at ≡ middle = omega arith in
@@ -148,7 +144,7 @@ range_values values wanted low high one two at number there =
     let lower = one at number there in (
       λ inside.
           between number wanted
-          (not_true (int_lt number wanted) (λ h. let less : at < low = lower.1 h in absurd (omega (arith, less, inside.0))))
+          (false_from_ne_true (int_lt number wanted) (λ h. let less : at < low = lower.1 h in absurd (omega (arith, less, inside.0))))
           (upper.0 inside.1),
       λ same. (
         ⊎_elim
@@ -171,7 +167,7 @@ rows_by_values index rows wanted low high stands order within range =
 
     before : (at : ℕ) (entry : Entry) → slice_get index.entries at ≡ Some entry → at < low → is_at wanted entry ≡ false
     before at entry there less =
-        not_true (is_at wanted entry) (λ h.
+        false_from_ne_true (is_at wanted entry) (λ h.
         let inside = (range at entry.value (valued at entry there)).1 ((signed_Decides entry.value wanted).0 h) in
         absurd (omega (arith, less, inside.0)))
 
@@ -181,6 +177,6 @@ rows_by_values index rows wanted low high stands order within range =
 
     after : (at : ℕ) (entry : Entry) → slice_get index.entries at ≡ Some entry → high ≤ at → is_at wanted entry ≡ false
     after at entry there least =
-        not_true (is_at wanted entry) (λ h.
+        false_from_ne_true (is_at wanted entry) (λ h.
         let inside = (range at entry.value (valued at entry there)).1 ((signed_Decides entry.value wanted).0 h) in
         absurd (omega (arith, least, inside.1)))

@@ -4,6 +4,7 @@ use Rattle.std.specs.Prelude.{ℤ, pos, ◌+ℤ◌, ◌-ℤ◌, ◌≤ℤ◌, If
 use Rattle.std.specs.Ordering.{int_cmp, is_gt}
 use Rattle.std.proofs.lemmas.Bool.{cases_lt}
 use Rattle.std.proofs.lemmas.Int.{ints}
+use Rattle.std.proofs.lemmas.Option.{slice_get_within}
 use Rattle.flame_rows.specs.Sorted.{IsAscending}
 use Rattle.flame_index.specs.IndexBodies.{IsStartOf, IsBoundOf, AreStartsOf, IsLessBelow, LieBetween, IsTableOf}
 use Rattle.flame_index.proofs.SortedParts.{IsAscending-at}
@@ -35,14 +36,9 @@ module _ (wanted : ℤ) (values : List ℤ) where
   start_here up at value within below there stays =
       start_by at (omega (arith, within)) below (left_from values false wanted up at value there stays)
 
-past_end : {X : Type 0} (xs : List X) (at : ℕ) (x : X) → slice_get xs at ≡ Some x → at < length xs
-past_end [] at x e = absurd (cc)
-past_end (y ∷ xs) zero x e = omega arith
-past_end (y ∷ xs) (suc at) x e = let less : at < length xs = past_end xs at x e in omega (arith, less)
-
 pub start_at_end : (wanted : ℤ) (values : List ℤ) (place : ℕ) → place ≤ length values → length values ≤ place → IsLessBelow wanted values place → IsStartOf wanted values place
 start_at_end wanted values place within all below =
-    start_by wanted values place within below (λ at value there least. let less : at < length values = past_end values at value there in absurd (omega (arith, less, least, all)))
+    start_by wanted values place within below (λ at value there least. let less : at < length values = slice_get_within values at value there in absurd (omega (arith, less, least, all)))
 
 -- ---- the next number
 
@@ -101,11 +97,6 @@ not_less wanted value h = grind (arith, ints)
 pub is_less : (wanted value : ℤ) → int_le wanted value ≡ false → int_lt value wanted ≡ true
 is_less wanted value h = grind (arith, ints)
 
-pub length_push : {X : Type 0} (xs : List X) (x : X) → length (xs ++ x ∷ []) ≡ length xs + 1
-length_push [] x = refl
-length_push (y ∷ xs) x =
-    let along : suc (length xs + 1) ≡ suc (length xs) + 1 = omega arith in ap suc (length_push xs x) ∙ along
-
 -- ---- the whole table
 
 le_of_order : (v w : ℤ) → is_gt (int_cmp v w) ≡ false → int_le v w ≡ true
@@ -118,7 +109,7 @@ le_same v w h = grind (arith, ints)
 pub lie_between : (values : List ℤ) (first last : ℤ) → IsAscending int_cmp values → slice_get values 0 ≡ Some first
     → slice_get values (length values - 1) ≡ Some last → LieBetween first last values
 lie_between values first last up one two at value there =
-    let inside : at < length values = past_end values at value there in (
+    let inside : at < length values = slice_get_within values at value there in (
       ⊎_elim
           (λ (less : 0 < at). le_of_order first value (IsAscending-at int_cmp values 0 at first value less up one there))
           (λ (least : at ≤ 0).
@@ -182,7 +173,7 @@ pub start_near : (least wanted : ℤ) (counts : List ℕ) (values : List ℤ) �
     → IsStartOf wanted values count
 start_near least wanted counts values table place count there low high =
     let here : IsStartOf (least +ℤ pos place) values count = table.starts place count there in
-    let inside : place < length counts = past_end counts place count there in
+    let inside : place < length counts = slice_get_within counts place count there in
     let bounds : LieBetween least ((least +ℤ pos (length counts)) -ℤ pos 2) values = table.ends (omega (arith, inside)) in
     record {
       within = here.within;

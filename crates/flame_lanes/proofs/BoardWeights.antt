@@ -4,8 +4,9 @@ use Rattle.std.specs.Prelude.{ℤ, slice_set, slice_index_or, ◌==◌, if◌the
 use Rattle.std.specs.Global.{Global}
 use Rattle.std.specs.List.{AllZip, range_with_len}
 use Rattle.std.proofs.lemmas.Bool.{cases_eq, eq-eqb, ne_eqb}
-use Rattle.std.proofs.lemmas.List.{length-map, length-take-le, take_more}
+use Rattle.std.proofs.lemmas.List.{length-map, length-take-le, take_more, nil_from_length}
 use Rattle.std.proofs.lemmas.List.FromFn.{length-range_with_len}
+use Rattle.std.proofs.lemmas.Slice.Zip.{AllZip-long}
 use Rattle.flame_rows.specs.Bags.{ascending, merge, merge_all, weigh}
 use Rattle.flame_rows.proofs.BagLaws.{merge_adds_weights, weigh-ascending}
 use Rattle.flame_rows.proofs.Lists.{AllZip-append}
@@ -20,7 +21,6 @@ use Rattle.flame_board.specs.SeenLanes.{bags_of, weigh_lanes}
 use Rattle.flame_board.proofs.Weights.{weigh-merge_all}
 use Rattle.flame_field.specs.declared.boards.Board as field
 use Rattle.flame_field.specs.KeptBoards.{board_bag}
-use Rattle.flame_field.proofs.Gathered.{none_left}
 use Rattle.flame_lanes.specs.LayerBoards.{AreNewBoards, TakeFrom, weigh_before, weigh_board, weigh_columns}
 
 abbrev Rows : Type 0
@@ -235,12 +235,6 @@ own-first (b ∷ boards) bs board (c ∷ columns) cs column own one two =
       (subst (λ xs. TakeFrom xs cs) rest (subst (λ xs. TakeFrom boards xs) left own.1)),
     )
 
-pub length-zipped : {X Y : Type 0} (R : X → Y → Type 0) (xs : List X) (ys : List Y) → AllZip R xs ys → length ys ≡ length xs
-length-zipped R [] [] all = refl
-length-zipped R [] (y ∷ ys) all = absurd all
-length-zipped R (x ∷ xs) [] all = absurd all
-length-zipped R (x ∷ xs) (y ∷ ys) all = omega (arith, length-zipped R xs ys all.1)
-
 -- one board more, with its lanes
 pub new-boards-push : (layer : Layer) (message : ℕ) (boards : List Board) (columns : List (Vec Lane Global))
     (board : Board) (column : Vec Lane Global)
@@ -252,7 +246,7 @@ new-boards-push layer message boards columns board column before lanes own = rec
   own = AllZip-append _ boards columns (board ∷ []) (column ∷ []) before.own (own, tt);
   count =
       AllZip-append _ boards columns (board ∷ []) (column ∷ []) before.count
-      (length-zipped (IsLaneFor layer message) (range_with_len 0 layer.lanes) column.items lanes ∙ length-range_with_len 0 layer.lanes, tt);
+      (AllZip-long (IsLaneFor layer message) (range_with_len 0 layer.lanes) column.items lanes ∙ length-range_with_len 0 layer.lanes, tt);
   fresh =
       AllZip-append _ boards columns (board ∷ []) (column ∷ []) before.fresh
       ((λ weight. fresh-lanes weight layer message (range_with_len 0 layer.lanes) column.items lanes), tt);
@@ -268,11 +262,11 @@ pub all-over : {X Y Z W : Type 0} {A : X → Type 0} {B : Y → Type 0} {C : Z �
     → ((x : X) × ((length messages ≡ 0) × A x))
     ⊎ ((w : W) × (((y : Y) × ((boards_left ≡ 0) × B y)) ⊎ ((z : Z) × ((columns_left ≡ 0) × C z))))
     → messages ≡ []
-all-over messages boards columns boards_left columns_left one two long own (inl over) = none_left messages over.1.0
+all-over messages boards columns boards_left columns_left one two long own (inl over) = nil_from_length messages over.1.0
 all-over messages boards columns boards_left columns_left one two long own (inr (w, inl over)) =
-    none_left messages (omega (arith, over.1.0))
+    nil_from_length messages (omega (arith, over.1.0))
 all-over messages boards columns boards_left columns_left one two long own (inr (w, inr over)) =
-    none_left messages (omega (arith, over.1.0, length-zipped _ boards columns own))
+    nil_from_length messages (omega (arith, over.1.0, AllZip-long _ boards columns own))
 
 pub frozen-over : (messages : List ℕ) (boards : List Board) (columns : List (Vec Lane Global)) (message : ℕ) (weight : List ℤ → ℕ)
     (fields first : List field.Board) (more : ℕ)

@@ -1,8 +1,9 @@
 -- Lanes by board and by worker.
-use Rattle.std.proofs.Common.{◌≡◌, ℕ, zero, suc, ◌+◌, ◌<◌, List, [], ◌∷◌, ◌++◌, Vec, map, length, set, get_or, refl, sym, ap, ◌∙◌, subst, arith, append-nil, append_assoc, length-append}
+use Rattle.std.proofs.Common.{◌≡◌, ℕ, zero, suc, ◌+◌, ◌<◌, List, [], ◌∷◌, ◌++◌, Vec, map, length, set, get_or, sym, ap, ◌∙◌, subst, arith, append-nil, append_assoc, length-append}
 use Rattle.std.specs.Global.{Global}
 use Rattle.std.specs.List.{All}
 use Rattle.std.proofs.lemmas.List.Elements.{All-cons, All-head, All-tail}
+use Rattle.std.proofs.lemmas.List.{nil_from_length}
 use Rattle.flame_board.specs.declared.lanes.Lane.{Lane}
 use Rattle.flame_lanes.specs.LaneColumns.{AreColumns, AreLongerBy, AreNone}
 
@@ -128,10 +129,6 @@ pub none-more : (columns : Columns) (column : Vec Lane Global) → AreNone colum
 none-more [] column all none = (none, tt)
 none-more (own ∷ columns) column all none = (all.0, none-more columns column all.1 none)
 
-pub no_lanes : (lanes : List Lane) → length lanes ≡ 0 → lanes ≡ []
-no_lanes [] none = refl
-no_lanes (lane ∷ lanes) none = absurd (omega (arith, none))
-
 -- no lane is left
 pub none-left : (columns : Columns) (n all : ℕ)
     → All (λ (column : Vec Lane Global). length column.items + n ≡ all) columns → n ≡ all → AreNone columns
@@ -139,7 +136,7 @@ none-left [] n all long over = tt
 none-left (column ∷ columns) n all long over =
     let P : Vec Lane Global → Type 0 = λ v. length v.items + n ≡ all in
     let here : length column.items + n ≡ all = All-head P column columns long in
-    (no_lanes column.items (omega (arith, here, over)), none-left columns n all (All-tail P column columns long) over)
+    (nil_from_length column.items (omega (arith, here, over)), none-left columns n all (All-tail P column columns long) over)
 
 -- ---- rows
 

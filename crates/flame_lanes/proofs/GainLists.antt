@@ -1,11 +1,11 @@
 -- Lists of gains, place by place.
-use Rattle.std.proofs.Common.{◌≡◌, ℕ, zero, suc, ◌+◌, ◌<◌, ◌≤◌, Bool, true, false, List, [], ◌∷◌, ◌++◌, map, length, take, drop, get_or, Some, ◌⊎◌, inl, inr, refl, sym, ap, ◌∙◌, subst, arith, append-nil, take_all}
+use Rattle.std.proofs.Common.{◌≡◌, ℕ, zero, suc, ◌+◌, ◌<◌, ◌≤◌, Bool, true, false, List, [], ◌∷◌, ◌++◌, map, length, take, drop, get_or, Some, inl, inr, refl, sym, ap, ◌∙◌, subst, arith, append-nil, take_all}
 use Rattle.std.specs.Prelude.{ℤ, slice_get, slice_set, ◌==◌, if◌then◌else◌}
 use Rattle.std.specs.List.{All}
 use Rattle.std.proofs.lemmas.List.{length-map}
 use Rattle.std.proofs.lemmas.Bool.{eq-eqb, ne_eqb}
-use Rattle.std.proofs.lemmas.Option.{slice_get_within, get_or_from_slice_get}
-use Rattle.flame_rows.proofs.Lists.{flat_map-next}
+use Rattle.std.proofs.lemmas.Option.{slice_get_within, get_or_from_slice_get, slice_get_read}
+use Rattle.flame_rows.proofs.Lists.{flat_map-next, slice_get-slice_set_cases}
 use Rattle.flame_spec.specs.declared.outcomes.Outcome.{Outcome}
 use Rattle.flame_leaving.specs.WholeLaws.{SurvivorsMerge, BirthsMerge}
 use Rattle.flame_world.specs.Fields.{Field}
@@ -28,24 +28,6 @@ each-push P [] x all one zero y at = let same : x ≡ y = cc in subst P same one
 each-push P [] x all one (suc k) y at = absurd (cc)
 each-push P (z ∷ xs) x all one zero y at = all zero y at
 each-push P (z ∷ xs) x all one (suc k) y at = each-push P xs x (λ j w there. all (suc j) w there) one k y at
-
--- an element of a list in which one was written
-written-there : {X : Type 0} (xs : List X) (place k : ℕ) (new x : X) → slice_get (slice_set xs place new) k ≡ Some x
-    → ((place ≡ k) × (new ≡ x)) ⊎ ((place ≡ k → ⊥) × (slice_get xs k ≡ Some x))
-written-there [] place k new x at = absurd (cc)
-written-there (y ∷ xs) zero zero new x at = inl (refl, cc)
-written-there (y ∷ xs) zero (suc k) new x at = inr ((λ same. omega (arith, same)), at)
-written-there (y ∷ xs) (suc place) zero new x at = inr ((λ same. omega (arith, same)), at)
-written-there (y ∷ xs) (suc place) (suc k) new x at =
-    elim (written-there xs place k new x at) [
-      | inl same ↦ inl (ap suc same.0, same.1)
-      | inr there ↦ inr ((λ same. there.0 (omega (arith, same))), there.1)
-    ]
-
-pub there : {X : Type 0} (xs : List X) (k : ℕ) (x : X) → k < length xs → x ≡ get_or xs k x → slice_get xs k ≡ Some x
-there [] k x within at = absurd (omega (arith, within))
-there (y ∷ xs) zero x within at = ap Some (sym at)
-there (y ∷ xs) (suc k) x within at = there xs k x (omega (arith, within)) at
 
 -- the first of those of a mapped list that are left
 mapped-first : {X Y : Type 0} (f : X → Y) (xs : List X) (k : ℕ) (y : Y) (rest : List Y)
@@ -127,7 +109,7 @@ gained-next survive bear lefts gains done left rest old new before first within 
       let goal = λ (f : ℕ) (agents : List (List ℤ)) (g : Gain).
       IsGain round.iteration f (outcome_in round f read) agents g in
       subst (λ agents. goal function agents gain) (sym more)
-      (elim (written-there gains left.place place new gain at) [
+      (elim (slice_get-slice_set_cases gains left.place place new gain at) [
         | inl same ↦
             let there_too : slice_get numbers place ≡ Some task.function =
             ap (slice_get numbers) (sym same.0 ∙ placed)
@@ -136,8 +118,7 @@ gained-next survive bear lefts gains done left rest old new before first within 
             let test : (task.place == place) ≡ true = eq-eqb task.place place (sym placed ∙ same.0) in
             let now = step round.iteration task.function (outcome_in round task.function read) so_far task.agents
             (before.each round read numbers tasks place task.function old are of there_too
-            (there gains place old (subst (λ k. k < length gains) same.0 within)
-            (subst (λ k. old ≡ get_or gains k old) same.0 is)))
+            (slice_get_read gains (length gains) place old refl (subst (λ k. k < length gains) same.0 within) (subst (λ k. old ≡ get_or gains k old) same.0 is)))
             (subst (λ (l : Left). IsRestOf round.iteration task.function (outcome_in round task.function read) task.agents l.rest)
             found.2 (rest-is survive bear round read task)) in
             subst (λ g. goal function (so_far ++ own task) g) same.1

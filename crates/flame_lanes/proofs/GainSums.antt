@@ -1,17 +1,16 @@
 -- What some agents and further ones leave besides messages.
-use Rattle.std.proofs.Common.{◌≡◌, ℕ, List, [], ◌++◌, map, refl, sym, ap, ◌∙◌}
-use Rattle.std.specs.Prelude.{ℤ, ◌==◌}
-use Rattle.std.specs.List.{filter, filter_map}
-use Rattle.std.proofs.lemmas.List.{map-append}
-use Rattle.std.proofs.lemmas.List.Elements.{filter-append}
+use Rattle.std.proofs.Common.{◌≡◌, ℕ, List, [], ◌++◌, refl, sym, ap, ◌∙◌}
+use Rattle.std.specs.Prelude.{ℤ}
+use Rattle.std.specs.List.{filter_map}
 use Rattle.flame_rows.specs.Bags.{ascending, merge}
-use Rattle.flame_rows.proofs.Merging.{ascending-append, merge-ascending}
+use Rattle.flame_rows.proofs.Merging.{ascending-append, ascending-append_merge}
 use Rattle.flame_spec.specs.declared.outcomes.Born.{Born}
 use Rattle.flame_spec.specs.declared.outcomes.Outcome.{Outcome}
 use Rattle.flame_world.specs.AgentRuns.{kept, born_from, births_of}
 use Rattle.flame_world.specs.declared.pieces.Rest.{Rest}
 use Rattle.flame_world.specs.Fields.{Field}
 use Rattle.flame_world.specs.Iterations.{Round, outcome_in}
+use Rattle.flame_world.proofs.JoinedBags.{births_of-append}
 use Rattle.flame_leaving.specs.WholeLaws.{SurvivorsMerge, BirthsMerge, FaultIsTheLeast, least_of}
 use Rattle.flame_field.proofs.Gathered.{merge-none}
 use Rattle.flame_lanes.specs.declared.gains.Gain.{Gain}
@@ -21,17 +20,6 @@ use Rattle.flame_lanes.specs.TaskMeanings.{rest_of}
 
 abbrev Rows : Type 0
 Rows = List (List ℤ)
-
--- a list behind another has the bags of both
-ascending-both : (ones twos : Rows) → ascending (ones ++ twos) ≡ merge (ascending ones) (ascending twos)
-ascending-both ones twos = ascending-append ones twos ∙ sym (merge-ascending (ascending ones) twos)
-
-births-append : (births more : List Born) (agent : ℕ)
-    → births_of (births ++ more) agent ≡ births_of births agent ++ births_of more agent
-births-append births more agent =
-    ap (map (λ (b : Born). b.row)) (filter-append (λ (b : Born). b.agent == agent) births more)
-    ∙ map-append (λ (b : Born). b.row) (filter (λ (b : Born). b.agent == agent) births)
-    (filter (λ (b : Born). b.agent == agent) more)
 
 module _ (survive : SurvivorsMerge) (bear : BirthsMerge) where
   pub gain-more : FaultIsTheLeast
@@ -50,8 +38,8 @@ module _ (survive : SurvivorsMerge) (bear : BirthsMerge) where
         ∙ sym (survive run agents more (agents ++ more) refl);
     births_are = λ agent.
         ap (λ (born : List Born). ascending (births_of born agent)) born_more
-        ∙ ap ascending (births-append old.born.items rest.born agent)
-        ∙ ascending-both (births_of old.born.items agent) (births_of rest.born agent)
+        ∙ ap ascending (births_of-append agent old.born.items rest.born)
+        ∙ ascending-append_merge (births_of old.born.items agent) (births_of rest.born agent)
         ∙ (λ i. merge (before.births_are agent i) (further.births_are agent i))
         ∙ sym (bear run agent agents more (agents ++ more) refl);
     fault_is =

@@ -1,28 +1,14 @@
 -- Messages that are listed, each once.
-use Rattle.std.proofs.Common.{◌≡◌, ℕ, zero, suc, ◌<◌, Bool, true, false, cond, ltb, get_or, ◌||◌, ◌⊎◌, inl, inr, List, [], ◌∷◌, ◌++◌, length, set, Option, Some, None, refl, sym, ap, ◌∙◌, arith, ⊎_elim}
+use Rattle.std.proofs.Common.{◌≡◌, ℕ, zero, suc, ◌<◌, true, false, cond, ltb, ◌||◌, ◌⊎◌, inl, inr, List, [], ◌∷◌, ◌++◌, length, set, Option, Some, None, refl, sym, ap, ◌∙◌, ⊎_elim}
 use Rattle.std.specs.Prelude.{◌==◌, slice_get, IfSome}
 use Rattle.std.specs.Option.{is_some}
-use Rattle.std.proofs.lemmas.Bool.{cases_eq, eq-eqb, lt-ltb, ne_eqb, true≢false}
-use Rattle.std.proofs.lemmas.Option.{same_Some}
-use Rattle.flame_rows.proofs.Lists.{list_any-at}
+use Rattle.std.proofs.lemmas.Bool.{cases_eq, eq-eqb, lt-ltb, ne_eqb, true≢false, false_from_ne_true}
+use Rattle.std.proofs.lemmas.Option.{same_Some, slice_get_within}
+use Rattle.flame_rows.proofs.Lists.{list_any-at, slice_get-set_same, slice_get-set_other}
 use Rattle.flame_spec.specs.Below.{is_in}
 use Rattle.flame_lanes.specs.ListedMessages.{AreOnce, HavePlaces, with_message}
 
 -- ---- what stands at a place
-
-pub got-set : {X : Type 0} (xs : List X) (place : ℕ) (x : X) → place < length xs → slice_get (set xs place x) place ≡ Some x
-got-set [] place x less = absurd (omega (arith, less))
-got-set (z ∷ xs) zero x less = refl
-got-set (z ∷ xs) (suc place) x less = got-set xs place x (omega (arith, less))
-
-pub got-other : {X : Type 0} (xs : List X) (place other : ℕ) (x : X)
-    → (place ≡ other → ⊥) → slice_get (set xs place x) other ≡ slice_get xs other
-got-other [] place other x apart = refl
-got-other (z ∷ xs) zero zero x apart = absurd (apart refl)
-got-other (z ∷ xs) zero (suc other) x apart = refl
-got-other (z ∷ xs) (suc place) zero x apart = refl
-got-other (z ∷ xs) (suc place) (suc other) x apart =
-    got-other xs place other x (λ same. apart (ap suc same))
 
 -- what is at a place in the longer list was there, or is the last
 got-either : (xs : List ℕ) (x place y : ℕ) → slice_get (xs ++ x ∷ []) place ≡ Some y
@@ -33,21 +19,10 @@ got-either (z ∷ xs) x zero y at = inl at
 got-either (z ∷ xs) x (suc place) y at =
     ⊎_elim (λ there. inl there) (λ last. inr (ap suc last.0, last.1)) (got-either xs x place y at)
 
-pub got-there : {X : Type 0} (xs : List X) (place : ℕ) (x : X)
-    → place < length xs → x ≡ get_or xs place x → slice_get xs place ≡ Some x
-got-there [] place x less at = absurd (omega (arith, less))
-got-there (y ∷ xs) zero x less at = ap Some (sym at)
-got-there (y ∷ xs) (suc place) x less at = got-there xs place x (omega (arith, less)) at
-
-got-below : {X : Type 0} (xs : List X) (place : ℕ) (x : X) → slice_get xs place ≡ Some x → place < length xs
-got-below [] place x at = absurd (cc)
-got-below (y ∷ xs) zero x at = omega arith
-got-below (y ∷ xs) (suc place) x at = omega (arith, got-below xs place x at)
-
 -- nothing stands past the end
 pub none-beyond : {X : Type 0} (xs : List X) (place : ℕ) (x : X)
     → false ≡ ltb place (length xs) → slice_get xs place ≡ Some x → ⊥
-none-beyond xs place x over at = true≢false (sym (lt-ltb place (length xs) (got-below xs place x at)) ∙ sym over)
+none-beyond xs place x over at = true≢false (sym (lt-ltb place (length xs) (slice_get_within xs place x at)) ∙ sym over)
 
 -- ---- what is in the list
 
@@ -70,15 +45,11 @@ place-is_in (own ∷ listed) message there =
     later : (place : ℕ) × (slice_get listed place ≡ Some message) → (place : ℕ) × (slice_get (own ∷ listed) place ≡ Some message)
     later found = (suc found.0, found.1)
 
-not-true : (b : Bool) → (b ≡ true → ⊥) → b ≡ false
-not-true true never = absurd (never refl)
-not-true false _ = refl
-
 -- where each has its place, one that has none is not listed
 pub none-listed : (listed places : List ℕ) (message : ℕ) → HavePlaces listed places
     → ((place : ℕ) → slice_get places message ≡ Some place → slice_get listed place ≡ Some message → ⊥)
     → is_in message listed ≡ false
-none-listed listed places message have none = not-true (is_in message listed) (λ there.
+none-listed listed places message have none = false_from_ne_true (is_in message listed) (λ there.
     let found = place-is_in listed message there in
     none found.0 (have found.0 message found.1) found.1)
 
@@ -97,12 +68,12 @@ pub have-more : (listed places : List ℕ) (message place : ℕ) → HavePlaces 
 have-more listed places message place have new last room = λ other one at.
     ⊎_elim
     (λ (there : slice_get listed other ≡ Some one).
-    got-other places message one place
+    slice_get-set_other places message one place
     (λ same. true≢false (sym (is_in-place listed other message (there ∙ ap Some (sym same))) ∙ new))
     ∙ have other one there)
     (λ (at_end : (other ≡ length listed) × (one ≡ message)).
     ap (slice_get (set places message place)) at_end.1
-    ∙ got-set places message place room
+    ∙ slice_get-set_same places message place room
     ∙ ap Some (last ∙ sym at_end.0))
     (got-either listed message other one at)
 

@@ -5,6 +5,7 @@ use Rattle.std.specs.List.{All}
 use Rattle.std.proofs.lemmas.List.Elements.{All-head, All-tail}
 use Rattle.flame_rows.specs.Bags.{weigh}
 use Rattle.flame_rows.proofs.BagLaws.{equal_by_weighings, merge_adds_weights}
+use Rattle.flame_rows.proofs.Lists.{slice_get-some}
 use Rattle.flame_spec.specs.Before.{function_count}
 use Rattle.flame_spec.specs.Below.{is_in}
 use Rattle.flame_spec.specs.Functions.{Place, functions}
@@ -12,8 +13,8 @@ use Rattle.flame_meaning.specs.RangeLaws.{Each}
 use Rattle.flame_world.specs.AgentRuns.{messages_of, sent_from}
 use Rattle.flame_world.specs.Fields.{Field, joined_from}
 use Rattle.flame_world.specs.Iterations.{Round, outcome_in}
+use Rattle.flame_world.proofs.Tallies.{length-joined_from}
 use Rattle.flame_events.specs.LegalEvents.{outputs_of}
-use Rattle.flame_events.proofs.Spots.{get_there}
 use Rattle.flame_events.proofs.Weights.{Rows, Weight}
 use Rattle.flame_orders.proofs.SortedFields.{Up, joined_sorted}
 use Rattle.flame_layers.specs.LayerFields.{all_takers, brought_at, brought_by, brought_by_all, left_at, left_by_all, left_by_takers}
@@ -32,10 +33,6 @@ bags_equal (x ∷ xs) (y ∷ ys) up above long same =
     let here : x ≡ y = equal_by_weighings x y up.0 above.0 (λ w. same 0 w (omega arith)) in
     let rest = bags_equal xs ys up.1 above.1 (omega (arith, long)) (λ m w less. same (suc m) w (omega (arith, less))) in
     (λ i. here i ∷ rest i)
-
-pub joined-length : (rows : ℕ → Rows) (i : ℕ) (bags : List Rows) → length (joined_from i rows bags) ≡ length bags
-joined-length rows i [] = refl
-joined-length rows i (bag ∷ bags) = omega (arith, joined-length rows (i + 1) bags)
 
 -- a bag to which rows are added weighs as much more
 joined-weighs : (w : Weight) (rows : ℕ → Rows) (i m : ℕ) (bags : List Rows) → m < length bags
@@ -99,7 +96,7 @@ module _ (round : Round) (read : Field) where
       → length (brought_at place round read f agents field).boards ≡ length field.boards
   at-length None f agents field = refl
   at-length (Some place) f agents field =
-      joined-length (messages_of (sent_from (outcome_in round f read) agents)) 0 field.boards
+      length-joined_from (messages_of (sent_from (outcome_in round f read) agents)) 0 field.boards
 
   pub brought-length : (fs : List ℕ) (takers : List Rows) (field : Field)
       → length (brought_by_all round read fs takers field).boards ≡ length field.boards
@@ -151,7 +148,7 @@ module _ (round : Round) (read : Field) where
       let P : ℕ → Type 0 = λ g. g < function_count round.source.model in
       let model = round.source.model in
       let known : f < function_count model = All-head P f fs there in
-      let place = get_there (functions model) f known in
+      let place = slice_get-some (functions model) f known in
       let next : Field = brought_by round read f agents field in
       let here : weigh w (slice_index_or next.boards m []) ≡ weigh w (slice_index_or field.boards m []) + weigh_out round read m w f agents =
       ap (λ o. weigh w (slice_index_or (brought_at o round read f agents field).boards m [])) place.1

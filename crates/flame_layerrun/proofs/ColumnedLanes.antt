@@ -22,6 +22,7 @@ use Rattle.flame_lanes.specs.declared.tasks.Task.{Task}
 use Rattle.flame_lanes.specs.LaneColumns.{AreColumns, AreLongerBy, AreNone}
 use Rattle.flame_lanes.specs.LayerBoards.{TakeFrom, weigh_columns}
 use Rattle.flame_layerrun.specs.LayerWork.{AreDone, AreLonger, AreOwn, weigh_all_sent}
+use Rattle.flame_layerrun.proofs.LongerLanes.{longer-length}
 
 abbrev Column : Type 0
 Column = Vec Lane Global
@@ -31,13 +32,13 @@ Columns = List Column
 
 -- ---- one row more
 
-longer-length : (columns longers : Columns) (row : List Lane) → AreLongerBy columns row longers → length columns ≡ length longers
-longer-length [] [] [] by_row = refl
-longer-length [] (longer ∷ longers) [] by_row = absurd by_row
-longer-length [] longers (lane ∷ row) by_row = absurd by_row
-longer-length (column ∷ columns) longers [] by_row = absurd by_row
-longer-length (column ∷ columns) [] (lane ∷ row) by_row = absurd by_row
-longer-length (column ∷ columns) (longer ∷ longers) (lane ∷ row) by_row = omega (arith, longer-length columns longers row by_row.1)
+longers-length : (columns longers : Columns) (row : List Lane) → AreLongerBy columns row longers → length columns ≡ length longers
+longers-length [] [] [] by_row = refl
+longers-length [] (longer ∷ longers) [] by_row = absurd by_row
+longers-length [] longers (lane ∷ row) by_row = absurd by_row
+longers-length (column ∷ columns) longers [] by_row = absurd by_row
+longers-length (column ∷ columns) [] (lane ∷ row) by_row = absurd by_row
+longers-length (column ∷ columns) (longer ∷ longers) (lane ∷ row) by_row = omega (arith, longers-length columns longers row by_row.1)
 
 -- ---- what is filled
 
@@ -98,14 +99,6 @@ filled-more more own [] [] [] [] (next ∷ others) longers longest filled rows o
 filled-more more own [] [] [] [] [] (longer ∷ longers) longest filled rows old new = absurd old
 filled-more more own [] [] [] [] [] [] (last ∷ longest) filled rows old new = absurd new
 
-longer-row : (own : ℕ → Weight → ℕ) (messages : List ℕ) (row others : List Lane) → AreLonger own messages row others → length others ≡ length messages
-longer-row own [] [] [] rows = refl
-longer-row own (message ∷ messages) (lane ∷ row) (next ∷ others) rows = omega (arith, longer-row own messages row others rows.2)
-longer-row own [] [] (next ∷ others) rows = absurd rows
-longer-row own [] (lane ∷ row) others rows = absurd rows
-longer-row own (message ∷ messages) [] others rows = absurd rows
-longer-row own (message ∷ messages) (lane ∷ row) [] rows = absurd rows
-
 -- ---- jobs that are done
 
 module _ (round : Round) (read : Field) where
@@ -126,7 +119,7 @@ module _ (round : Round) (read : Field) where
   jobs-filled messages (job ∷ jobs) (done ∷ dones) olds news are old new many count =
       filled-more (weigh_jobs jobs) (weigh_all_sent round read job.tasks) messages old.0 new.0 job.lanes done.lanes olds news
       (jobs-filled messages jobs dones old.0 new.0 are.1 old.1 new.1
-      (longer-length old.0 olds job.lanes old.2 ∙ many) (longer-length new.0 news done.lanes new.2 ∙ count))
+      (longers-length old.0 olds job.lanes old.2 ∙ many) (longers-length new.0 news done.lanes new.2 ∙ count))
       are.0.lanes old.2 new.2
 
   pub dones-wide : (messages : List ℕ) (jobs : List Job) (dones : List Done) → AreDone round read messages jobs dones
@@ -136,7 +129,7 @@ module _ (round : Round) (read : Field) where
   dones-wide messages (job ∷ jobs) [] are = absurd are
   dones-wide messages (job ∷ jobs) (done ∷ dones) are =
       All-cons (λ (done : Done). length done.lanes ≡ length messages) done dones
-      (longer-row (weigh_all_sent round read job.tasks) messages job.lanes done.lanes are.0.lanes)
+      ((sym (longer-length (weigh_all_sent round read job.tasks) messages job.lanes done.lanes are.0.lanes)))
       (dones-wide messages jobs dones are.1)
 
   all_sent-append : (one other : List Task) (message : ℕ) (weight : Weight)

@@ -7,6 +7,7 @@ use Rattle.std.proofs.lemmas.List.{map-append}
 use Rattle.std.proofs.lemmas.List.Elements.{All-append, All-push}
 use Rattle.flame_rows.specs.Bags.{ascending}
 use Rattle.flame_rows.specs.Cuts.{cut}
+use Rattle.flame_rows.proofs.Lists.{slice_get-behind}
 use Rattle.flame_spec.specs.Functions.{Place}
 use Rattle.flame_meaning.specs.Outcomes.{place_of}
 use Rattle.flame_index.specs.FrozenBoards.{shared_messages}
@@ -21,7 +22,7 @@ use Rattle.flame_lanes.specs.declared.tasks.Task.{Task}
 use Rattle.flame_lanes.specs.LaneTasks.{agents_at, tasks_of}
 use Rattle.flame_layerrun.specs.declared.openings.Reading.{Reading}
 use Rattle.flame_layerrun.specs.LayerTasks.{AreRead, FitsTask}
-use Rattle.flame_layerrun.proofs.OpenedTasks.{added-fit, added-other, added-own, agents-append, fit-still, get-last}
+use Rattle.flame_layerrun.proofs.OpenedTasks.{added-fit, added-other, added-own, agents-append, fit-still}
 
 -- of these functions those in front have begun, which read these boards and have these tasks, and the rest has not
 pub record HaveBegun
@@ -115,7 +116,7 @@ module _ (round : run.Round) where
         left = ap (left_by_all meant rest) left ∙ old.left;
         fit =
             All-append (FitsTask round (readings ++ reading ∷ [])) tasks added (fit-still round readings reading tasks old.fit)
-            (added-fit p function pieces takers some round (readings ++ reading ∷ []) reading (get-last readings reading) named run);
+            (added-fit p function pieces takers some round (readings ++ reading ∷ []) reading (slice_get-behind readings reading []) named run);
       }
 
   -- all have begun

@@ -102,10 +102,6 @@ get-front [] k x y at = absurd cc
 get-front (z ∷ xs) zero x y at = at
 get-front (z ∷ xs) (suc k) x y at = get-front xs k x y at
 
-pub get-last : {X : Type 0} (xs : List X) (y : X) → slice_get (xs ++ y ∷ []) (length xs) ≡ Some y
-get-last [] y = refl
-get-last (x ∷ xs) y = get-last xs y
-
 pub fit-still : (round : run.Round) (readings : List Reading) (reading : Reading) (tasks : List Task)
     → All (FitsTask round readings) tasks → All (FitsTask round (readings ++ reading ∷ [])) tasks
 fit-still round readings reading tasks all =

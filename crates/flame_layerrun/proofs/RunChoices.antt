@@ -1,23 +1,14 @@
 -- Choices of runs of agents make up the choices of all.
-use Rattle.std.proofs.Common.{◌≡◌, ℕ, suc, ◌+◌, ◌*◌, ◌-◌, ◌<◌, ◌≤◌, List, [], ◌∷◌, ◌++◌, length, take, drop, map, refl, ap, subst, sym, ◌∙◌, arith, append-nil}
+use Rattle.std.proofs.Common.{◌≡◌, ℕ, suc, ◌+◌, ◌*◌, ◌-◌, ◌<◌, ◌≤◌, List, [], ◌∷◌, ◌++◌, length, take, drop, map, ap, subst, sym, ◌∙◌, arith}
 use Rattle.std.specs.Prelude.{ℤ, Result, Ok, IfOk, slice_index_or}
 use Rattle.std.specs.Fork.{slice_chunk}
 use Rattle.std.specs.List.{flat_map}
-use Rattle.std.proofs.lemmas.List.{drop-drop, get_or-map, length-drop, length-map, map-append, take-append-drop}
+use Rattle.std.proofs.lemmas.List.{drop-drop, get_or-map, length-drop, length-map, map-append, take-append-drop, nil_from_length}
 use Rattle.std.proofs.lemmas.Grind.{div_ceil_times}
 use Rattle.flame_rows.specs.declared.fails.NoMemory.{NoMemory}
 use Rattle.flame_layerrun.specs.LayerChoices.{AreRunChoices}
 
--- nothing follows
-pub flat-over : (choices : List ℕ) (rest : List (List ℕ)) → length rest ≡ 0 → choices ++ flat_map (λ run. run) rest ≡ choices
-flat-over choices [] none = append-nil choices
-flat-over choices (run ∷ rest) none = absurd (omega (arith, none))
-
 module _ (choose : List ℤ → ℕ) (size : ℕ) where
-  nothing-left : (xs : List (List ℤ)) → length xs ≤ 0 → xs ≡ []
-  nothing-left [] few = refl
-  nothing-left (x ∷ xs) few = absurd (omega (arith, few))
-
   times-none : 0 * size ≡ 0
   times-none = omega arith
 
@@ -29,7 +20,7 @@ module _ (choose : List ℤ → ℕ) (size : ℕ) where
       → slice_index_or runs n other ≡ map choose (slice_chunk agents size n))
       → length agents ≤ length runs * size
       → flat_map (λ run. run) runs ≡ map choose agents
-  run-choices agents [] each enough = ap (map choose) (sym (nothing-left agents (omega (arith, enough))))
+  run-choices agents [] each enough = ap (map choose) (sym (nil_from_length agents (omega (arith, enough))))
   run-choices agents (first ∷ runs) each enough =
       let front = take size agents in
       let back = drop size agents in

@@ -6,7 +6,7 @@ use Rattle.std.proofs.lemmas.List.{length-map}
 use Rattle.std.proofs.lemmas.List.Elements.{All-cons, All-head, All-nil, All-tail}
 use Rattle.std.proofs.lemmas.Option.{slice_get_within}
 use Rattle.flame_rows.specs.Bags.{ascending, weigh}
-use Rattle.flame_rows.proofs.BagLaws.{IsAscending-ascending, weigh-ascending}
+use Rattle.flame_rows.proofs.BagLaws.{weigh-ascending}
 use Rattle.flame_rows.proofs.Merging.{ascending-ascending, same_bag}
 use Rattle.flame_spec.specs.Accepted.{IsAccepted}
 use Rattle.flame_spec.specs.Before.{function_count}
@@ -21,10 +21,6 @@ use Rattle.flame_orders.proofs.SentOutputs.{sends_to_outputs}
 use Rattle.flame_orders.proofs.SortedFields.{Up}
 use Rattle.flame_layers.specs.LayerFields.{all_takers, brought_by_all, layer_field, left_by_all, left_by_takers}
 use Rattle.flame_layers.specs.LayerLaws.{LeavingFits}
-use Rattle.flame_field.specs.declared.boards.Board.{Board}
-use Rattle.flame_field.specs.declared.boards.Board.TheVariants as board
-use Rattle.flame_field.specs.KeptBoards.{board_bag}
-use Rattle.flame_index.specs.FrozenBoards.{messages_on, shared_messages}
 use Rattle.flame_round.specs.declared.rounds.Round as run
 use Rattle.flame_round.specs.KeptRounds.{round_of}
 use Rattle.flame_lanes.specs.declared.gains.Gain.{Gain}
@@ -55,17 +51,6 @@ all-marks R f g h k (x ∷ xs) (y ∷ ys) one other all =
     let here : R (f x) (g x) = subst (λ b. R (f x) b) (sym second) (subst (λ a. R a (k y)) (sym first) (All-head (λ z. R (h z) (k z)) y ys all)) in
     All-cons (λ z. R (f z) (g z)) x xs here
     (all-marks R f g h k xs ys (ap (drop 1) one) (ap (drop 1) other) (All-tail (λ z. R (h z) (k z)) y ys all))
-
--- ---- boards stand in order
-
-pub boards-up : (boards : List Board) → Each Up (map board_bag boards)
-boards-up [] = tt
-boards-up (one ∷ boards) = (bag one, boards-up boards)
-  where
-    bag : (one : Board) → Up (board_bag one)
-    bag (board.Gathering messages) = IsAscending-ascending messages.rows.items
-    bag (board.Frozen frozen) = IsAscending-ascending (messages_on frozen)
-    bag (board.Shared frozen) = IsAscending-ascending (shared_messages frozen)
 
 -- ---- takers leave
 

@@ -12,10 +12,11 @@ use Rattle.flame_world.specs.Iterations.{Round, unless_faulted, turn_of, round_o
 use Rattle.flame_events.specs.CoreEnds.{is_complete, wanted, ending}
 use Rattle.flame_events.specs.CoreStates.{Waiting, is_shut, fault_of, Core, status_of, opening_core}
 use Rattle.flame_events.proofs.EveryOrders.{every_order_is_the_iteration}
+use Rattle.flame_events.proofs.GoingOn.{all_when}
 use Rattle.flame_layers.specs.declared.stops.Stop.{Stop}
 use Rattle.flame_layers.specs.LayerLaws.{IterationsBegin, LayersEnd}
 use Rattle.flame_layers.proofs.FaultedStops.{Faults, faults_in, stop_at, stop_in, stop_fault, stop_rank}
-use Rattle.flame_layers.proofs.WantedFunctions.{all_when, wanted_below, still_is_wanted}
+use Rattle.flame_layers.proofs.WantedFunctions.{wanted_below, still_is_wanted}
 use Rattle.flame_layers.proofs.OpenedLayers.{HaveCome}
 use Rattle.flame_layers.proofs.FrozenLayers.{freeze_all}
 

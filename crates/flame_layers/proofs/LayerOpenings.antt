@@ -3,6 +3,7 @@ use Rattle.std.proofs.Common.{◌≡◌, ℕ, ◌<◌, true, List, Option, sym, 
 use Rattle.std.specs.List.{list_all}
 use Rattle.std.proofs.lemmas.Bool.{and_from, lt-ltb}
 use Rattle.std.proofs.lemmas.Option.{slice_get_within}
+use Rattle.flame_rows.proofs.Lists.{slice_get-some}
 use Rattle.flame_spec.specs.Accepted.{IsAccepted}
 use Rattle.flame_spec.specs.Before.{before, function_count}
 use Rattle.flame_spec.specs.Below.{is_in}
@@ -13,10 +14,11 @@ use Rattle.flame_events.specs.declared.events.Event.TheVariants as event
 use Rattle.flame_events.specs.CoreStates.{is_waiting, is_shut, status_of, is_frozen}
 use Rattle.flame_events.specs.LegalEvents.{predecessors, inputs_at, inputs_of, outputs_of, writers, are_shut, is_legal}
 use Rattle.flame_events.proofs.Weights.{Rows}
-use Rattle.flame_events.proofs.Spots.{get_there, input_named, writes_before}
+use Rattle.flame_events.proofs.Spots.{input_named, writes_before}
+use Rattle.flame_events.proofs.GoingOn.{all_when}
 use Rattle.flame_layers.specs.declared.stops.Stop.{Stop}
 use Rattle.flame_layers.specs.LayerStates.{HasComeTo}
-use Rattle.flame_layers.proofs.WantedFunctions.{all_when, below_in, wanted_closed, still_is_wanted, layers_rise, wanted_in, IsHere, is_here}
+use Rattle.flame_layers.proofs.WantedFunctions.{below_in, wanted_closed, still_is_wanted, layers_rise, wanted_in, IsHere, is_here}
 
 module _ (round : Round) (agents : List Rows) (here : ℕ) (stop : Option Stop) (field : Field) (accepted : IsAccepted round.source)
     (come : HasComeTo round agents here stop field) (f : ℕ) (within : is_in f (wanted_in round.source.model come.core here) ≡ true) where
@@ -32,7 +34,7 @@ module _ (round : Round) (agents : List Rows) (here : ℕ) (stop : Option Stop) 
   pub fed_here : list_all (is_frozen come.core) (inputs_of round.source.model f) ≡ true
   fed_here =
       let model = round.source.model in
-      let place = get_there (functions model) f own.below in
+      let place = slice_get-some (functions model) f own.below in
       all_when (is_frozen come.core) (inputs_of model f)
       (λ m reads.
       let input = input_named model place.0 m (sym (ap (λ o. is_in m (inputs_at o model)) place.1) ∙ reads) in

@@ -4,6 +4,7 @@ use Rattle.std.specs.Prelude.{ℤ, slice_index_or}
 use Rattle.std.specs.List.{list_all}
 use Rattle.std.proofs.lemmas.Bool.{false≢true}
 use Rattle.flame_rows.specs.Bags.{merge}
+use Rattle.flame_rows.proofs.Lists.{slice_get-some}
 use Rattle.flame_spec.specs.declared.outcomes.Outcome.{Outcome}
 use Rattle.flame_spec.specs.Before.{function_count}
 use Rattle.flame_spec.specs.Below.{is_in}
@@ -18,7 +19,6 @@ use Rattle.flame_events.specs.EventSteps.{done_with}
 use Rattle.flame_events.specs.LegalEvents.{inputs_of}
 use Rattle.flame_events.proofs.KeptCores.{open_there}
 use Rattle.flame_events.proofs.Serial.{is_in-self, is_in-later, is_in-cases}
-use Rattle.flame_events.proofs.Spots.{get_there}
 use Rattle.flame_events.proofs.Weights.{Rows}
 use Rattle.flame_orders.specs.WholeFunctions.{function_events, agents_in_pieces, left_by, done_by}
 use Rattle.flame_orders.proofs.FunctionRuns.{whole_functions_run}
@@ -58,7 +58,7 @@ module _ (differ : MessagesDiffer) (round : Round) (bags : List Rows) (start : C
       → core.frozen ≡ start.frozen → IsFed start.frozen f → IsBegun agents core f
       → (next : Core) × HasRun round bags start core start.field agents f next
   run_one core agents f both below marks fed begun =
-      let place = get_there (functions round.source.model) f below in
+      let place = slice_get-some (functions round.source.model) f below in
       let works = begun.works in
       let rows = agents_in_pieces works in
       let read = start.field in

@@ -4,6 +4,7 @@ use Rattle.std.specs.Prelude.{◌==◌, slice_index_or, option_map}
 use Rattle.std.specs.Option.{option_or}
 use Rattle.std.specs.List.{filter}
 use Rattle.std.proofs.lemmas.Bool.{cases_eq, eq-eqb, true≢false}
+use Rattle.std.proofs.lemmas.Option.{none-some}
 use Rattle.flame_spec.specs.Accepted.{IsAccepted}
 use Rattle.flame_spec.specs.Before.{function_count}
 use Rattle.flame_spec.specs.Below.{is_in}
@@ -23,7 +24,7 @@ use Rattle.flame_layers.specs.LayerFunctions.{layer_of, still_run, runs_in_layer
 use Rattle.flame_layers.specs.LayerLaws.{LayersLeadOn}
 use Rattle.flame_layers.specs.LayerStates.{HasComeTo}
 use Rattle.flame_layers.proofs.FaultedStops.{faults_in, stop_in, stop_fault, stop_rank, core_stop, stop_next, first_stop_is}
-use Rattle.flame_layers.proofs.WantedFunctions.{AreApart, not_in, to_filter, none_some, unfaulted_none, unfaulted_fewer, still_is_wanted, wanted_in, here_apart, is_here}
+use Rattle.flame_layers.proofs.WantedFunctions.{AreApart, not_in, to_filter, unfaulted_none, unfaulted_fewer, still_is_wanted, wanted_in, here_apart, is_here}
 use Rattle.flame_layers.proofs.LayerOpenings.{fed_here, may_open_here}
 use Rattle.flame_layers.proofs.OpenedLayers.{AreOpened, all_takers_are, open_all}
 use Rattle.flame_layers.proofs.LayerRuns.{HaveRun, run_all}
@@ -90,7 +91,7 @@ module _ (differ : MessagesDiffer) (round : Round) (bags : List Rows) (here : �
   faults_stay : (g : ℕ) (fault : SimFault) → faults_in core g ≡ Some fault → faults_in last g ≡ Some fault
   faults_stay g fault is =
       let out : is_in g fs ≡ false =
-      not_in g fs (λ within. none_some fault (sym (unfaulted_none core g order (is_here round.source.model core here g within).wants) ∙ is)) in
+      not_in g fs (λ within. none-some fault (sym (unfaulted_none core g order (is_here round.source.model core here g within).wants) ∙ is)) in
       ap fault_of (status_else g out) ∙ is
 
   faults_else : (g : ℕ) → (layer_of round.source.model g == here) ≡ false → faults_in last g ≡ faults_in core g

@@ -2,6 +2,7 @@
 use Rattle.std.proofs.Common.{◌≡◌, ℕ, ⊎_elim, true, false, List, [], ◌∷◌, ◌++◌, length, map, Option, Some, None, refl, sym, ap, ◌∙◌, arith, subst}
 use Rattle.std.specs.Prelude.{slice_get}
 use Rattle.std.proofs.lemmas.Bool.{and_from, false≢true}
+use Rattle.flame_rows.proofs.Lists.{slice_get-some}
 use Rattle.flame_spec.specs.Accepted.{IsAccepted}
 use Rattle.flame_spec.specs.Below.{is_in}
 use Rattle.flame_spec.specs.Functions.{Place, functions}
@@ -18,7 +19,6 @@ use Rattle.flame_events.specs.LegalEvents.{is_legal}
 use Rattle.flame_events.proofs.Growing.{histories_grow}
 use Rattle.flame_events.proofs.Serial.{is_in-self, is_in-later, is_in-cases}
 use Rattle.flame_events.proofs.Sound.{can_open}
-use Rattle.flame_events.proofs.Spots.{get_there}
 use Rattle.flame_events.proofs.Weights.{Rows}
 use Rattle.flame_orders.specs.OneBeginning.{HaveOneBeginning}
 use Rattle.flame_orders.specs.WholeFunctions.{agents_in_pieces}
@@ -123,7 +123,7 @@ pub record AreOpened (round : Round) (bags : List Rows) (start core : Core) (fs 
 begun_now : (round : Round) (core : Core) (f : ℕ) → EventsLeadTo round 1 core → is_legal round.source.model core (event.Open f) ≡ true
     → IsBegun (takers_in round f core.field) (after round 1 core (event.Open f)) f
 begun_now round core f led legal =
-    let place = get_there (functions round.source.model) f (can_open round.source.model core f legal).below in
+    let place = slice_get-some (functions round.source.model) f (can_open round.source.model core f legal).below in
     let all = opened_pieces_are_takers round 1 f place.0 core led (omega arith) place.1 legal in
     record { works = _; is = all.0; none = all.1; whole = all.2 ∙ ap (λ o. takers_at o round f core.field) (sym place.1) }
 

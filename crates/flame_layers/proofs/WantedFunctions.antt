@@ -1,9 +1,10 @@
 -- The functions that are still run, and those of a layer among them.
 use Rattle.std.proofs.Common.{◌≡◌, ℕ, ◌<◌, ◌⊎◌, inl, inr, ⊎_elim, Bool, true, false, cond, List, [], ◌∷◌, Option, Some, None, refl, sym, ap, ◌∙◌, arith, subst}
 use Rattle.std.specs.Prelude.{◌==◌, not, is_some, option_map, nat_lt}
-use Rattle.std.specs.List.{filter, list_all}
-use Rattle.std.proofs.lemmas.Bool.{and_parts, and_from, or_parts, eqb-true, cases_Bool, ltb-true, true≢false, false≢true}
+use Rattle.std.specs.List.{filter}
+use Rattle.std.proofs.lemmas.Bool.{and_parts, or_parts, eqb-true, cases_Bool, ltb-true, true≢false, false≢true}
 use Rattle.std.proofs.lemmas.List.FromFn.{get_or-map-range_with_len}
+use Rattle.std.proofs.lemmas.Option.{none-some}
 use Rattle.flame_spec.specs.declared.models.Model.{Model}
 use Rattle.flame_spec.specs.Before.{before, function_count}
 use Rattle.flame_spec.specs.Below.{all_below, is_in}
@@ -22,12 +23,6 @@ use Rattle.flame_layers.specs.LayerFunctions.{layer_of, still_run}
 use Rattle.flame_layers.proofs.FaultedStops.{faults_in}
 
 -- ---- lists of numbers
-
--- each passes a test where each one in the list does
-pub all_when : (test : ℕ → Bool) (numbers : List ℕ) → ((n : ℕ) → is_in n numbers ≡ true → test n ≡ true) → list_all test numbers ≡ true
-all_when test [] each = refl
-all_when test (n ∷ numbers) each =
-    and_from (test n) (list_all test numbers) (each n (is_in-self n numbers)) (all_when test numbers (λ k within. each k (is_in-later k n numbers within)))
 
 pub below_in : (test : ℕ → Bool) (n g : ℕ) → is_in g (all_below test n) ≡ true → (g < n) × (test g ≡ true)
 below_in test n g within =
@@ -168,9 +163,6 @@ unfaulted_closed core model done (h ∷ fs) f g ordered within less stands =
     (is_in-cases f h (unfaulted core fs) e))
     within
 
-pub none_some : (fault : SimFault) → None ≡ Some fault → ⊥
-none_some fault e = cc
-
 -- when more are faulted they are fewer
 pub unfaulted_fewer : (core next : Core) → ((g : ℕ) (fault : SimFault) → faults_in core g ≡ Some fault → faults_in next g ≡ Some fault)
     → (fs : List ℕ) (g : ℕ) → is_in g (unfaulted next fs) ≡ true → is_in g (unfaulted core fs) ≡ true
@@ -180,7 +172,7 @@ unfaulted_fewer core next stay (f ∷ fs) g within =
     (λ fault is e. absurd (false≢true e))
     (λ none e.
     unfaulted_by core f fs (λ l. is_in g l ≡ true)
-    (λ fault is. absurd (none_some fault (sym none ∙ stay f fault is)))
+    (λ fault is. absurd (none-some fault (sym none ∙ stay f fault is)))
     (λ is. ⊎_elim
     (λ (same : g ≡ f). subst (λ k. is_in k (f ∷ unfaulted core fs) ≡ true) (sym same) (is_in-self f (unfaulted core fs)))
     (λ (later : is_in g (unfaulted next fs) ≡ true). is_in-later g f (unfaulted core fs) (unfaulted_fewer core next stay fs g later))

@@ -1,14 +1,15 @@
 -- The least fault of parts together.
-use Rattle.std.proofs.Common.{◌≡◌, ℕ, true, false, Bool, cond, List, [], ◌∷◌, ◌++◌, Option, Some, None, refl, sym, ap, ◌∙◌, Ordering, Less, Equal, Greater, true≢false}
+use Rattle.std.proofs.Common.{◌≡◌, ℕ, true, false, Bool, cond, List, [], ◌∷◌, ◌++◌, Option, Some, None, refl, sym, ap, ◌∙◌, true≢false}
 use Rattle.std.specs.Prelude.{ℤ}
 use Rattle.std.specs.List.{filter_map, cons_option}
 use Rattle.std.specs.Option.{option_map_or}
-use Rattle.std.specs.Ordering.{is_gt, ordering_reverse}
+use Rattle.std.specs.Ordering.{is_gt}
 use Rattle.std.proofs.lemmas.Cmp.{upto}
 use Rattle.flame_rows.specs.Order.{row_order}
 use Rattle.flame_rows.specs.Sorted.{IsBelowAll, IsAscending, with_one}
 use Rattle.flame_rows.specs.Bags.{ascending}
 use Rattle.flame_rows.proofs.BagLaws.{rows_total, IsAscending-ascending}
+use Rattle.flame_rows.proofs.Sorting.{not_gt-after}
 use Rattle.flame_spec.specs.declared.outcomes.Outcome.{Outcome}
 use Rattle.flame_spec.specs.declared.outcomes.Outcome.TheVariants.{Ended, Faulted}
 use Rattle.flame_spec.specs.Lists.{first}
@@ -25,13 +26,8 @@ goes_after x y = is_gt (row_order x y)
 
 -- ---- content order
 
-not_both : (o : Ordering) → is_gt o ≡ true → is_gt (ordering_reverse o) ≡ false
-not_both Less h = absurd (true≢false (sym h))
-not_both Equal h = absurd (true≢false (sym h))
-not_both Greater h = refl
-
 turned : (x y : List ℤ) → goes_after x y ≡ true → goes_after y x ≡ false
-turned x y after = ap is_gt (rows_total.antisymm y x) ∙ not_both (row_order x y) after
+turned x y after = ap is_gt (rows_total.antisymm y x) ∙ not_gt-after (row_order x y) after
 
 not_after : (x y z : List ℤ) → goes_after x y ≡ false → goes_after y z ≡ false → goes_after x z ≡ false
 not_after = upto rows_total

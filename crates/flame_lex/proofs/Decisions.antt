@@ -1,9 +1,9 @@
 -- What a word is, which operator is the longest, and whether a line is a define line, can always be told.
-use Rattle.std.proofs.Common.{◌≡◌, ◌⊎◌, inl, inr, ℕ, zero, suc, ◌-◌, ◌<◌, ◌≤◌, true, false, Bool, List, [], ◌∷◌, ◌++◌}
+use Rattle.std.proofs.Common.{◌≡◌, ◌⊎◌, inl, inr, ℕ, zero, suc, ◌-◌, ◌<◌, ◌≤◌, false, List, [], ◌∷◌, ◌++◌}
 use Rattle.std.proofs.Common.{take, drop, length, get_or, refl, sym, ap, ◌∙◌, arith, subst, Option, Some, None}
 use Rattle.std.specs.Prelude.{ℤ, codes, Contains, slice_get, nat_eq, bytes_eq}
 use Rattle.std.specs.List.{starts_with}
-use Rattle.std.proofs.lemmas.Bool.{both_ways, cases_lt}
+use Rattle.std.proofs.lemmas.Bool.{both_ways, cases_lt, cases_Bool}
 use Rattle.std.proofs.lemmas.List.{take-append-drop, drop_at, length-append, append_cancel_left, append_cancel_right}
 use Rattle.std.proofs.lemmas.Option.{slice_get-get_or}
 use Rattle.std.proofs.lemmas.Slice.Eq.{bytes_eq-Decides}
@@ -19,10 +19,6 @@ use Rattle.flame_lex.specs.SourceWords.{IsLoopWord, IsPlain, IsWordKind, start, 
 use Rattle.flame_lex.proofs.Defining.{not_plain, one_name_said}
 use Rattle.flame_lex.proofs.Prefixes.{begins_parts, begins_from}
 
-pub told : (b : Bool) → (b ≡ true) ⊎ (b ≡ false)
-told true = inl refl
-told false = inr refl
-
 later : (s word : List ℕ) (ss : List (List ℕ)) → bytes_eq s word ≡ false → ¬ Contains ss word
     → (k : ℕ) → k < length (s ∷ ss) → ¬ (get_or (s ∷ ss) k word ≡ word)
 later s word ss h none zero within e = both_ways _ h ((bytes_eq-Decides s word).1 e)
@@ -32,7 +28,7 @@ later s word ss h none (suc k) within e = none (k, omega arith, e)
 pub contains_or_not : (spellings : List (List ℕ)) (word : List ℕ)
     → Contains spellings word ⊎ (¬ Contains spellings word)
 contains_or_not [] word = inr (λ c. omega (arith, c.1))
-contains_or_not (s ∷ ss) word = elim (told (bytes_eq s word)) [
+contains_or_not (s ∷ ss) word = elim (cases_Bool (bytes_eq s word)) [
   | inl h ↦ inl (0, omega arith, (bytes_eq-Decides s word).0 h)
   | inr h ↦ elim (contains_or_not ss word) [
     | inl c ↦ inl (suc c.0, omega (arith, c.1), c.2)
@@ -73,9 +69,9 @@ loop_or_not : (opening word : List ℕ)
 loop_or_not opening word =
     let rest = drop (length opening) word in
     let name = take (length rest - 13) rest in
-    elim (told (begins word opening)) [
+    elim (cases_Bool (begins word opening)) [
       | inr h ↦ inr (λ other w. both_ways _ h (begins_from word opening _ w.parts))
-      | inl h ↦ elim (told (bytes_eq (drop (length rest - 13) rest) suffix)) [
+      | inl h ↦ elim (cases_Bool (bytes_eq (drop (length rest - 13) rest) suffix)) [
         | inr k ↦ inr (λ other w. both_ways _ k ((bytes_eq-Decides _ _).1 (ends_so rest other
             (behind_opening opening word other w.parts))))
         | inl k ↦ named_or_not opening word name
@@ -174,7 +170,7 @@ best_or_none : (spellings : List (List ℕ)) (bytes : List ℕ) (count : ℕ) �
     ⊎ ((number : ℕ) → number < count → ¬ Stands spellings bytes number)
 best_or_none spellings bytes zero h = inr (λ number within s. omega (arith, within))
 best_or_none spellings bytes (suc count) h =
-    elim (told (starts_with nat_eq bytes (spelling spellings count))) [
+    elim (cases_Bool (starts_with nat_eq bytes (spelling spellings count))) [
       | inl b ↦
           let stands : Stands spellings bytes count = record { within = omega (arith, h); begins = b } in
           elim (best_or_none spellings bytes count (omega (arith, h))) [

@@ -3,7 +3,7 @@ use Rattle.std.proofs.Common.{◌≡◌, ◌⊎◌, inl, inr, ℕ, zero, suc, �
 use Rattle.std.proofs.Common.{length, refl, sym, ap, ◌∙◌, arith, subst}
 use Rattle.std.specs.Prelude.{pos, codes, slice_get, take_while}
 use Rattle.std.specs.Char.{is_ascii_digit}
-use Rattle.std.proofs.lemmas.Bool.{and_left, cases_lt, cases_eq}
+use Rattle.std.proofs.lemmas.Bool.{and_left, cases_lt, cases_eq, cases_Bool}
 use Rattle.std.proofs.lemmas.List.{take-append-drop, length-drop}
 use Rattle.std.proofs.lemmas.List.Folds.{length-prefix_len}
 use Rattle.flame_rows.proofs.Truths.{cases_Option}
@@ -25,7 +25,7 @@ use Rattle.flame_lex.specs.Lexing.{Piece, nothing, past_all, here, IsCut, tokens
 use Rattle.flame_lex.specs.LexSteps.{IsPiece}
 use Rattle.flame_lex.proofs.Classes.{hash_nothing}
 use Rattle.flame_lex.proofs.Cuts.{cut_more, token_piece}
-use Rattle.flame_lex.proofs.Decisions.{told, contains_or_not, number_at, word_kind_of, define_or_not}
+use Rattle.flame_lex.proofs.Decisions.{contains_or_not, number_at, word_kind_of, define_or_not}
 use Rattle.flame_lex.proofs.Decisions.{longest_or_none}
 use Rattle.flame_lex.proofs.Gaps.{comment_piece, line_comment_piece, include_piece, define_piece, second}
 use Rattle.flame_lex.proofs.Lexemes.{word_count, word_token, number_token, number_fault}
@@ -75,7 +75,7 @@ directive_read site place bytes b h = elim (contains_or_not directive_spellings 
 
 hash_read : (site : Here) (place : ℕ) (bytes : List ℕ) → 0 < length bytes → first_is is_hash bytes ≡ true
     → IsRead site place bytes
-hash_read site place bytes more h = elim (told site.line_begins) [
+hash_read site place bytes more h = elim (cases_Bool site.line_begins) [
   | inl b ↦ directive_read site place bytes b h
   | inr b ↦ inr (BadByte place, (refl, hash_nothing site bytes more h b))
 ]
@@ -150,19 +150,19 @@ other_read site place bytes more no_hash no_blank no_comment no_line no_word no_
     ]
 
 piece_or_fault : (site : Here) (place : ℕ) (bytes : List ℕ) → 0 < length bytes → IsRead site place bytes
-piece_or_fault site place bytes more = elim (told (first_is is_hash bytes)) [
+piece_or_fault site place bytes more = elim (cases_Bool (first_is is_hash bytes)) [
   | inl h ↦ hash_read site place bytes more h
-  | inr no_hash ↦ elim (told (first_is is_blank bytes)) [
+  | inr no_hash ↦ elim (cases_Bool (first_is is_blank bytes)) [
     | inl h ↦ blank_read site place bytes h
-    | inr no_blank ↦ elim (told (begins bytes (codes "/*"))) [
+    | inr no_blank ↦ elim (cases_Bool (begins bytes (codes "/*"))) [
       | inl h ↦ comment_read site place bytes h
-      | inr no_comment ↦ elim (told (begins bytes (codes "//"))) [
+      | inr no_comment ↦ elim (cases_Bool (begins bytes (codes "//"))) [
         | inl h ↦ inl (_, _, line_comment_piece site bytes h)
-        | inr no_line ↦ elim (told (first_is begins_word bytes)) [
+        | inr no_line ↦ elim (cases_Bool (first_is begins_word bytes)) [
           | inl h ↦
               let kind = word_kind_of (take (word_count bytes) bytes) in
               inl (_, _, token_piece site bytes kind.0 (word_count bytes) (word_token kind.0 bytes h kind.1))
-          | inr no_word ↦ elim (told (first_is is_ascii_digit bytes)) [
+          | inr no_word ↦ elim (cases_Bool (first_is is_ascii_digit bytes)) [
             | inl h ↦ number_read site place bytes h
             | inr no_digit ↦
                 other_read site place bytes more no_hash no_blank no_comment no_line no_word no_digit

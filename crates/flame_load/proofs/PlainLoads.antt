@@ -9,7 +9,8 @@ use Rattle.flame_xmml.specs.Models.{model_of}
 use Rattle.flame_xmml.specs.ShapeFaults.{wide_faults}
 use Rattle.flame_xmml.specs.ShapeLaws.{FaultlessIsWellFormedWide, PlainIsWide}
 use Rattle.flame_xmml.specs.WideValues.{wide_of}
-use Rattle.flame_nest.specs.FlatLaws.{as_file, PlainHasNoFaults, ModelsArePlain, ModelsAreFlat}
+use Rattle.flame_nest.specs.FlatLaws.{PlainHasNoFaults, ModelsArePlain, ModelsAreFlat}
+use Rattle.flame_spec.specs.PlainFiles.{as_file}
 use Rattle.flame_nest.specs.FlatModels.{flat}
 use Rattle.flame_nest.specs.NestFaults.{nest_faults}
 use Rattle.flame_load.specs.declared.faults.FileFault.{FileFault}

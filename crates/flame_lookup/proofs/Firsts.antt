@@ -6,8 +6,8 @@ use Rattle.std.specs.Str.{bytes_eq}
 use Rattle.std.proofs.lemmas.Bool.Decides.{nat_tests}
 use Rattle.std.proofs.lemmas.List.{length-map}
 use Rattle.std.proofs.lemmas.List.Sorted.{list_any-IsPermutation, IsPermutation-reverse}
-use Rattle.std.proofs.lemmas.Option.{slice_get-map, slice_get_read}
 use Rattle.flame_rows.proofs.Bytes.{bytes_eq-sym}
+use Rattle.flame_rows.proofs.Lists.{slice_get-map_at}
 use Rattle.flame_spec.specs.KnownNames.{is_among}
 use Rattle.flame_spec.specs.Lists.{numbered_from}
 use Rattle.flame_spec.proofs.Numbered.{numbered_from-stands}
@@ -50,14 +50,6 @@ slice_get-numbered passes xs n y h =
     let same : n ≡ at.0 = omega (arith, at.1) in
     ap (slice_get xs) same ∙ at.2
 
--- what stands in this place of a list that is seen as another
-seen_at :
-    {X Y : Type 0} (f : X → Y) (xs : List X) (i : ℕ) (x : X)
-    → i < length xs
-    → x ≡ get_or xs i x
-    → slice_get (map f xs) i ≡ Some (f x)
-seen_at f xs i x h is = slice_get-map f xs i ∙ ap (option_map f) (slice_get_read xs (length xs) i x refl h is)
-
 pub seen_as :
     {X Y : Type 0} (f : X → Y) (xs : List X) (ys : List Y) (i : ℕ) (x : X)
     → map f xs ≡ ys
@@ -66,7 +58,7 @@ pub seen_as :
     → slice_get ys i ≡ Some (f x)
 seen_as f xs ys i x e h is =
     let within : i < length xs = omega (arith, simp length-map at (ap length e)) in
-    ap (λ l. slice_get l i) (sym e) ∙ seen_at f xs i x within is
+    ap (λ l. slice_get l i) (sym e) ∙ slice_get-map_at f xs i x within is
 
 -- ---- what stands before a number
 

@@ -2,6 +2,7 @@
 use Rattle.std.proofs.Common.{◌≡◌, ℕ, ◌+◌, ◌<◌, ◌==◌, List, length, take, Bool, true, false, ◌&&◌, Some, refl, sym, ap, ◌∙◌, subst, arith, ⊎_elim}
 use Rattle.std.specs.Prelude.{ℤ, if◌then◌else◌}
 use Rattle.std.proofs.lemmas.Bool.{cond-true, cond-false, cases_Bool}
+use Rattle.std.proofs.Math.Bool.{and-false}
 use Rattle.flame_rows.proofs.Truths.{eqb-above}
 use Rattle.flame_spec.specs.declared.outcomes.Widths.{Widths}
 use Rattle.flame_code.specs.declared.instrs.Instr.{Instr}
@@ -24,10 +25,6 @@ pub by_arm : (place : ℕ) (given : Given) (w : Widths) (old new : Held) (locals
     → Stepped place (act given w (Some instr) (config place (framed old locals memory) added feeds)) (framed new locals memory) added feeds result
 by_arm place given w old new locals memory added feeds result instr i e does =
     in_arm place given w (framed old locals memory) added feeds (framed new locals memory) added result instr i e (does place locals memory added feeds)
-
-and-false : (b : Bool) → (b && false) ≡ false
-and-false true = refl
-and-false false = refl
 
 -- a code that sees messages adds them, and one that sees agent types those
 pub sees_messages : (w : Widths) {m : ℕ} {instr : Instr} → instr ≡ Send m → IsWithin w instr → adds_nothing w ≡ false

@@ -4,7 +4,7 @@ use Rattle.std.proofs.Common.{sym, ap, ◌∙◌}
 use Rattle.std.specs.Prelude.{not, slice_get, ◌&&◌}
 use Rattle.std.specs.List.{list_any, flat_map, filter, find}
 use Rattle.std.proofs.lemmas.Bool.{and_from}
-use Rattle.flame_rows.proofs.Lists.{append-is_nil_left, append-is_nil_right, list_any-at}
+use Rattle.flame_rows.proofs.Lists.{append-is_nil_left, append-is_nil_right, list_any-at, flat_map-none_at}
 use Rattle.flame_spec.specs.declared.models.Model.{Model}
 use Rattle.flame_spec.specs.declared.trees.Unit as file
 use Rattle.flame_spec.specs.declared.trees.Parameter.{Parameter}
@@ -20,16 +20,6 @@ use Rattle.flame_spec.specs.Trees.{no_more}
 use Rattle.flame_meaning.specs.AcceptedMeaning.{place_in}
 
 -- ---- lists
-
-flat_none :
-    {X Y : Type 0} (f : X → List Y) (xs : List X) (k : ℕ) (x : X)
-    → slice_get xs k ≡ Some x
-    → flat_map f xs ≡ []
-    → f x ≡ []
-flat_none f [] k x at none = cc
-flat_none f (y ∷ xs) zero x at none =
-    let same : y ≡ x = cc in sym (ap f same) ∙ append-is_nil_left (f y) (flat_map f xs) none
-flat_none f (y ∷ xs) (suc k) x at none = flat_none f xs k x at (append-is_nil_right (f y) (flat_map f xs) none)
 
 found_at :
     {X : Type 0} (p : X → Bool) (xs : List X) (x : X)
@@ -67,6 +57,14 @@ filtered_at {X} p (y ∷ xs) h x e = by_head (p y) refl h e (λ n f. filtered_at
 
 -- ---- bodies
 
+pub with_parameters_where-none : (b : Bool) (d : Definition) → with_parameters_where b d ≡ [] → b ≡ false
+with_parameters_where-none true d e = cc
+with_parameters_where-none false d e = refl
+
+pub parameters-none : (parameters : List Parameter) (b : Bool) → b ≡ true → (not (has_none parameters) && b) ≡ false → parameters ≡ []
+parameters-none [] b e f = refl
+parameters-none (parameter ∷ more) b e f = absurd (true≢false (sym e ∙ f))
+
 module _ (model : Model) (units : List file.Unit) (none : check_faults model units ≡ []) where
   bodies_none : flat_map (bodies_faults model (helpers model units)) (definitions units) ≡ []
   bodies_none = append-is_nil_right _ _ none
@@ -75,14 +73,6 @@ module _ (model : Model) (units : List file.Unit) (none : check_faults model uni
   parameters_none =
       append-is_nil_right (twice_faults [] (definitions units)) _
       (append-is_nil_left _ _ (append-is_nil_left _ _ (append-is_nil_left _ _ (append-is_nil_left _ _ none))))
-
-  no_parameters : (b : Bool) (d : Definition) → with_parameters_where b d ≡ [] → b ≡ false
-  no_parameters true d e = cc
-  no_parameters false d e = refl
-
-  empty_parameters : (parameters : List Parameter) (b : Bool) → b ≡ true → (not (has_none parameters) && b) ≡ false → parameters ≡ []
-  empty_parameters [] b e f = refl
-  empty_parameters (parameter ∷ more) b e f = absurd (true≢false (sym e ∙ f))
 
   -- a C function that is for a function of the model, which is not `idle`
   run_none :
@@ -96,18 +86,18 @@ module _ (model : Model) (units : List file.Unit) (none : check_faults model uni
       let runs : is_run_by d place ≡ true = and_from (not (is_idle place.function)) (is_for place.function d) (ap not busy) for_it in
       let transition : is_transition model d ≡ true = list_any-at (λ p. is_for p.function d) (functions model) n place listed for_it in
       let whole : bodies_faults model (helpers model units) d ≡ []
-      = flat_none (bodies_faults model (helpers model units)) (definitions units) k d at bodies_none in
+      = flat_map-none_at (bodies_faults model (helpers model units)) (definitions units) k d bodies_none at in
       let all : flat_map (body_faults model (helpers model units) d) (functions model) ≡ []
       = sym (ap (λ b. cond b (definition_faults (helper_context model (helpers model units) d) d) (flat_map (body_faults model (helpers model units) d) (functions model)))
       (no_helper (not (has_none d.parameters)) (is_transition model d) transition)) ∙ whole in
       let mine : body_faults model (helpers model units) d place ≡ []
-      = flat_none (body_faults model (helpers model units) d) (functions model) n place listed all in
+      = flat_map-none_at (body_faults model (helpers model units) d) (functions model) n place all listed in
       let checked : definition_faults (context model (helpers model units) d place) d ≡ []
       = sym (ap (λ b. cond b (definition_faults (context model (helpers model units) d place) d) []) runs) ∙ mine in
       let bare : d.parameters ≡ []
-      = empty_parameters d.parameters (list_any (is_run_by d) (functions model))
+      = parameters-none d.parameters (list_any (is_run_by d) (functions model))
       (list_any-at (is_run_by d) (functions model) n place listed runs)
-      (no_parameters _ d (flat_none (with_parameters_faults model) (definitions units) k d at parameters_none)) in
+      (with_parameters_where-none _ d (flat_map-none_at (with_parameters_faults model) (definitions units) k d parameters_none at)) in
       ap (λ ps. statements_faults (context model (helpers model units) d place) (after_parameters at_entry ps) d.body) (sym bare)
       ∙ append-is_nil_right (parameters_faults (context model (helpers model units) d place) at_entry d.parameters) _ checked
     where
@@ -148,7 +138,7 @@ module _ (model : Model) (units : List file.Unit) (none : check_faults model uni
   helper_checked d h listed =
       let (k, at, helps) = filtered_at (is_helper model) (definitions units) h d listed in
       let whole : bodies_faults model (helpers model units) d ≡ []
-      = flat_none (bodies_faults model (helpers model units)) (definitions units) k d at bodies_none in
+      = flat_map-none_at (bodies_faults model (helpers model units)) (definitions units) k d bodies_none at in
       let checked : definition_faults (helper_context model (helpers model units) d) d ≡ []
       = sym (ap (λ b. cond b (definition_faults (helper_context model (helpers model units) d) d) (flat_map (body_faults model (helpers model units) d) (functions model))) helps)
       ∙ whole in

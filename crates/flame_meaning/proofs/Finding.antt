@@ -26,6 +26,7 @@ use Rattle.flame_spec.specs.StatementFaults.{is_only_read, is_read_only, is_inpu
 use Rattle.flame_spec.specs.Trees.{Expression, number, name, field, get, at, field_at, signed, chain, all_of, any_of}
 use Rattle.flame_spec.specs.Trees.{Expressions, no_parts, part, Links, no_links, link, Indexed}
 use Rattle.flame_spec.proofs.FaultTests.{fault_where-none}
+use Rattle.flame_spec.proofs.NamesLaid.{is_among-laid}
 use Rattle.flame_meaning.specs.Scenes.{Scene, Local, Progress, Current, local_value, array_named}
 use Rattle.flame_meaning.specs.Outcomes.{message_named}
 use Rattle.flame_meaning.specs.Agreement.{names_of, LoopsStand, no_loops, plain_loop, message_loop, Agrees}
@@ -58,11 +59,6 @@ among_either word (x ∷ xs) ys = by_test (bytes_eq word x) (among_either word x
     by_test true e = refl
     by_test false e = e
 
-among_laid : (word : List ℕ) (scopes : List (List (List ℕ))) → is_among word (laid scopes) ≡ list_any (is_among word) scopes
-among_laid word [] = refl
-among_laid word (scope ∷ scopes) =
-    among_either word scope (laid scopes) ∙ ap (λ b. is_among word scope || b) (among_laid word scopes)
-
 module _ (place : Context) (sight : Sight) (scene : Scene) (s : Progress) (a : Agrees place sight scene s) where
   -- a word that is a local there has a value, and no other word has one
   pub local_there : (word : List ℕ) → is_some (local_value word s.locals) ≡ is_local sight word
@@ -70,7 +66,7 @@ module _ (place : Context) (sight : Sight) (scene : Scene) (s : Progress) (a : A
       value_among word s.locals
       ∙ ap (is_among word) a.names
       ∙ among_either word sight.scope (laid sight.outer)
-      ∙ ap (λ b. is_among word sight.scope || b) (among_laid word sight.outer)
+      ∙ ap (λ b. is_among word sight.scope || b) ((sym (is_among-laid word sight.outer)))
 
   pub given_there : (word : List ℕ) → given_at scene.context word ≡ given_at place word
   given_there word = ap (λ (c : Context). given_at c word) a.there

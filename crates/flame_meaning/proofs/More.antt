@@ -1,6 +1,7 @@
 -- With more fuel everything goes alike, and so much more is left.
 use Rattle.std.proofs.Common.{◌≡◌, ◌≢◌, ℕ, zero, suc, ◌+◌, ◌≤◌, List, [], ◌∷◌, refl, sym, ap, ◌∙◌, subst, Bool, true, false, cond, Option, Some, None, arith}
 use Rattle.std.specs.Prelude.{ℤ, pos, Result, Ok, Err, is_some, slice_get, length, unwrap_or}
+use Rattle.flame_rows.proofs.Truths.{cond-same}
 use Rattle.flame_ops.specs.declared.integers.Op.{Op}
 use Rattle.flame_ops.specs.declared.integers.Cause.TheVariants.{Fuel}
 use Rattle.flame_ops.specs.Integers.{applied}
@@ -66,10 +67,6 @@ module _ (k : ℕ) where
   same_on (Ok v) q go other e h = ap (λ x. on_value x other) e ∙ h v
   same_on (Err fault) q go other e h = ap (λ x. on_value x other) e
 
-  same_cond : {X : Type 0} (b : Bool) (x y p q : X) → x ≡ p → y ≡ q → cond b x y ≡ cond b p q
-  same_cond true x y p q h g = h
-  same_cond false x y p q h g = g
-
   given_same : (given : Option Given) (scene : Scene) (s : Progress) → value_given given scene (richer s) ≡ value_given given scene s
   given_same None scene s = refl
   given_same (Some (in_memory column variable)) scene s = refl
@@ -106,13 +103,13 @@ module _ (k : ℕ) where
     all_same no_parts scene s = refl
     all_same (part e parts) scene s =
         same_on (value_of e scene s) _ (λ v. cond (holds v) (all_value parts scene s) (Ok (pos 0))) _ (value_same e scene s)
-        (λ v. same_cond (holds v) _ _ (all_value parts scene s) (Ok (pos 0)) (all_same parts scene s) refl)
+        (λ v. cond-same (holds v) _ _ (all_value parts scene s) (Ok (pos 0)) (all_same parts scene s) refl)
 
     any_same : (parts : Expressions) (scene : Scene) (s : Progress) → any_value parts scene (richer s) ≡ any_value parts scene s
     any_same no_parts scene s = refl
     any_same (part e parts) scene s =
         same_on (value_of e scene s) _ (λ v. cond (holds v) (Ok (pos 1)) (any_value parts scene s)) _ (value_same e scene s)
-        (λ v. same_cond (holds v) _ _ (Ok (pos 1)) (any_value parts scene s) refl (any_same parts scene s))
+        (λ v. cond-same (holds v) _ _ (Ok (pos 1)) (any_value parts scene s) refl (any_same parts scene s))
 
   argument_same : (e : Expression) (scene : Scene) (s : Progress) → argument_values e scene (richer s) ≡ argument_values e scene s
   argument_same (number n) scene s = refl

@@ -5,25 +5,11 @@ use Rattle.std.specs.Global.{Global}
 use Rattle.std.specs.List.{flat_map}
 use Rattle.flame_rows.specs.Bags.{ascending, weigh}
 use Rattle.flame_rows.specs.declared.fails.NoMemory.{NoMemory}
-use Rattle.flame_rows.proofs.BagLaws.{IsAscending-ascending, equal_by_weighings, weigh-append, weigh-ascending}
+use Rattle.flame_rows.proofs.BagLaws.{weigh-append, weigh-ascending}
 use Rattle.flame_merging.specs.RowLists.{rows_in, weigh_parts}
 
 abbrev Rows : Type 0
 Rows = List (List ℤ)
-
--- ---- rows
-
--- what weighs the same by every weight is the same in order
-pub same-ascending : (ones twos : Rows) → ((weight : List ℤ → ℕ) → weigh weight ones ≡ weigh weight twos)
-    → ascending ones ≡ ascending twos
-same-ascending ones twos same =
-    equal_by_weighings (ascending ones) (ascending twos) (IsAscending-ascending ones) (IsAscending-ascending twos)
-    (λ weight. weigh-ascending weight ones ∙ same weight ∙ sym (weigh-ascending weight twos))
-
--- nothing follows
-pub flat-over : (rows : Rows) (rest : List Rows) → length rest ≡ 0 → rows ++ flat_map (λ bag. bag) rest ≡ rows
-flat-over rows [] none = append-nil rows
-flat-over rows (bag ∷ rest) none = absurd (omega (arith, none))
 
 -- ---- lists
 

@@ -16,7 +16,7 @@ pub look-map : {X : Type 0} (name : List ℕ) (entries : List (Bor (List ℕ) ×
 look-map name [] = refl
 look-map name (entry ∷ entries) = ap (cond (bytes_eq name entry.0.now) (Some entry.1)) (look-map name entries)
 
-some_step : {X : Type 0} (b c : Bool) (x : X) (o : Option X)
+pub some_step : {X : Type 0} (b c : Bool) (x : X) (o : Option X)
     → is_some o ≡ c → is_some (cond b (Some x) o) ≡ (b || c)
 some_step true c x o h = refl
 some_step false c x o h = h

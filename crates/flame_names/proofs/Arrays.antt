@@ -1,7 +1,6 @@
 -- Variables that are looked up in a table.
-use Rattle.std.proofs.Common.{◌≡◌, ℕ, ◌+◌, List, [], ◌∷◌, refl, Bool, true, false, cond, Bor}
+use Rattle.std.proofs.Common.{◌≡◌, ℕ, ◌+◌, List, [], ◌∷◌, refl, sym, Bool, true, false, cond, Bor}
 use Rattle.std.proofs.Common.{Option, Some, option_map}
-use Rattle.std.specs.Prelude.{◌||◌}
 use Rattle.std.specs.Option.{is_some}
 use Rattle.std.specs.Map.{lookup}
 use Rattle.std.specs.Str.{bytes_eq}
@@ -9,6 +8,7 @@ use Rattle.flame_rows.proofs.Bytes.{bytes_eq-sym}
 use Rattle.flame_spec.specs.declared.models.Variable.{Variable}
 use Rattle.flame_spec.specs.Columns.{columned_from, variable_named, width_of, is_array}
 use Rattle.flame_spec.specs.KnownNames.{is_among, variable_names}
+use Rattle.flame_name_sets.proofs.Tables.{some_step}
 use Rattle.flame_names.specs.VariableTables.{variables_in_table}
 
 array_step : (b c : Bool) (variable : Variable) (from : ℕ) (rest : Option (ℕ × Variable)) (more : Option (Option ℕ))
@@ -42,20 +42,16 @@ pub array-is : (name : List ℕ) (entries : List (Bor (List ℕ) × Option ℕ))
     ≡ option_map is_some (lookup (λ key. bytes_eq name key.now) entries)
 array-is name entries = array_from 0 name entries
 
-there_step : (b there : Bool) (length : Option ℕ) (o : Option (Option ℕ))
-    → there ≡ is_some o → (b || there) ≡ is_some (cond b (Some length) o)
-there_step true there length o h = refl
-there_step false there length o h = h
-
 -- a name is among those of the variables where an entry has it
 pub there-is : (name : List ℕ) (entries : List (Bor (List ℕ) × Option ℕ))
     → is_among name (variable_names (variables_in_table entries))
     ≡ is_some (lookup (λ key. bytes_eq name key.now) entries)
 there-is name [] = refl
 there-is name (entry ∷ entries) =
-    there_step
+    sym
+    (some_step
     (bytes_eq name entry.0.now)
     (is_among name (variable_names (variables_in_table entries)))
     entry.1
     (lookup (λ key. bytes_eq name key.now) entries)
-    (there-is name entries)
+    (sym (there-is name entries)))

@@ -2,18 +2,18 @@
 use Rattle.std.proofs.Common.{◌≡◌, ℕ, ℤ, ◌*ℤ◌, List, [], ◌∷◌, ◌++◌, refl, sym, ap, ◌∙◌, Bool, true, false, cond, Option, Some, None, option_map, true≢false, codes, append-nil, subst}
 use Rattle.std.specs.Option.{is_some, option_map_or}
 use Rattle.std.specs.Str.{bytes_eq}
-use Rattle.std.proofs.lemmas.List.{reverse-append, map_push}
-use Rattle.flame_rows.proofs.Bytes.{bytes_eq-sym}
-use Rattle.flame_rows.proofs.Truths.{is_some-false}
+use Rattle.std.proofs.lemmas.List.{map_push}
+use Rattle.flame_rows.proofs.Truths.{is_some-false, cond-same}
 use Rattle.flame_spec.specs.declared.faults.NameFault.{NameFault}
 use Rattle.flame_spec.specs.declared.faults.NameKind.{NameKind}
 use Rattle.flame_spec.specs.declared.faults.NameKind.TheVariants.{Duplicate, UnknownUnit, LongUnit}
 use Rattle.flame_spec.specs.declared.models.TimeUnit.{TimeUnit}
-use Rattle.flame_spec.specs.TimeUnits.{length_back, unit_length}
+use Rattle.flame_spec.specs.TimeUnits.{unit_length}
 use Rattle.flame_spec.specs.KnownNames.{is_among, unit_names}
 use Rattle.flame_spec.specs.Paths.{at_key}
 use Rattle.flame_spec.specs.Refusals.{fault_where}
 use Rattle.flame_spec.specs.UnitFaults.{is_long, length_after, unit_faults}
+use Rattle.flame_spec.proofs.UnitLengths.{unit_length-push}
 use Rattle.flame_name_sets.specs.NameTables.{look, names_of}
 use Rattle.flame_names.specs.UnitTables.{floored, measure_at, unit_at, length_of, with_unit}
 use Rattle.flame_name_sets.proofs.Tables.{is_some-look, look-push, names_of-push}
@@ -70,18 +70,6 @@ measure-none path unit (Some z) h = (
       (append-nil _ ∙ h)).0,
 )
 
--- the length of a unit behind those before it
-unit_length-push : (units : List TimeUnit) (unit : TimeUnit) (name : List ℕ)
-    → unit_length (units ++ unit ∷ []) name
-    ≡ cond (bytes_eq name unit.name) (length_after units unit) (unit_length units name)
-unit_length-push units unit name =
-    ap (λ l. length_back l name) (reverse-append units (unit ∷ []))
-    ∙ ap (λ b. cond b (length_after units unit) (unit_length units name)) (bytes_eq-sym unit.name name)
-
-choice : {A : Type 0} (b : Bool) (x y u v : A) → x ≡ u → y ≡ v → cond b x y ≡ cond b u v
-choice true x y u v p q = p
-choice false x y u v p q = q
-
 floor_choice : (b : Bool) (x y : Option ℤ)
     → cond b (option_map floored x) (option_map floored y) ≡ option_map floored (cond b x y)
 floor_choice true x y = refl
@@ -115,7 +103,7 @@ knows-push table units path unit knows none =
           ∙ ap (λ names. codes "iteration" ∷ names) (sym (map_push (λ u. u.name) units unit));
       lengths = λ name.
           look-push unit.name name length table new
-          ∙ choice (bytes_eq name unit.name) (Some length) (look name table) _ _ kept (knows.lengths name)
+          ∙ cond-same (bytes_eq name unit.name) (Some length) (look name table) _ _ kept (knows.lengths name)
           ∙ floor_choice (bytes_eq name unit.name) (length_after units unit) (unit_length units name)
           ∙ sym (ap (option_map floored) (unit_length-push units unit name));
     }

@@ -1,34 +1,15 @@
 -- First faults.
-use Rattle.std.proofs.Common.{◌≡◌, ℕ, ◌+◌, ◌<◌, List, [], ◌∷◌, ◌++◌, length, drop, get_or, refl, sym, ap, ◌∙◌, Some, Bool, true, false, true≢false}
+use Rattle.std.proofs.Common.{◌≡◌, ℕ, ◌+◌, ◌<◌, List, [], ◌++◌, length, drop, get_or, refl, sym, ap, ◌∙◌, Bool, true, false, true≢false}
 use Rattle.std.specs.Prelude.{◌&&◌}
 use Rattle.std.specs.Bool.{OnTrue}
 use Rattle.std.specs.List.{flat_map}
 use Rattle.std.proofs.lemmas.List.{at_drop_more}
 use Rattle.flame_spec.specs.Lists.{each_from, first}
 use Rattle.flame_rows.specs.declared.fails.Fail.{Fail}
-use Rattle.flame_rows.specs.declared.fails.Fail.TheVariants.{Fault, NoMemory}
 use Rattle.flame_nest.specs.declared.faults.NestKind.{NestKind}
 use Rattle.flame_nest.specs.NestFaults.{nest_where}
 use Rattle.flame_spec.specs.FirstFaults.{FailsFirst}
-
-first-append : {F : Type 0} (xs ys : List F) (fault : F) → first xs ≡ Some fault → first (xs ++ ys) ≡ Some fault
-first-append [] ys fault h = cc
-first-append (x ∷ xs) ys fault h = h
-
--- the first of some faults is the first of these and more
-pub fails-append : {F : Type 0} (fail : Fail F) (xs ys : List F) → FailsFirst xs fail → FailsFirst (xs ++ ys) fail
-fails-append (Fault fault) xs ys h = first-append xs ys fault h
-fails-append NoMemory xs ys h = tt
-
--- the first of some faults behind none
-pub fails-skip : {F : Type 0} (fail : Fail F) (xs ys : List F) → xs ≡ [] → FailsFirst ys fail → FailsFirst (xs ++ ys) fail
-fails-skip (Fault fault) xs ys e h = ap (λ l. first (l ++ ys)) e ∙ h
-fails-skip NoMemory xs ys e h = tt
-
--- equal faults have the same first
-pub fails-same : {F : Type 0} (fail : Fail F) (xs ys : List F) → xs ≡ ys → FailsFirst xs fail → FailsFirst ys fail
-fails-same (Fault fault) xs ys e h = ap first (sym e) ∙ h
-fails-same NoMemory xs ys e h = tt
+use Rattle.flame_spec.proofs.FaultLists.{FailsFirst-append, FailsFirst-same}
 
 -- the first fault of an item is the first of the rest of the list
 pub fails-item : {X F : Type 0} (fail : Fail F) (f : X → List F) (xs : List X) (i : ℕ) (d item : X) (whole : List F)
@@ -38,7 +19,7 @@ pub fails-item : {X F : Type 0} (fail : Fail F) (f : X → List F) (xs : List X)
     → FailsFirst (f item) fail
     → FailsFirst whole fail
 fails-item fail f xs i d item whole inside is rest h =
-    fails-same
+    FailsFirst-same
     fail
     (f item ++ flat_map f (drop (i + 1) xs))
     whole
@@ -46,7 +27,7 @@ fails-item fail f xs i d item whole inside is rest h =
     (rest
     ∙ at_drop_more (flat_map f) xs i d inside
     ∙ ap (λ x. f x ++ flat_map f (drop (i + 1) xs)) (sym is)))
-    (fails-append fail (f item) (flat_map f (drop (i + 1) xs)) h)
+    (FailsFirst-append fail (f item) (flat_map f (drop (i + 1) xs)) h)
 
 -- an item without a fault
 pub none-item : {X F : Type 0} (f : X → List F) (xs : List X) (i : ℕ) (d item : X) (whole : List F)
@@ -60,24 +41,6 @@ none-item f xs i d item whole inside is rest none =
     ∙ at_drop_more (flat_map f) xs i d inside
     ∙ ap (λ x. f x ++ flat_map f (drop (i + 1) xs)) (sym is)
     ∙ ap (λ l. l ++ flat_map f (drop (i + 1) xs)) none
-
--- the first fault of a member is the first of the rest of the list
-pub fails-member : {X F : Type 0} (fail : Fail F) (f : ℕ → X → List F) (xs : List X) (i : ℕ) (d : X) (whole member : List F)
-    → i < length xs
-    → whole ≡ each_from f i (drop i xs)
-    → member ≡ f i (get_or xs i d)
-    → FailsFirst member fail
-    → FailsFirst whole fail
-fails-member fail f xs i d whole member inside rest e h =
-    fails-same
-    fail
-    (member ++ each_from f (i + 1) (drop (i + 1) xs))
-    whole
-    (sym
-    (rest
-    ∙ at_drop_more (each_from f i) xs i d inside
-    ∙ ap (λ l. l ++ each_from f (i + 1) (drop (i + 1) xs)) (sym e)))
-    (fails-append fail member (each_from f (i + 1) (drop (i + 1) xs)) h)
 
 -- a member without a fault
 pub none-member : {X F : Type 0} (f : ℕ → X → List F) (xs : List X) (i : ℕ) (d : X) (whole member : List F)

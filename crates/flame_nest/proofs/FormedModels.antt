@@ -4,7 +4,7 @@ use Rattle.std.specs.Prelude.{◌&&◌, ◌||◌, IsTrue, slice_get, unwrap_or, 
 use Rattle.std.specs.List.{filter, flat_map, fold, list_all}
 use Rattle.std.proofs.Math.Seq.{take-append_seam}
 use Rattle.std.proofs.lemmas.List.Folds.{list_all-append, list_all-map}
-use Rattle.std.proofs.lemmas.Bool.{and_parts, and_from, not-false}
+use Rattle.std.proofs.lemmas.Bool.{and_parts, and_from, not-false, or_parts}
 use Rattle.flame_rows.proofs.Lists.{append-is_nil}
 use Rattle.flame_spec.specs.declared.wide.Wide.{Wide}
 use Rattle.flame_spec.specs.declared.wide.WideVariable.{WideVariable}
@@ -21,7 +21,7 @@ use Rattle.flame_nest.specs.declared.faults.NestKind.TheVariants.{Differs, Twice
 use Rattle.flame_nest.specs.FlatModels.{flat, flat_message, flat_agent, flat_variables, new_behind, with_new, joined_types, joined_messages}
 use Rattle.flame_nest.specs.NestFaults.{is_int, is_wide, has_long, nest_where, nest_faults, file_faults, types_faults, type_faults, messages_faults, message_faults, agents_faults, variables_faults, variable_faults, meant_by, Given, given_by, types_given, messages_given, of_type, of_message, type_names}
 use Rattle.flame_nest.proofs.Firsts.{none-false}
-use Rattle.flame_nest.proofs.Joins.{or_first, joined_once-push}
+use Rattle.flame_nest.proofs.Joins.{joined_once-push}
 use Rattle.flame_nest.proofs.Unfolding.{flat_variables-nil, flat_variables-append}
 use Rattle.flame_nest.proofs.Walks.{messages-known}
 use Rattle.flame_nest.proofs.Shapes.{list_all-flat_map, list_all-weaker, is_shaped, has_shape, variables_shaped, types_shaped, flat_formed}
@@ -301,10 +301,7 @@ type_named file given here known type h =
     let twice = append-is_nil (nest_where (is_int type.name || is_among type.name here) TwiceType file type.name) _ behind.1 in
     ap
     not
-    (or_first
-    (is_int type.name)
-    (is_among type.name here)
-    (none-false (is_int type.name || is_among type.name here) TwiceType file type.name twice.0))
+    ((or_parts (is_int type.name) (is_among type.name here) (none-false (is_int type.name || is_among type.name here) TwiceType file type.name twice.0)).0)
 
 each_named : (f : ℕ → DataType → List NestFault) (i : ℕ) (types : List DataType)
     → ((i : ℕ) (type : DataType) → f i type ≡ [] → not (is_int type.name) ≡ true)

@@ -9,24 +9,17 @@ use Rattle.std.proofs.lemmas.List.{map-append, append-nil, take_more}
 use Rattle.std.proofs.lemmas.List.Elements.{filter-append}
 use Rattle.std.proofs.lemmas.List.Folds.{list_any-append}
 use Rattle.std.proofs.lemmas.List.Sums.{fold-append}
-use Rattle.std.proofs.lemmas.Bool.{or_parts}
+use Rattle.std.proofs.lemmas.Bool.{or_parts, or_from}
 use Rattle.flame_spec.specs.declared.wide.Wide.{Wide}
 use Rattle.flame_spec.specs.KnownNames.{is_among}
 use Rattle.flame_nest.specs.FlatModels.{new_behind, with_new, joined_once}
-
-pub or_first : (b c : Bool) → (b || c) ≡ false → b ≡ false
-or_first true c h = h
-or_first false c h = refl
-
-pub or_none : (b c : Bool) → b ≡ false → c ≡ false → (b || c) ≡ false
-or_none b c p q = ap (λ b. b || c) p ∙ q
 
 module _ {X : Type 0} (name_of : X → List ℕ) where
   filter_step : (name : List ℕ) (b : Bool) (x : X) (rest : List X)
       → bytes_eq name (name_of x) ≡ false
       → is_among name (map name_of rest) ≡ false
       → is_among name (map name_of (cond b (x ∷ rest) rest)) ≡ false
-  filter_step name true x rest first h = or_none (bytes_eq name (name_of x)) (is_among name (map name_of rest)) first h
+  filter_step name true x rest first h = or_from (bytes_eq name (name_of x)) (is_among name (map name_of rest)) first h
   filter_step name false x rest first h = h
 
   -- a name that no member has is that of no member that passes
@@ -39,7 +32,7 @@ module _ {X : Type 0} (name_of : X → List ℕ) where
       (p x)
       x
       (filter p xs)
-      (or_first (bytes_eq name (name_of x)) (is_among name (map name_of xs)) h)
+      ((or_parts (bytes_eq name (name_of x)) (is_among name (map name_of xs)) h).0)
       (among-filter p name xs (or_parts (bytes_eq name (name_of x)) (is_among name (map name_of xs)) h).1)
 
   -- a name that is neither given nor one of the members is none of both
@@ -50,7 +43,7 @@ module _ {X : Type 0} (name_of : X → List ℕ) where
   with_new-none name earlier xs p q =
       ap (is_among name) (map-append name_of earlier (new_behind name_of earlier xs))
       ∙ (list_any-append (bytes_eq name) (map name_of earlier) (map name_of (new_behind name_of earlier xs)))
-      ∙ or_none
+      ∙ or_from
       (is_among name (map name_of earlier))
       (is_among name (map name_of (new_behind name_of earlier xs)))
       p

@@ -4,14 +4,14 @@ use Rattle.std.specs.Prelude.{◌||◌}
 use Rattle.std.specs.List.{flat_map, fold, list_all}
 use Rattle.std.specs.Str.{bytes_eq}
 use Rattle.std.proofs.lemmas.Slice.Eq.{bytes_eq-Decides}
-use Rattle.std.proofs.lemmas.Bool.{and_parts, or_parts, not-true}
+use Rattle.std.proofs.lemmas.Bool.{and_parts, or_parts, not-true, or_from}
 use Rattle.flame_spec.specs.declared.wide.Wide.{Wide}
 use Rattle.flame_spec.specs.declared.wide.WideVariable.{WideVariable}
 use Rattle.flame_spec.specs.declared.wide.DataType.{DataType}
 use Rattle.flame_spec.specs.KnownNames.{is_among}
 use Rattle.flame_nest.specs.FlatModels.{inside, replaced, spread, single, flat_variables, new_behind, with_new}
 use Rattle.flame_nest.specs.NestFaults.{type_names, is_int}
-use Rattle.flame_nest.proofs.Joins.{or_first, or_none, among-with_new}
+use Rattle.flame_nest.proofs.Joins.{among-with_new}
 
 spread_split : (types later : List DataType) (variables : List WideVariable)
     → spread (types ++ later) variables ≡ spread types (spread later variables)
@@ -28,7 +28,7 @@ spread_own (type ∷ later) v h =
     (spread_own later v (or_parts (bytes_eq v.kind type.name) (is_among v.kind (type_names later)) h).1)
     ∙ ap
     (λ b. cond b (map (inside v) type.variables) (v ∷ []) ++ [])
-    (or_first (bytes_eq v.kind type.name) (is_among v.kind (type_names later)) h)
+    ((or_parts (bytes_eq v.kind type.name) (is_among v.kind (type_names later)) h).0)
 
 -- `int`, or the name of one of these data types
 abbrev pub is_known : List DataType → List ℕ → Bool
@@ -47,14 +47,14 @@ new_step : (name : List ℕ) (known rest : List DataType) (type : DataType) (b s
     → is_among name (type_names (cond (not b) (type ∷ rest) rest)) ≡ false
 new_step name known rest type true same e s h int r = r
 new_step name known rest type false false e s h int r =
-    or_none (bytes_eq name type.name) (is_among name (type_names rest)) s r
+    or_from (bytes_eq name type.name) (is_among name (type_names rest)) s r
 new_step name known rest type false true e s h int r =
     let is : name ≡ type.name = (bytes_eq-Decides name type.name).0 s in
     absurd
     (true≢false
     (sym h
     ∙ ap (is_known known) is
-    ∙ or_none (is_int type.name) (is_among type.name (type_names known)) int e))
+    ∙ or_from (is_int type.name) (is_among type.name (type_names known)) int e))
 
 -- what is known is the name of no new data type
 not_new : (known types : List DataType) (name : List ℕ)

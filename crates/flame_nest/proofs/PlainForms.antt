@@ -5,6 +5,7 @@ use Rattle.std.specs.List.{filter, list_all}
 use Rattle.std.proofs.lemmas.Slice.Eq.{bytes_eq-Decides}
 use Rattle.std.proofs.lemmas.List.{append-nil}
 use Rattle.std.proofs.lemmas.Bool.{and_parts}
+use Rattle.flame_rows.proofs.Lists.{filter-all}
 use Rattle.flame_spec.specs.declared.models.Model.{Model}
 use Rattle.flame_spec.specs.declared.models.Variable.{Variable}
 use Rattle.flame_spec.specs.declared.models.MessageType.{MessageType}
@@ -15,7 +16,8 @@ use Rattle.flame_spec.specs.declared.wide.WideMessage.{WideMessage}
 use Rattle.flame_spec.specs.declared.wide.WideAgent.{WideAgent}
 use Rattle.flame_nest.specs.FlatModels.{single, flat, flat_message, flat_agent, new_behind}
 use Rattle.flame_nest.specs.NestFaults.{is_int}
-use Rattle.flame_nest.specs.FlatLaws.{int_variable, int_message, int_agent, as_file, are_int, IsPlain}
+use Rattle.flame_nest.specs.FlatLaws.{are_int, IsPlain}
+use Rattle.flame_spec.specs.PlainFiles.{int_variable, int_message, int_agent, as_file}
 
 -- ---- models
 
@@ -43,10 +45,6 @@ model_plain model = record {
   nested = refl;
 }
 
-all_pass : {X : Type 0} (xs : List X) → filter (λ x. true) xs ≡ xs
-all_pass [] = refl
-all_pass (x ∷ xs) = ap (λ l. x ∷ l) (all_pass xs)
-
 back : (variables : List Variable) → map single (map int_variable variables) ≡ variables
 back [] = refl
 back (v ∷ variables) = ap (λ l. v ∷ l) (back variables)
@@ -63,9 +61,9 @@ back_agents (a ∷ agents) =
 pub model_flat : (model : Model) → flat (as_file model ∷ []) ≡ model
 model_flat model =
     let constants = append-nil model.constants in
-    let files = all_pass model.files in
+    let files = filter-all model.files in
     let units = append-nil model.units in
-    let messages = ap (map (flat_message [])) (all_pass (map int_message model.messages)) ∙ back_messages model.messages in
+    let messages = ap (map (flat_message [])) (filter-all (map int_message model.messages)) ∙ back_messages model.messages in
     let agents = ap (map (flat_agent [])) (append-nil (map int_agent model.agents)) ∙ back_agents model.agents in
     λ i.
     record { constants = constants i; files = files i; units = units i; messages = messages i; agents = agents i }
@@ -104,11 +102,11 @@ pub plain_flat : (wide : Wide) → IsPlain wide → as_file (flat (wide ∷ []))
 plain_flat wide plain =
     let none : new_behind (λ type. type.name) [] wide.types ≡ [] = ap (new_behind (λ type. type.name) []) plain.types in
     let constants = append-nil wide.constants in
-    let files = all_pass wide.files in
+    let files = filter-all wide.files in
     let units = append-nil wide.units in
     let messages =
     ap (λ types. map int_message (map (flat_message types) (filter (λ m. true) wide.messages))) none
-    ∙ ap (λ l. map int_message (map (flat_message []) l)) (all_pass wide.messages)
+    ∙ ap (λ l. map int_message (map (flat_message []) l)) (filter-all wide.messages)
     ∙ again_messages wide.messages plain.messages in
     let agents =
     ap (λ types. map int_agent (map (flat_agent types) (wide.agents ++ []))) none

@@ -14,7 +14,6 @@ use Rattle.flame_spec.specs.WellFormed.{is_array_length, is_well_formed_variable
 use Rattle.flame_spec.specs.WideModels.{is_well_formed_type, is_well_formed_wide_variable}
 use Rattle.flame_nest.specs.FlatModels.{inside, replaced, spread, single, flat_variables}
 use Rattle.flame_nest.specs.NestFaults.{has_long}
-use Rattle.flame_nest.proofs.Joins.{or_first}
 
 -- what passes in all lists passes in their joined list
 pub list_all-flat_map : {X Y : Type 0} (p : Y → Bool) (f : X → List Y) (xs : List X)
@@ -171,7 +170,7 @@ all_formed (v ∷ variables) h e =
     (single_formed
     v
     (and_parts (is_shaped v) (list_all is_shaped variables) h).0
-    (or_first (nat_lt 100 (length v.name)) (has_long (map single variables)) e))
+    ((or_parts (nat_lt 100 (length v.name)) (has_long (map single variables)) e).0))
     (all_formed
     variables
     (and_parts (is_shaped v) (list_all is_shaped variables) h).1

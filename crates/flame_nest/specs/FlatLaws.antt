@@ -1,48 +1,16 @@
 -- What holds of flat models. [own]
-use Rattle.std.specs.Prelude.{◌≡◌, ℕ, List, [], ◌∷◌, map, codes, Bool, IsTrue}
+use Rattle.std.specs.Prelude.{◌≡◌, ℕ, List, [], ◌∷◌, Bool, IsTrue}
 use Rattle.std.specs.List.{flat_map, list_all}
 use Rattle.flame_spec.specs.declared.models.Model.{Model}
-use Rattle.flame_spec.specs.declared.models.Variable.{Variable}
-use Rattle.flame_spec.specs.declared.models.MessageType.{MessageType}
-use Rattle.flame_spec.specs.declared.models.AgentType.{AgentType}
 use Rattle.flame_spec.specs.declared.wide.Wide.{Wide}
 use Rattle.flame_spec.specs.declared.wide.WideVariable.{WideVariable}
-use Rattle.flame_spec.specs.declared.wide.WideMessage.{WideMessage}
-use Rattle.flame_spec.specs.declared.wide.WideAgent.{WideAgent}
 use Rattle.flame_spec.specs.WellFormed.{is_well_formed}
 use Rattle.flame_spec.specs.WideModels.{is_well_formed_wide}
+use Rattle.flame_spec.specs.PlainFiles.{as_file}
 use Rattle.flame_nest.specs.FlatModels.{flat, spread, joined_types, joined_messages}
 use Rattle.flame_nest.specs.NestFaults.{is_int, nest_faults}
 
--- ---- a model as one file, whose variables are all `int`
-
--- the variable of kind `int`
-abbrev pub int_variable : Variable → WideVariable
-int_variable variable = record { name = variable.name; kind = codes "int"; length = variable.length }
-
--- the message of such variables
-abbrev pub int_message : MessageType → WideMessage
-int_message message = record { name = message.name; variables = map int_variable message.variables }
-
--- the agent type of such variables
-abbrev pub int_agent : AgentType → WideAgent
-int_agent agent = record {
-  name = agent.name;
-  memory = map int_variable agent.memory;
-  functions = agent.functions;
-}
-
--- the file that says what the model is
-abbrev pub as_file : Model → Wide
-as_file model = record {
-  constants = model.constants;
-  files = model.files;
-  units = model.units;
-  types = [];
-  messages = map int_message model.messages;
-  agents = map int_agent model.agents;
-  nested = [];
-}
+-- ---- files whose variables are all `int`
 
 -- all variables are `int`
 abbrev pub are_int : List WideVariable → Bool

@@ -7,7 +7,7 @@ use Rattle.std.proofs.lemmas.List.Elements.{All-head, All-tail, filter_map-appen
 use Rattle.flame_rows.specs.Bags.{ascending, merge, weigh}
 use Rattle.flame_rows.proofs.BagLaws.{weigh-append, weigh-ascending}
 use Rattle.flame_field.proofs.Gathered.{merge-none}
-use Rattle.flame_rows.proofs.Merging.{ascending-append, ascending-ascending, merge-ascending, same_bag}
+use Rattle.flame_rows.proofs.Merging.{ascending-ascending, same_bag, ascending-append_merge}
 use Rattle.flame_spec.specs.Below.{HasNoTwice, is_in}
 use Rattle.flame_spec.specs.declared.outcomes.Born.{Born}
 use Rattle.flame_spec.specs.declared.outcomes.Outcome.{Outcome}
@@ -25,10 +25,6 @@ use Rattle.flame_nodes.specs.NodeLeavings.{AreLeftBy, IsOfRun, sent_among, sent_
 use Rattle.flame_nodes.specs.NodePieces.{agents_in}
 use Rattle.flame_nodes.proofs.SentParts.{among-weigh, parts-weigh, rows-append}
 use Rattle.flame_nodes.proofs.Totals.{Rows, Weight}
-
--- two lists, one behind the other, have the bags of both
-both-bags : (ones twos : Rows) → ascending (ones ++ twos) ≡ merge (ascending ones) (ascending twos)
-both-bags ones twos = ascending-append ones twos ∙ sym (merge-ascending (ascending ones) twos)
 
 -- lists of one bag weigh the same
 pub bag-weigh : (ones twos : Rows) → ascending ones ≡ ascending twos → (weight : Weight) → weigh weight ones ≡ weigh weight twos
@@ -143,10 +139,10 @@ module _ (iteration : ℤ) (function : ℕ) (run : List ℤ → Outcome) (output
     share-left least agents old new before survive send bear fail = record {
       survivors_are =
           ap ascending survive
-          ∙ both-bags old.survivors.items rest.survivors
+          ∙ ascending-append_merge old.survivors.items rest.survivors
           ∙ (λ i. merge (before.survivors_are i) (ascending (survivors-own i)))
           ∙ (λ i. merge (survivors run agents) (ascending-ascending (filter_map (λ memory. kept (run memory)) more) i))
-          ∙ sym (both-bags (filter_map (λ memory. kept (run memory)) agents) (filter_map (λ memory. kept (run memory)) more))
+          ∙ sym (ascending-append_merge (filter_map (λ memory. kept (run memory)) agents) (filter_map (λ memory. kept (run memory)) more))
           ∙ ap ascending (sym (filter_map-append (λ memory. kept (run memory)) agents more));
       messages_are = λ message.
           same_bag (messages_of new.sent.items message) (sent_among outputs (sent_from run (agents ++ more)) message)
@@ -160,9 +156,9 @@ module _ (iteration : ℤ) (function : ℕ) (run : List ℤ → Outcome) (output
       births_are = λ agent.
           ap (λ list. ascending (births_of list agent)) bear
           ∙ ap ascending (rows-append (λ (b : Born). b.agent == agent) (λ (b : Born). b.row) old.born.items rest.born)
-          ∙ both-bags (births_of old.born.items agent) (births_of rest.born agent)
+          ∙ ascending-append_merge (births_of old.born.items agent) (births_of rest.born agent)
           ∙ (λ i. merge (before.births_are agent i) (ascending (births_of (born-own i) agent)))
-          ∙ sym (both-bags (births_of (born_from run agents) agent) (births_of (born_from run more) agent))
+          ∙ sym (ascending-append_merge (births_of (born_from run agents) agent) (births_of (born_from run more) agent))
           ∙ ap ascending (sym (rows-append (λ (b : Born). b.agent == agent) (λ (b : Born). b.row) (born_from run agents) (born_from run more)))
           ∙ ap (λ list. ascending (births_of list agent)) (sym (flat_map-append (λ memory. born_by (run memory)) agents more));
       fault_is =

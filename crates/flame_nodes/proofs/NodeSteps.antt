@@ -6,7 +6,6 @@ use Rattle.std.proofs.lemmas.Bool.{eq-eqb}
 use Rattle.std.proofs.lemmas.Bool.Decides.{nat_tests}
 use Rattle.std.proofs.lemmas.List.Elements.{All-cons, All-head, All-nil, All-tail}
 use Rattle.flame_rows.specs.Bags.{ascending, merge, weigh}
-use Rattle.flame_rows.proofs.BagLaws.{IsAscending-ascending}
 use Rattle.flame_spec.specs.Below.{is_in}
 use Rattle.flame_spec.specs.Functions.{Place, functions}
 use Rattle.flame_spec.specs.States.{state_place}
@@ -17,12 +16,6 @@ use Rattle.flame_world.specs.AgentRuns.{born_from, births_of, least_fault, messa
 use Rattle.flame_world.specs.Fields.{Field, changed_pool, joined}
 use Rattle.flame_world.specs.Iterations.{Round, and_on, moved, outcome_in, staying, step, step_at, taking, unless_faulted}
 use Rattle.flame_world.proofs.JoinedBags.{joined_from-same}
-use Rattle.flame_field.specs.declared.boards.Board.{Board}
-use Rattle.flame_field.specs.declared.boards.Board.TheVariants as board
-use Rattle.flame_field.specs.KeptBoards.{board_bag}
-use Rattle.flame_index.specs.FrozenBoards.{messages_on, shared_messages}
-use Rattle.flame_meaning.specs.RangeLaws.{Each}
-use Rattle.flame_orders.proofs.SortedFields.{Up}
 use Rattle.flame_route.specs.declared.routes.Route.{Route}
 use Rattle.flame_nodes.specs.declared.lefts.Left.{Left}
 use Rattle.flame_nodes.specs.NodeLeavings.{AreLeftBy, sent_among}
@@ -95,27 +88,12 @@ module _ (iteration : ℤ) (function : ℕ) (run : List ℤ → Outcome) (output
       by true among = refl
       by false out = ap ascending (sym (alone message out))
 
--- ---- boards stand in order
-
-pub boards-up : (boards : List Board) → Each Up (map board_bag boards)
-boards-up [] = tt
-boards-up (one ∷ boards) = (bag one, boards-up boards)
-  where
-    bag : (one : Board) → Up (board_bag one)
-    bag (board.Gathering messages) = IsAscending-ascending messages.rows.items
-    bag (board.Frozen frozen) = IsAscending-ascending (messages_on frozen)
-    bag (board.Shared frozen) = IsAscending-ascending (shared_messages frozen)
-
 -- ---- faults
 
 -- where there is a fault, the field does not matter
 pub faulted-so : (fault : Option SimFault) (one other : Field) → is_some fault ≡ true → unless_faulted fault one ≡ unless_faulted fault other
 faulted-so None one other some = absurd (cc)
 faulted-so (Some fault) one other some = refl
-
-pub none-so : (fault : Option SimFault) → is_some fault ≡ false → fault ≡ None
-none-so None none = refl
-none-so (Some fault) none = absurd (cc)
 
 -- a fault stops what follows
 pub stops-so : (fault : Option SimFault) (field : Field) (go : Field → Result Field SimFault) → is_some fault ≡ true

@@ -1,19 +1,19 @@
 -- The bags of all nodes weigh what all takers do.
-use Rattle.std.proofs.Common.{◌≡◌, ℕ, zero, suc, ◌+◌, ◌*◌, ◌/◌, ◌%◌, ◌<◌, ◌≤◌, Bool, true, false, cond, List, [], ◌∷◌, ◌++◌, map, length, take, drop, refl, sym, ap, ◌∙◌, arith, Ordering}
-use Rattle.std.specs.Prelude.{ℤ, ◌==◌, min}
+use Rattle.std.proofs.Common.{◌≡◌, ℕ, zero, suc, ◌+◌, ◌*◌, ◌%◌, ◌<◌, ◌≤◌, Bool, true, false, cond, List, [], ◌∷◌, map, length, drop, refl, sym, ap, ◌∙◌, arith, Ordering}
+use Rattle.std.specs.Prelude.{ℤ, ◌==◌}
 use Rattle.std.specs.Int.{div_ceil}
-use Rattle.std.specs.List.{flat_map, range_with_len, sum_by}
+use Rattle.std.specs.List.{flat_map, range_with_len}
 use Rattle.std.proofs.lemmas.Grind.{div_ceil_times}
 use Rattle.std.proofs.lemmas.Nat.{mod_below}
-use Rattle.std.proofs.lemmas.List.{length-map, drop-drop, take-append-drop, drop_all}
+use Rattle.std.proofs.lemmas.List.{drop-drop, take-append-drop, drop_all}
 use Rattle.std.proofs.lemmas.List.FromFn.{length-map-range_with_len}
-use Rattle.std.proofs.lemmas.List.Sums.{sum_by-cons}
-use Rattle.flame_rows.specs.Bags.{ascending, merge_all, weigh}
+use Rattle.flame_rows.specs.Bags.{ascending, weigh}
 use Rattle.flame_rows.specs.Parted.{whose}
 use Rattle.flame_rows.specs.Sorted.{sorted_by}
-use Rattle.flame_rows.proofs.BagLaws.{weigh-append, weigh-ascending}
+use Rattle.flame_rows.proofs.BagLaws.{weigh-append, weigh-ascending, weigh-sum_by}
 use Rattle.flame_rows.proofs.Merging.{same_bag}
 use Rattle.flame_rows.proofs.Sorting.{sum_by-sorted_by}
+use Rattle.flame_world.proofs.Counting.{length-sorted_by}
 use Rattle.flame_nodes.specs.declared.partings.Parting.{Parting}
 use Rattle.flame_nodes.specs.declared.partings.Parting.TheVariants.{Rounds, Ranges}
 use Rattle.flame_nodes.specs.Partings.{parted, range_order, ranges, rounds, run_at}
@@ -51,20 +51,9 @@ rounds-weigh weight nodes takers some =
 
 -- ---- by ranges
 
-weigh-sum_by : (weight : Weight) (rows : Rows) → weigh weight rows ≡ sum_by weight rows
-weigh-sum_by weight [] = refl
-weigh-sum_by weight (row ∷ rows) = ap (λ n. weight row + n) (weigh-sum_by weight rows) ∙ sym (sum_by-cons weight row rows)
-
 weigh-sorted_by : (weight : Weight) (order : List ℤ → List ℤ → Ordering) (rows : Rows) → weigh weight (sorted_by order rows) ≡ weigh weight rows
 weigh-sorted_by weight order rows =
     weigh-sum_by weight (sorted_by order rows) ∙ sum_by-sorted_by order weight rows ∙ sym (weigh-sum_by weight rows)
-
-pub length-sorted_by : (order : List ℤ → List ℤ → Ordering) (rows : Rows) → length (sorted_by order rows) ≡ length rows
-length-sorted_by order rows = counted (sorted_by order rows) ∙ weigh-sorted_by (λ row. 1) order rows ∙ sym (counted rows)
-  where
-    counted : (rows : Rows) → length rows ≡ weigh (λ row. 1) rows
-    counted [] = refl
-    counted (row ∷ rows) = omega (arith, counted rows)
 
 -- runs that follow each other, to the end
 runs-weigh : (weight : Weight) (size : ℕ) (rows : Rows) (from count : ℕ) → length rows ≤ (from + count) * size

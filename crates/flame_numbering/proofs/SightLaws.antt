@@ -10,7 +10,8 @@ use Rattle.flame_spec.specs.Scopes.{Loop, laid, names_seen, is_local}
 use Rattle.flame_body.specs.WordSlots.{local_number}
 use Rattle.std.proofs.lemmas.Bool.Decides.{nat_tests}
 use Rattle.flame_rows.proofs.Bytes.{bytes_eq-sym}
-use Rattle.flame_body.proofs.NamesSeen.{among-number, among-laid, number-below}
+use Rattle.flame_spec.proofs.NamesLaid.{is_among-laid}
+use Rattle.flame_body.proofs.NamesSeen.{among-number, number-below}
 use Rattle.flame_numbering.specs.SightTables.{cut, total, sight_of, loop_of}
 
 -- names cut into scopes are those names
@@ -70,7 +71,7 @@ pub local-number :
     → here + total (reverse outer) ≡ length names
     → is_local (sight_of names here outer own loops) word ≡ is_some (local_number names word)
 local-number names here outer own loops word h =
-    among-laid word (cut (here ∷ reverse outer) names)
+    is_among-laid word (cut (here ∷ reverse outer) names)
     ∙ ap (is_among word) (laid-cut (here ∷ reverse outer) names h)
     ∙ among-number word names
 

@@ -1,11 +1,11 @@
 -- What a function came to stays, and the least rank of a faulted function stays until one more is shut with a fault.
-use Rattle.std.proofs.Common.{◌≡◌, ℕ, zero, suc, ⊎_elim, true, List, [], ◌∷◌, Some, None, refl, sym, ap, ◌∙◌, subst, get_or-set_other}
+use Rattle.std.proofs.Common.{◌≡◌, ℕ, zero, suc, ⊎_elim, true, List, [], ◌∷◌, None, refl, sym, ap, ◌∙◌, subst, get_or-set_other}
 use Rattle.std.specs.Prelude.{is_some, slice_get, slice_set, slice_index_or, position}
 use Rattle.std.proofs.lemmas.Bool.{cases_eq}
+use Rattle.std.proofs.lemmas.Option.{none-some}
 use Rattle.flame_spec.specs.declared.models.Model.{Model}
 use Rattle.flame_spec.specs.Functions.{functions}
 use Rattle.flame_spec.specs.ModelOrder.{model_order}
-use Rattle.flame_world.specs.declared.faults.SimFault.{SimFault}
 use Rattle.flame_world.specs.Iterations.{Round}
 use Rattle.flame_events.specs.declared.events.Event.{Event}
 use Rattle.flame_events.specs.declared.events.Event.TheVariants as event
@@ -20,13 +20,10 @@ use Rattle.flame_orders.proofs.Lasting.{finds_faultless, shut_lasts}
 pub shut_functions_stay : ShutFunctionsStay
 shut_functions_stay round pieces f e core legal shut = shut_lasts round pieces core e f legal shut
 
-some_none : (fault : SimFault) → None ≡ Some fault → ⊥
-some_none fault e = cc
-
 pub faults_stay : FaultsStay
 faults_stay round pieces f fault e core legal faulted =
     ap fault_of (other_functions_stay round pieces f e core
-    (λ own. some_none fault (sym (finds_faultless round.source.model core e f legal own) ∙ faulted)))
+    (λ own. none-some fault (sym (finds_faultless round.source.model core e f legal own) ∙ faulted)))
     ∙ faulted
 
 -- ---- all faults

@@ -5,7 +5,7 @@ use Rattle.std.specs.Option.{option_or}
 use Rattle.std.specs.List.{list_all, filter_map}
 use Rattle.std.proofs.lemmas.Bool.{and_from, le-ltb}
 use Rattle.std.proofs.lemmas.List.{length-map, length_push}
-use Rattle.flame_rows.proofs.Lists.{slice_index_or-map_one}
+use Rattle.flame_rows.proofs.Lists.{slice_index_or-map_one, slice_get-behind, slice_set-read}
 use Rattle.flame_rows.specs.Cuts.{cut}
 use Rattle.flame_spec.specs.declared.outcomes.Outcome.{Outcome}
 use Rattle.flame_spec.specs.Below.{is_in, HasNoTwice}
@@ -36,7 +36,7 @@ use Rattle.flame_events.proofs.Growing.{histories_grow}
 use Rattle.flame_events.proofs.HandedTogether.{parts_are_handed_in_at_once}
 use Rattle.flame_events.proofs.KeptCores.{KeptWork, kept_core, open_there}
 use Rattle.flame_orders.specs.WholeFunctions.{all_agent_events, all_hand_in_events, function_events, agents_in_pieces, left_by, done_by, WholeFunctionsRun, OpenedPiecesAreTakers, OpenedFunctionsMove}
-use Rattle.flame_orders.proofs.Gatherings.{came, came_twice, nobody_came, joined_more, fresh_parts, all_sent, parts_join, get_behind, set_behind, set_read}
+use Rattle.flame_orders.proofs.Gatherings.{came, came_twice, nobody_came, joined_more, fresh_parts, all_sent, parts_join, set_behind}
 use Rattle.flame_orders.proofs.Lasting.{led_on}
 use Rattle.flame_orders.proofs.OnceOutputs.{outputs_once}
 use Rattle.flame_orders.proofs.SentOutputs.{sends_to_outputs}
@@ -63,7 +63,7 @@ module _ (round : Round) (pieces f : ℕ) (place : Place) (there : slice_get (fu
   works_in works field = ap works_of (get_or-set_same core.statuses f (Open works) Waiting less)
 
   work_at : (before : List Work) (work : Work) (rest : List Work) (field : Field) → work_of (stage (before ++ work ∷ rest) field) f (length before) ≡ Some work
-  work_at before work rest field = ap (λ l. slice_get l (length before)) (works_in (before ++ work ∷ rest) field) ∙ get_behind before work rest
+  work_at before work rest field = ap (λ l. slice_get l (length before)) (works_in (before ++ work ∷ rest) field) ∙ slice_get-behind before work rest
 
   put_at : (before : List Work) (work new : Work) (rest : List Work) (field : Field)
       → with_work (stage (before ++ work ∷ rest) field) f (length before) new ≡ slice_set core.statuses f (Open (before ++ new ∷ rest))
@@ -227,7 +227,7 @@ module _ (round : Round) (pieces f : ℕ) (place : Place) (there : slice_get (fu
   whole_run works once none sorted is ready =
       let agents = agents_in_pieces works in
       let start : core ≡ stage works (with_rows []) =
-      let statuses = set_read core.statuses f (Open works) Waiting less is in
+      let statuses = slice_set-read core.statuses f (Open works) Waiting less is in
       let field = nobody_came place run core.field sorted in
       λ i. record { statuses = sym statuses i; field = sym field i; frozen = core.frozen } in
       let boards = joined_from-none (λ m. []) 0 core.field.boards (λ m. refl) sorted.boards in

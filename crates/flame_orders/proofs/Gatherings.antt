@@ -1,11 +1,11 @@
 -- What pieces of a function leave one after another is what they leave together.
 use Rattle.std.proofs.Common.{◌≡◌, ℕ, zero, suc, ◌+◌, ◌<◌, ◌≤◌, ⊎_elim, true, false, List, [], ◌∷◌, ◌++◌, length, map, Option, Some, None, refl, sym, ap, ◌∙◌, arith}
-use Rattle.std.specs.Prelude.{◌==◌, is_some, slice_get, slice_set, slice_index_or}
+use Rattle.std.specs.Prelude.{◌==◌, is_some, slice_set, slice_index_or}
 use Rattle.std.specs.List.{list_all, filter_map, position_or_len}
 use Rattle.std.proofs.lemmas.Bool.{cases_Bool, cases_lt, true≢false}
 use Rattle.std.proofs.lemmas.List.{length-map}
 use Rattle.flame_rows.specs.Bags.{ascending, merge}
-use Rattle.flame_rows.proofs.BagLaws.{weigh-append, weigh-ascending, merge_adds_weights, equal_by_weighings, IsAscending-merge, merge_associates, empty_is_unit}
+use Rattle.flame_rows.proofs.BagLaws.{merge_associates, empty_is_unit}
 use Rattle.flame_spec.specs.declared.outcomes.Outcome.{Outcome}
 use Rattle.flame_spec.specs.declared.outcomes.Sent.{Sent}
 use Rattle.flame_spec.specs.Below.{is_in}
@@ -15,47 +15,15 @@ use Rattle.flame_meaning.specs.RangeLaws.{Each}
 use Rattle.flame_world.specs.AgentRuns.{kept, survivors, sent_from, born_from, messages_of, births_of}
 use Rattle.flame_world.specs.Fields.{Field, changed, changed_pool, joined_from, joined, pool_in}
 use Rattle.flame_world.proofs.Changing.{changed_pool-same, joined_from-none, pool-IsAscending}
+use Rattle.flame_world.proofs.JoinedBags.{joined_from-twice}
 use Rattle.flame_events.specs.CoreStates.{part_in}
 use Rattle.flame_events.specs.EventSteps.{with_sent}
 use Rattle.flame_events.specs.HandedPieces.{with_part, with_parts}
 use Rattle.flame_events.proofs.Weights.{Row, Rows}
 use Rattle.flame_events.proofs.Holding.{Ideal, lived-append, sent-append, born-append}
 use Rattle.flame_events.proofs.Works.{place_in, in_place, past_end, length-with_sent, part_in-with_sent, more_of}
+use Rattle.flame_events.proofs.Absorbing.{changed_twice, sorted_twice}
 use Rattle.flame_orders.proofs.SortedFields.{Up, IsSorted}
-
--- ---- bags that two lists of rows join
-
-merged_twice : (bag one other : Rows) → merge (merge bag one) other ≡ merge bag (one ++ other)
-merged_twice bag one other =
-    equal_by_weighings (merge (merge bag one) other) (merge bag (one ++ other)) (IsAscending-merge (merge bag one) other) (IsAscending-merge bag (one ++ other))
-    (λ w. omega (arith, merge_adds_weights w (merge bag one) other, merge_adds_weights w bag one, merge_adds_weights w bag (one ++ other), weigh-append w one other))
-
-sorted_twice : (bag one other : Rows) → merge (merge bag (ascending one)) (ascending other) ≡ merge bag (ascending (one ++ other))
-sorted_twice bag one other =
-    equal_by_weighings (merge (merge bag (ascending one)) (ascending other)) (merge bag (ascending (one ++ other)))
-    (IsAscending-merge (merge bag (ascending one)) (ascending other)) (IsAscending-merge bag (ascending (one ++ other)))
-    (λ w. omega (
-      arith,
-      merge_adds_weights w (merge bag (ascending one)) (ascending other),
-      merge_adds_weights w bag (ascending one),
-      merge_adds_weights w bag (ascending (one ++ other)),
-      weigh-ascending w one,
-      weigh-ascending w other,
-      weigh-ascending w (one ++ other),
-      weigh-append w one other,
-    ))
-
-changed_twice : {X : Type 0} (place : ℕ) (one other both : X → X) → ((x : X) → other (one x) ≡ both x) → (xs : List X) → changed place other (changed place one xs) ≡ changed place both xs
-changed_twice place one other both same [] = refl
-changed_twice zero one other both same (x ∷ xs) = ap (λ y. y ∷ xs) (same x)
-changed_twice (suc place) one other both same (x ∷ xs) = ap (λ ys. x ∷ ys) (changed_twice place one other both same xs)
-
-joined_twice : (i : ℕ) (one other both : ℕ → Rows) → ((k : ℕ) → both k ≡ one k ++ other k) → (bags : List Rows) → joined_from i other (joined_from i one bags) ≡ joined_from i both bags
-joined_twice i one other both same [] = refl
-joined_twice i one other both same (bag ∷ bags) =
-    let here = merged_twice bag (one i) (other i) ∙ ap (merge bag) (sym (same i)) in
-    let rest = joined_twice (i + 1) one other both same bags in
-    λ j. here j ∷ rest j
 
 -- ---- what agents leave
 
@@ -82,8 +50,7 @@ module _ (place : Place) (run : Row → Outcome) where
       changed_twice place.agent (changed s (add one)) (changed s (add other)) (changed s (add (one ++ other)))
       (λ own. changed_twice s (add one) (add other) (add (one ++ other)) pool own) field.pools in
       let born =
-      joined_twice 0 (births_of (born_from run one)) (births_of (born_from run other)) (births_of (born_from run (one ++ other)))
-      (λ n. born-append ideal_of 0 n one other) field.born in
+      (sym (joined_from-twice 0 (births_of (born_from run one)) (births_of (born_from run other)) (births_of (born_from run (one ++ other))) (λ n. born-append ideal_of 0 n one other) field.born)) in
       λ i. record { pools = pools i; born = born i; boards = field.boards }
 
   pub nobody_came : (field : Field) → IsSorted field → came [] field ≡ field
@@ -98,8 +65,7 @@ module _ (place : Place) (run : Row → Outcome) where
   pub joined_more : (one other : Rows) (boards : List Rows)
       → joined (messages_of (sent_from run other)) (joined (messages_of (sent_from run one)) boards) ≡ joined (messages_of (sent_from run (one ++ other))) boards
   joined_more one other boards =
-      joined_twice 0 (messages_of (sent_from run one)) (messages_of (sent_from run other)) (messages_of (sent_from run (one ++ other)))
-      (λ m. sent-append ideal_of 0 m one other) boards
+      (sym (joined_from-twice 0 (messages_of (sent_from run one)) (messages_of (sent_from run other)) (messages_of (sent_from run (one ++ other))) (λ m. sent-append ideal_of 0 m one other) boards))
 
 -- ---- parts of a piece that is fresh
 
@@ -154,15 +120,6 @@ module _ (outs : List ℕ) (messages : List Sent) (none : (m : ℕ) → is_in m 
 
 -- ---- one element of a list
 
-pub get_behind : {X : Type 0} (before : List X) (x : X) (rest : List X) → slice_get (before ++ x ∷ rest) (length before) ≡ Some x
-get_behind [] x rest = refl
-get_behind (y ∷ before) x rest = get_behind before x rest
-
 pub set_behind : {X : Type 0} (before : List X) (x y : X) (rest : List X) → slice_set (before ++ x ∷ rest) (length before) y ≡ before ++ y ∷ rest
 set_behind [] x y rest = refl
 set_behind (z ∷ before) x y rest = ap (λ l. z ∷ l) (set_behind before x y rest)
-
-pub set_read : {X : Type 0} (xs : List X) (k : ℕ) (x d : X) → k < length xs → slice_index_or xs k d ≡ x → slice_set xs k x ≡ xs
-set_read [] k x d less at = refl
-set_read (y ∷ xs) zero x d less at = ap (λ z. z ∷ xs) (sym at)
-set_read (y ∷ xs) (suc k) x d less at = ap (λ l. y ∷ l) (set_read xs k x d (omega (arith, less)) at)

@@ -3,7 +3,7 @@ use Rattle.std.proofs.Common.{◌≡◌, ℕ, zero, suc, ◌⊎◌, inl, inr, �
 use Rattle.std.specs.Prelude.{◌&&◌, nat_lt, not, is_some, is_none, slice_get, slice_set, slice_index_or, length}
 use Rattle.std.specs.List.{list_all}
 use Rattle.std.proofs.lemmas.Bool.{and_parts, and_from, cases_eq, true≢false, false≢true, not-true}
-use Rattle.flame_rows.proofs.Lists.{list_all-at}
+use Rattle.flame_rows.proofs.Lists.{list_all-at, slice_get-slice_set}
 use Rattle.flame_spec.specs.declared.models.Model.{Model}
 use Rattle.flame_spec.specs.Before.{function_count}
 use Rattle.flame_meaning.proofs.Eachs.{each_at}
@@ -19,7 +19,6 @@ use Rattle.flame_events.proofs.Works.{all_of_list, kept_is_output, without, part
 use Rattle.flame_events.proofs.Sound.{both_wait, waiting_is, can_open, opens_with}
 use Rattle.flame_events.proofs.Legality.{may_shut_is, each_also}
 use Rattle.flame_events.proofs.CoreWidths.{status_below}
-use Rattle.flame_events.proofs.Absorbing.{get_set}
 use Rattle.flame_events.proofs.Growing.{histories_grow}
 use Rattle.flame_events.proofs.KeptCores.{KeptWork, KeptCore, kept_core}
 use Rattle.flame_orders.specs.LastingLegality.{LegalityLasts, LegalityLastsLong}
@@ -225,7 +224,7 @@ hands_again outs core g j n m work at over long one other apart =
         let step : handed_in g j n outs (work_of core g j) core ≡ joined_board g j n outs work (Some rows) core =
         ap (λ o. handed_in g j n outs o core) at ∙ ap (λ o. joined_board g j n outs work o core) is in
         let again : work_of (joined_board g j n outs work (Some rows) core) g j ≡ Some new =
-        ap (λ s. slice_get (works_of s) j) (get_or-set_same core.statuses g (Open (slice_set works j new)) Waiting (status_below core g j work at)) ∙ get_set works j work new at in
+        ap (λ s. slice_get (works_of s) j) (get_or-set_same core.statuses g (Open (slice_set works j new)) Waiting (status_below core g j work at)) ∙ slice_get-slice_set works j new work at in
         let part : part_in outs new.parts m ≡ Some more =
         part_in-without-else outs n m work (kept_is_output outs work.parts n rows long is) (kept_is_output outs work.parts m more long p_is) apart ∙ p_is in
         ap (λ c. may_hand_in outs (work_of c g j) m) step ∙ ap (λ o. may_hand_in outs o m) again

@@ -4,6 +4,7 @@ use Rattle.std.specs.Prelude.{◌==◌, ◌&&◌, nat_lt, not, is_some, is_none,
 use Rattle.std.specs.List.{list_all, position_or_len}
 use Rattle.std.proofs.lemmas.Bool.{and_parts, and_from, cases_eq, cases_Bool, ltb-true, lt-ltb, true≢false, false≢true}
 use Rattle.flame_rows.specs.Cuts.{cut}
+use Rattle.flame_rows.proofs.Lists.{slice_get-slice_set, slice_get-some}
 use Rattle.flame_spec.specs.declared.models.Model.{Model}
 use Rattle.flame_spec.specs.declared.outcomes.Outcome.{Outcome}
 use Rattle.flame_spec.specs.declared.outcomes.Sent.{Sent}
@@ -12,7 +13,7 @@ use Rattle.flame_spec.specs.Below.{is_in}
 use Rattle.flame_spec.specs.Functions.{functions}
 use Rattle.flame_spec.proofs.FirstBelow.{is_in-all_below}
 use Rattle.flame_meaning.specs.RangeLaws.{Each}
-use Rattle.flame_meaning.proofs.Eachs.{each_at, each_from}
+use Rattle.flame_meaning.proofs.Eachs.{each_at}
 use Rattle.flame_world.specs.AgentRuns.{sent_by}
 use Rattle.flame_world.specs.declared.faults.SimFault.{SimFault}
 use Rattle.flame_world.specs.Iterations.{Round, taking, outcome_in}
@@ -21,16 +22,13 @@ use Rattle.flame_events.specs.declared.events.Event.TheVariants as event
 use Rattle.flame_events.specs.CoreStates.{Work, Waiting, Open, is_waiting, is_shut, works_of, has_left, part_in, fault_in, Core, status_of, work_of, is_frozen}
 use Rattle.flame_events.specs.LegalEvents.{predecessors, inputs_of, outputs_of, writers, are_shut, may_open, may_run, may_hand_in, may_shut, may_freeze, is_over, is_legal}
 use Rattle.flame_events.specs.EventSteps.{fresh_work, opened, with_agent, ran_agent, ran_next, joined_board, handed_in, done_with, after}
-use Rattle.flame_events.proofs.EvenCuts.{cuts_are_even}
 use Rattle.flame_events.proofs.Weights.{Row, Rows}
-use Rattle.flame_events.proofs.Spots.{get_there}
 use Rattle.flame_events.proofs.Serial.{is_in-self, is_in-later}
 use Rattle.flame_events.proofs.Works.{all_of_list, place_in, kept_is_output, without, part_in-without, part_in-without-else, part_in-with_sent, more_of}
 use Rattle.flame_events.proofs.Sound.{can_open}
 use Rattle.flame_events.proofs.Legality.{done_waits, may_shut_is}
 use Rattle.flame_events.proofs.CoreWidths.{status_below}
-use Rattle.flame_events.proofs.Absorbing.{get_set}
-use Rattle.flame_events.proofs.KeptCores.{KeptWork, KeptCore, kept_core, open_there}
+use Rattle.flame_events.proofs.KeptCores.{KeptWork, KeptCore, kept_core, open_there, cut_filled}
 use Rattle.flame_orders.specs.NewlyLegal.{Allows, NewlyLegalIsAllowed}
 use Rattle.flame_orders.specs.UntouchedParts.{its_function, frozen_by}
 use Rattle.flame_orders.proofs.Untouched.{other_functions_stay, other_pieces_stay, other_marks_stay}
@@ -62,11 +60,6 @@ still_some (Some rows) messages m some none = false≢true none
 
 -- ---- what a legal event leaves of its function
 
-cut_filled : (pieces : ℕ) (agents : Rows) → Each (λ bag. 0 < length bag) (cut pieces agents)
-cut_filled zero agents = tt
-cut_filled (suc pieces) agents =
-    each_from (λ bag. 0 < length bag) (cut (suc pieces) agents) (λ k bag at. ((cuts_are_even agents (suc pieces) (omega arith)).filled k bag at).0)
-
 all_left : (outs : List ℕ) (bags : List Rows) → Each (λ bag. 0 < length bag) bags → Each (λ work. has_left work ≡ true) (map (fresh_work outs) bags)
 all_left outs [] filled = tt
 all_left outs (bag ∷ bags) filled = (lt-ltb 0 (length bag) filled.0, all_left outs bags filled.1)
@@ -82,7 +75,7 @@ opened_is round pieces core f kept legal =
     let model = round.source.model in
     let outs = outputs_of model f in
     let can = can_open model core f legal in
-    let place = get_there (functions model) f can.below in
+    let place = slice_get-some (functions model) f can.below in
     let bags = cut pieces (taking round f place.0 core.field) in
     record {
       works = map (fresh_work outs) bags;
@@ -101,7 +94,7 @@ changed_is : (core next : Core) (f k : ℕ) (work new : Work) → work_of core f
 changed_is core next f k work new at so =
     let works = works_of (status_of core f) in
     let is = so ∙ get_or-set_same core.statuses f (Open (slice_set works k new)) Waiting (status_below core f k work at) in
-    record { is = is; there = ap (λ s. slice_get (works_of s) k) is ∙ get_set works k work new at }
+    record { is = is; there = ap (λ s. slice_get (works_of s) k) is ∙ slice_get-slice_set works k new work at }
 
 record Ran (round : Round) (pieces : ℕ) (core : Core) (f k : ℕ) : Type 0 where
   pub work : Work
@@ -117,8 +110,8 @@ ran_is round pieces core f k kept legal =
     let model = round.source.model in
     let found = runs core f k legal in
     let work = found.work in
-    let place = get_there (functions model) f (omega (arith, status_below core f k work found.there, kept.long)) in
-    let memory = get_there work.agents work.ran (ltb-true work.ran (length work.agents) found.left) in
+    let place = slice_get-some (functions model) f (omega (arith, status_below core f k work found.there, kept.long)) in
+    let memory = slice_get-some work.agents work.ran (ltb-true work.ran (length work.agents) found.left) in
     let outcome = outcome_in round f core.field memory.0 in
     record {
       work = work;

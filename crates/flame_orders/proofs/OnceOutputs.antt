@@ -11,10 +11,10 @@ use Rattle.flame_spec.specs.declared.outcomes.Source.{Source}
 use Rattle.flame_spec.specs.Accepted.{IsAccepted}
 use Rattle.flame_spec.specs.Below.{times, HasNoTwice}
 use Rattle.flame_spec.specs.Functions.{Place, functions}
+use Rattle.flame_spec.proofs.FunctionPlaces.{functions_from-function}
 use Rattle.flame_meaning.specs.Outcomes.{message_named, outputs_at}
 use Rattle.flame_spec_laws.specs.DistinctNames.{AreDistinct}
 use Rattle.flame_spec_laws.proofs.Members.{outputs_distinct}
-use Rattle.flame_world.proofs.NextStates.{function_at}
 use Rattle.flame_world.proofs.RowsKept.{place_type}
 use Rattle.flame_events.specs.LegalEvents.{outputs_of}
 use Rattle.flame_events.proofs.Spots.{named}
@@ -77,7 +77,7 @@ outputs_once source accepted f = go (slice_get (functions source.model) f) refl
     go : (o : Option Place) → slice_get (functions source.model) f ≡ o → HasNoTwice (outputs_at o source.model)
     go None at = λ n. omega arith
     go (Some place) at =
-        let found = function_at 0 source.model.agents f place at in
+        let found = functions_from-function 0 source.model.agents f place at in
         once source.model place.function.outputs
         (outputs_distinct source.model accepted.named place.agent found.0 place.type place.function
         (place_type source.model f place at) found.1)

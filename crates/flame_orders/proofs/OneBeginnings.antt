@@ -1,105 +1,31 @@
 -- Two cores that legal events led to from one beginning have one ideal, and agree on what it tells.
-use Rattle.std.proofs.Common.{◌≡◌, ℕ, zero, suc, ◌<◌, ◌≤◌, ⊎_elim, Bool, true, false, cond, List, [], ◌∷◌, ◌++◌, length, map, Option, Some, None, refl, sym, ap, ◌∙◌, arith, subst}
-use Rattle.std.specs.Prelude.{ℤ, slice_get, slice_index_or}
+use Rattle.std.proofs.Common.{◌≡◌, ℕ, zero, suc, ◌<◌, ◌≤◌, ⊎_elim, true, false, List, [], ◌∷◌, length, map, Option, Some, None, refl, sym, ap, ◌∙◌, arith, subst}
+use Rattle.std.specs.Prelude.{slice_get, slice_index_or}
 use Rattle.std.specs.List.{flat_map}
-use Rattle.std.proofs.lemmas.Bool.{cases_lt, true≢false, false≢true}
-use Rattle.std.proofs.lemmas.List.{length-map, get_or_past}
+use Rattle.std.proofs.lemmas.Bool.{cases_lt, false≢true}
+use Rattle.std.proofs.lemmas.List.{get_or_past}
 use Rattle.std.proofs.lemmas.Option.{same_Some}
-use Rattle.flame_rows.specs.Order.{row_order}
-use Rattle.flame_rows.specs.Sorted.{IsAscending}
-use Rattle.flame_rows.specs.Bags.{weigh}
 use Rattle.flame_rows.specs.Cuts.{cut}
-use Rattle.flame_rows.proofs.BagLaws.{weigh-append}
-use Rattle.flame_rows.proofs.Lists.{slice_index_or-map_one}
-use Rattle.flame_spec.specs.declared.models.AgentType.{AgentType}
-use Rattle.flame_spec.specs.declared.models.MessageType.{MessageType}
-use Rattle.flame_spec.specs.Before.{function_count}
-use Rattle.flame_spec.specs.Below.{is_in}
 use Rattle.flame_spec.specs.Functions.{functions}
 use Rattle.flame_spec_laws.specs.NameLaws.{MessagesDiffer}
 use Rattle.flame_world.specs.declared.faults.SimFault.{SimFault}
 use Rattle.flame_world.specs.Fields.{opening}
 use Rattle.flame_world.specs.Iterations.{Round}
-use Rattle.flame_world.proofs.Changing.{pool-IsAscending}
-use Rattle.flame_world.proofs.Counting.{pools_begin}
-use Rattle.flame_events.specs.CoreStates.{Work, Status, Waiting, Open, is_waiting, works_of, Core, status_of, is_frozen, opening_core}
+use Rattle.flame_events.specs.CoreStates.{Work, Open, works_of, Core, status_of, is_frozen, opening_core}
 use Rattle.flame_events.specs.EventSteps.{done_with}
 use Rattle.flame_events.specs.LegalEvents.{inputs_of, outputs_of}
-use Rattle.flame_events.proofs.Weights.{Rows, weigh-same, only, all_from, weigh-all_from-none}
-use Rattle.flame_events.proofs.Spots.{Spot, same_spot, enters, pool_at, state_at, choice_at}
-use Rattle.flame_events.proofs.Holding.{Ideal, into, onto, bore, rests, resting, full_board, Holds, meets_board}
+use Rattle.flame_events.proofs.Weights.{Rows}
+use Rattle.flame_events.proofs.Spots.{Spot, pool_at}
+use Rattle.flame_events.proofs.Holding.{Ideal, full_board, meets_board}
 use Rattle.flame_events.proofs.Serial.{ideal, should_fault, over_same}
 use Rattle.flame_events.proofs.SerialEnds.{serial_end}
-use Rattle.flame_events.proofs.Works.{its_agents, ran_rows, handed_rows, Fits, all_of_list}
+use Rattle.flame_events.proofs.Works.{its_agents, Fits, all_of_list}
 use Rattle.flame_events.proofs.Sound.{Sound, still_in, ran_in, handed_in, shut_handed, opens_with}
 use Rattle.flame_events.proofs.Legality.{sound_replay}
 use Rattle.flame_events.proofs.Messages.{accepted_sends}
+use Rattle.flame_events.proofs.EveryOrders.{begins, sound_opening}
 use Rattle.flame_orders.specs.OneBeginning.{HaveOneBeginning, FrozenBoardsAgree, OutcomesAgree, PiecesAgree, OpenFunctionsAgree, DoneFunctionsAgree}
 use Rattle.flame_orders.proofs.CutWorks.{IsCutUp, AreCutUp, replay_cut, opening_cut, cut_of_all}
-use Rattle.flame_orders.proofs.SortedFields.{sorted_core}
-
--- ---- where an iteration begins
-
-nothing_from : (b : Bool) (w : List ℤ → ℕ) → weigh w (cond b [] []) ≡ 0
-nothing_from true w = refl
-nothing_from false w = refl
-
-always : (o : Option ℕ) → rests (λ f. true) o ≡ true
-always None = refl
-always (Some f) = refl
-
-begins : (round : Round) (agents : List Rows) (t : Ideal) → length agents ≡ length round.source.model.agents
-    → Holds round (λ p. pool_at round.source.model (opening round.source.model agents).pools p) t (opening round.source.model agents) (λ f. true) (λ g. []) (λ m g. [])
-begins round agents t many =
-    let model = round.source.model in
-    let n = function_count model in
-    let field = opening model agents in
-    let from = λ (p : Spot). pool_at model field.pools p in
-    let sorted = sorted_core round 0 (opening_core model agents) (record { agents = agents; events = []; leads = record { legal = refl; left = refl } }) in
-    record {
-      pools = λ p w.
-          let none = weigh-all_from-none w n (into model t (λ g. []) p) (λ g. nothing_from (same_spot (enters model g) p) w) in
-          let all = weigh-same (only (resting round (λ f. true) p) w) w (from p ++ all_from n (into model t (λ g. []) p))
-          (λ memory. ap (λ b. cond b (w memory) 0) (always (choice_at round p memory))) in
-          omega (arith, none, all, weigh-append w (from p) (all_from n (into model t (λ g. []) p)));
-      boards = λ m w less.
-          ap (weigh w) (slice_index_or-map_one [] model.messages m)
-          ∙ sym (weigh-all_from-none w n (onto model t (λ g. []) m) (λ g. nothing_from (is_in m (outputs_of model g)) w));
-      born = λ k w less.
-          ap (weigh w) (slice_index_or-map_one [] model.agents k) ∙ sym (weigh-all_from-none w n (bore t (λ g. []) k) (λ g. refl));
-      pools_up = λ p. pool-IsAscending field.pools p.agent (state_at (slice_get model.agents p.agent) p.state) sorted.pools;
-      boards_up = λ m. subst (IsAscending row_order) (sym (slice_index_or-map_one [] model.messages m)) tt;
-      born_up = λ k. subst (IsAscending row_order) (sym (slice_index_or-map_one [] model.agents k)) tt;
-      shape = record {
-        pools = pools_begin model agents many;
-        born = length-map model.agents (λ (type : AgentType). []);
-        boards = length-map model.messages (λ (message : MessageType). []);
-      };
-    }
-
-sound_opening : (round : Round) (agents : List Rows) (t : Ideal) → length agents ≡ length round.source.model.agents
-    → Sound round (λ p. pool_at round.source.model (opening round.source.model agents).pools p) t (opening_core round.source.model agents)
-sound_opening round agents t many =
-    let model = round.source.model in
-    let core = opening_core model agents in
-    let from = λ (p : Spot). pool_at model (opening model agents).pools p in
-    let waits : (λ (f : ℕ). Waiting) ≡ status_of core = λ i f. sym (slice_index_or-map_one Waiting (functions model) f) i in
-    let facts =
-    subst (λ (status : ℕ → Status).
-    Holds round from t (opening model agents) (λ f. is_waiting (status f))
-    (λ g. ran_rows (t.agents g) (status g)) (λ m g. handed_rows (outputs_of model g) m (t.agents g) (status g))
-    × ((f : ℕ) → Fits round t f (status f))
-    × ((f : ℕ) → is_waiting (status f) ≡ false → ⊥))
-    waits (begins round agents t many, (λ f. tt), (λ f e. true≢false e)) in
-    record {
-      long = length-map (functions model) (λ place. Waiting);
-      marks = length-map model.messages (λ message. false);
-      holds = facts.0;
-      fits = facts.1;
-      early = λ g f less stands e. absurd (facts.2 f e);
-      fed = λ f e. absurd (facts.2 f e);
-      written = λ m g less frozen writes. absurd (true≢false (sym frozen ∙ slice_index_or-map_one false model.messages m));
-    }
 
 -- ---- both cores have one ideal
 

@@ -5,7 +5,7 @@ use Rattle.std.specs.List.{zip}
 use Rattle.flame_rows.specs.Bags.{ascending, merge}
 use Rattle.flame_rows.specs.Order.{row_order}
 use Rattle.flame_rows.specs.Sorted.{IsAscending}
-use Rattle.flame_rows.proofs.BagLaws.{IsAscending-ascending, IsAscending-merge}
+use Rattle.flame_rows.proofs.BagLaws.{IsAscending-ascending, IsAscending-merge, IsAscending-filter}
 use Rattle.flame_spec.specs.declared.models.AgentType.{AgentType}
 use Rattle.flame_spec.specs.declared.models.Model.{Model}
 use Rattle.flame_spec.specs.Choice.{choice, is_chosen}
@@ -22,7 +22,7 @@ use Rattle.flame_events.specs.CoreLaws.{EventsLeadTo}
 use Rattle.flame_events.specs.CoreStates.{Work, part_in, Core, work_of, opening_core}
 use Rattle.flame_events.specs.EventSteps.{opened, ran_agent, ran_next, joined_board, handed_in, after, replay}
 use Rattle.flame_events.specs.LegalEvents.{outputs_of}
-use Rattle.flame_events.proofs.Weights.{Row, Rows, IsAscending-filter}
+use Rattle.flame_events.proofs.Weights.{Row, Rows}
 
 abbrev pub Up : Rows → Type 0
 Up rows = IsAscending row_order rows

@@ -1,7 +1,8 @@
 -- What an event leaves as it was.
-use Rattle.std.proofs.Common.{◌≡◌, ℕ, zero, suc, ⊎_elim, true, false, List, [], ◌∷◌, Option, Some, None, refl, sym, ap, ◌∙◌, subst, get_or-set_same, get_or-set_other}
+use Rattle.std.proofs.Common.{◌≡◌, ℕ, ⊎_elim, true, false, List, [], Option, Some, None, refl, sym, ap, ◌∙◌, subst, get_or-set_same, get_or-set_other}
 use Rattle.std.specs.Prelude.{slice_get, slice_set, slice_index_or}
 use Rattle.std.proofs.lemmas.Bool.{cases_eq, false≢true}
+use Rattle.flame_rows.proofs.Lists.{slice_get-slice_set_other}
 use Rattle.flame_spec.specs.Functions.{Place, functions}
 use Rattle.flame_world.specs.Iterations.{Round}
 use Rattle.flame_events.specs.declared.events.Event.TheVariants as event
@@ -53,13 +54,6 @@ other_functions_stay round pieces g (event.Freeze m) core apart = refl
 
 -- ---- other pieces
 
-get_set_else : {X : Type 0} (xs : List X) (i j : ℕ) (x : X) → (j ≡ i → ⊥) → slice_get (slice_set xs i x) j ≡ slice_get xs j
-get_set_else [] i j x apart = refl
-get_set_else (y ∷ xs) zero zero x apart = absurd (apart refl)
-get_set_else (y ∷ xs) zero (suc j) x apart = refl
-get_set_else (y ∷ xs) (suc i) zero x apart = refl
-get_set_else (y ∷ xs) (suc i) (suc j) x apart = get_set_else xs i j x (λ same. apart (ap suc same))
-
 work_else : (core : Core) (f k g j : ℕ) (work new : Work) → work_of core f k ≡ Some work → (j ≡ k → ⊥)
     → slice_get (works_of (slice_index_or (with_work core f k new) g Waiting)) j ≡ work_of core g j
 work_else core f k g j work new at apart = ⊎_elim
@@ -67,7 +61,7 @@ work_else core f k g j work new at apart = ⊎_elim
     subst (λ h. slice_get (works_of (slice_index_or (with_work core f k new) h Waiting)) j ≡ work_of core h j) (sym same)
     (ap (λ s. slice_get (works_of s) j)
     (get_or-set_same core.statuses f (Open (slice_set (works_of (status_of core f)) k new)) Waiting (status_below core f k work at))
-    ∙ get_set_else (works_of (status_of core f)) k j new apart))
+    ∙ slice_get-slice_set_other (works_of (status_of core f)) k j new apart))
     (λ (else : g ≡ f → ⊥). ap (λ s. slice_get (works_of s) j) (get_or-set_other core.statuses f g _ Waiting else))
     (cases_eq g f)
 

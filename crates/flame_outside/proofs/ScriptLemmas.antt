@@ -1,5 +1,5 @@
 -- How scripts stand: act by act, part by part, and over calls that only read.
-use Rattle.std.proofs.Common.{◌≡◌, ◌+◌, ◌≤◌, ◌⊎◌, ℕ, zero, suc, List, [], ◌∷◌, ◌++◌, length, take, drop, Option, refl, sym, ap, ◌∙◌, subst, inl, inr, arith, le_refl, length-append, true≢false}
+use Rattle.std.proofs.Common.{◌≡◌, ◌+◌, ◌≤◌, ◌⊎◌, ℕ, zero, suc, List, [], ◌∷◌, ◌++◌, length, take, drop, Option, refl, sym, ap, ◌∙◌, subst, inl, inr, arith, le_refl, length-append, true≢false, take_all}
 use Rattle.std.specs.Prelude.{IsTrue}
 use Rattle.std.proofs.Math.Seq.{take-append-add, drop-append-add}
 use Rattle.std.proofs.lemmas.List.{take-append-le, drop-append-le, take_all, drop_all}
@@ -197,17 +197,14 @@ pub first_stand :
     → StandsAt acts done old new
 first_stand acts done old new few whole = record { few = few; stands = inl whole }
 
-all_taken : (acts : List Act) → take (length acts) acts ≡ acts
-all_taken acts = take_all (length acts) acts (le_refl (length acts))
-
 pub all_stand : (acts : List Act) (old new : Outside) → StandsWhole acts old new → StandsAt acts (length acts) old new
 all_stand acts old new whole =
     first_stand acts (length acts) old new (le_refl (length acts))
-    (whole ∙ ap (λ taken. after_acts taken (told old)) (sym (all_taken acts)))
+    (whole ∙ ap (λ taken. after_acts taken (told old)) (sym (take_all (length acts) acts (omega arith))))
 
 pub stands_all : (acts : List Act) (old new : Outside) → StandsAt acts (length acts) old new → StandsWhole acts old new
 stands_all acts old new s =
-    whole s.stands ∙ ap (λ taken. after_acts taken (told old)) (all_taken acts)
+    whole s.stands ∙ ap (λ taken. after_acts taken (told old)) (take_all (length acts) acts (omega arith))
   where
     stood : Told
     stood = after_acts (take (length acts) acts) (told old)

@@ -23,7 +23,7 @@ pub place_read : (tokens : List Token) (at mid : ℕ) (s : Option Indexed) (rest
     (drop mid tokens) s rest → Place (drop at tokens) (text (drop at tokens)) s rest
 place_read tokens at mid s rest f n r = placed f (next_of (λ ts. Index ts s rest) tokens at mid n r)
 
-abbrev Made : ℕ → List ℕ → Option Indexed → Option Op → ℕ → Stored → Assigned
+abbrev pub Made : ℕ → List ℕ → Option Indexed → Option Op → ℕ → Stored → Assigned
 Made n word s op m v = record { line = n; name = word; subscript = s; op = op; op_line = m; value = v }
 
 pub sets_read : (tokens : List Token) (at mid end : ℕ) (word : List ℕ) (s : Option Indexed) (op : Option Op) (v : Stored) → Place (drop at tokens)

@@ -21,6 +21,7 @@ use Rattle.flame_parse.specs.AssignmentOperators.{set_op, step_op, joins_item, j
 use Rattle.flame_parse.specs.StatementGrammar.{Stores, an_expression, a_call, Initial, no_initial, an_initial, Place, placed, OneParameter, a_parameter, MoreParameters, no_parameter, parameter_more, SomeParameters, listed, Parameters, none_given, void_given, some_given, Item, an_item, MoreItems, no_item, item_more, Items, items, Declaration, declaration, Assignment, sets, steps_behind, steps_before, MoreArgs, no_arg, arg_more, Args, args, Called, no_args, some_args, AssignedTo, assigned_to, Simple, nothing, assigning, calling, returning, breaking, continuing, First, no_first, first_assign, first_decl, Test, no_test, a_test, Step, no_step, a_step, Heading, heading, Block, braces, Stmts, no_stmt, stmt_more, Stmt, declaring, blocking, branching, whiling, repeating, doing, looping, simply, Elses, no_else, else_if, an_else, Body, in_braces, one_simple, Defined, Definition, definition, Definitions, no_definition, definition_more}
 use Rattle.flame_parse.specs.Parsing.{IsUnit}
 use Rattle.flame_parse.proofs.Beginnings.{setter, stepper}
+use Rattle.flame_parse.proofs.Assigns.{Made}
 
 -- none of these lexemes is next
 abbrev IsEnd : List Lexeme → List Token → Type 0
@@ -185,31 +186,28 @@ step_stops d o e = of_each (λ l. among l (joins 0) ≡ false) steppers d (refl,
 stop_all : (ts : List Token) → IsEnd (joins 6) ts → IsStop 0 ts
 stop_all ts h = stop_below 0 ts (stop_below 1 ts (stop_below 2 ts (stop_below 3 ts (stop_below 4 ts (stop_below 5 ts h)))))
 
-abbrev made : ℕ → List ℕ → Option Indexed → Option Op → ℕ → Stored → Assigned
-made n w s o m v = record { line = n; name = w; subscript = s; op = o; op_line = m; value = v }
-
 only_assignment : (ts r r' : List Token) (a a' : Assigned) → Assignment ts a r → Assignment ts a' r' → IsEnd (joins 6) r → IsEnd (joins 6) r' → (a ≡ a') × (r ≡ r')
 only_assignment ts r r' a a' (sets {mid = m} {s = s} {op = o} {v = v} (placed f x) g y) (sets {mid = m'} {s = s'} {op = o'} {v = v'} (placed f' x') g' y') h h' =
     let i = one_index (behind ts) m m' s s' x x' (set_stops (first m) o g) (set_stops (first m') o' g') in
     let j : o ≡ o' = same_Some o o' (sym g ∙ ap (λ z. set_op (first z)) i.1 ∙ g') in
     let k = only_stores (behind m') r r' v v' (subst (λ z. Stores (behind z) v r) i.1 y) y' h h' in (
-      ap (λ z. made (line ts) (text ts) z o (line m) v) i.0 ∙ ap (λ z. made (line ts) (text ts) s' z (line m) v) j ∙ ap
-          (λ z. made (line ts) (text ts) s' o' (line z) v) i.1 ∙ ap (made (line ts) (text ts) s' o' (line m')) k.0,
+      ap (λ z. Made (line ts) (text ts) z o (line m) v) i.0 ∙ ap (λ z. Made (line ts) (text ts) s' z (line m) v) j ∙ ap
+          (λ z. Made (line ts) (text ts) s' o' (line z) v) i.1 ∙ ap (Made (line ts) (text ts) s' o' (line m')) k.0,
       k.1,
     )
 only_assignment ts r r' a a' (steps_behind {mid = m} {s = s} {op = o} (placed f x) g) (steps_behind {mid = m'} {s = s'} {op = o'} (placed f' x') g') h h' =
     let i = one_index (behind ts) m m' s s' x x' (step_stops (first m) o g) (step_stops (first m') o' g') in
     let j : o ≡ o' = same_Some o o' (sym g ∙ ap (λ z. step_op (first z)) i.1 ∙ g') in (
-      ap (λ z. made (line ts) (text ts) z (Some o) (line m) (plain (number (pos 1)))) i.0 ∙ ap
-          (λ z. made (line ts) (text ts) s' (Some z) (line m) (plain (number (pos 1)))) j ∙ ap
-          (λ z. made (line ts) (text ts) s' (Some o') (line z) (plain (number (pos 1)))) i.1,
+      ap (λ z. Made (line ts) (text ts) z (Some o) (line m) (plain (number (pos 1)))) i.0 ∙ ap
+          (λ z. Made (line ts) (text ts) s' (Some z) (line m) (plain (number (pos 1)))) j ∙ ap
+          (λ z. Made (line ts) (text ts) s' (Some o') (line z) (plain (number (pos 1)))) i.1,
       ap behind i.1,
     )
 only_assignment ts r r' a a' (steps_before {s = s} {op = o} g (placed f x)) (steps_before {s = s'} {op = o'} g' (placed f' x')) h h' =
     let i = one_index (behind (behind ts)) r r' s s' x x' (stop_all r h) (stop_all r' h') in
     let j : o ≡ o' = same_Some o o' (sym g ∙ g') in (
-      ap (λ z. made (line (behind ts)) (text (behind ts)) z (Some o) (line ts) (plain (number (pos 1)))) i.0 ∙ ap
-          (λ z. made (line (behind ts)) (text (behind ts)) s' (Some z) (line ts) (plain (number (pos 1)))) j,
+      ap (λ z. Made (line (behind ts)) (text (behind ts)) z (Some o) (line ts) (plain (number (pos 1)))) i.0 ∙ ap
+          (λ z. Made (line (behind ts)) (text (behind ts)) s' (Some z) (line ts) (plain (number (pos 1)))) j,
       i.1,
     )
 only_assignment ts r r' a a' (sets {mid = m} {s = s} {op = o} (placed f x) g y) (steps_behind {mid = m'} {s = s'} {op = o'} (placed f' x') g') h h' =

@@ -1,5 +1,6 @@
 -- What has been read up to a place.
-use Rattle.std.proofs.Common.{◌≡◌, ℕ, ◌+◌, ◌≤◌, List, [], ◌∷◌, ◌++◌, length, drop, map, refl, sym, ap, subst, arith}
+use Rattle.std.proofs.Common.{◌≡◌, ℕ, ◌+◌, ◌≤◌, List, [], ◌∷◌, ◌++◌, length, drop, map, sym, subst, arith, append_assoc, append-nil}
+use Rattle.std.proofs.lemmas.List.{map_push}
 use Rattle.flame_spec.specs.Trees.{Expression, Statement}
 use Rattle.flame_spec.specs.Seen.{expressions_of, statements_of}
 use Rattle.flame_lex.specs.declared.token.Token.{Token}
@@ -28,27 +29,15 @@ pub record RunOn {D : Type 0} (J : List Lexeme) (X : List Symbol) (P : List Toke
 pub run_begin : {D : Type 0} (J : List Lexeme) (X : List Symbol) (P : List Token → List D → List Token → Type 0) (tokens : List Token) (at : ℕ) → at ≤ length tokens → RunOn J X P tokens at at []
 run_begin J X P tokens at h = record { ahead = omega arith; within = h; tree = λ ds rest p. p; ended = λ end p. p; stopped = λ n p. p }
 
-append_one : {D : Type 0} (found ds : List D) (d : D) → (found ++ d ∷ []) ++ ds ≡ found ++ d ∷ ds
-append_one [] ds d = refl
-append_one (x ∷ found) ds d = ap (λ ys. x ∷ ys) (append_one found ds d)
-
-append_none : {D : Type 0} (found : List D) → found ++ [] ≡ found
-append_none [] = refl
-append_none (x ∷ found) = ap (λ ys. x ∷ ys) (append_none found)
-
-map_one : {X D : Type 0} (f : X → D) (xs : List X) (x : X) → map f (xs ++ x ∷ []) ≡ map f xs ++ f x ∷ []
-map_one f [] x = refl
-map_one f (y ∷ xs) x = ap (λ ys. f y ∷ ys) (map_one f xs x)
-
 pub run_step : {X D : Type 0} (f : X → D) (J : List Lexeme) (S : List Symbol) (P : List Token → List D → List Token → Type 0) (tokens : List Token)
     (at place mid : ℕ) (found : List X) (x : X) → RunOn J S P tokens at place (map f found) → place ≤ mid → mid ≤ length tokens →
     ((ds : List D) (rest : List Token) → P (drop mid tokens) ds rest → P (drop place tokens) (f x ∷ ds) rest) →
     ((end : ℕ) → Ended J S tokens mid end → Ended J S tokens place end) → ((n : ℕ) → Stopped J S tokens mid n → Stopped J S tokens place n) → RunOn J S
     P tokens at mid (map f (found ++ x ∷ []))
-run_step f J S P tokens at place mid found x i le within t e s = subst (RunOn J S P tokens at mid) (sym (map_one f found x)) (record {
+run_step f J S P tokens at place mid found x i le within t e s = subst (RunOn J S P tokens at mid) (sym (map_push f found x)) (record {
   ahead = omega (arith, i.ahead, le);
   within = within;
-  tree = λ ds rest p. subst (λ ys. P (drop at tokens) ys rest) (sym (append_one (map f found) ds (f x))) (i.tree _ rest (t ds rest p));
+  tree = λ ds rest p. subst (λ ys. P (drop at tokens) ys rest) (sym (append_assoc (map f found) ((f x) ∷ []) ds)) (i.tree _ rest (t ds rest p));
   ended = λ end p. i.ended end (e end p);
   stopped = λ n p. i.stopped n (s n p);
 })
@@ -61,14 +50,14 @@ pub run_push : {D : Type 0} (J : List Lexeme) (S : List Symbol) (P : List Token 
 run_push J S P tokens at place mid found d i le within t e s = record {
   ahead = omega (arith, i.ahead, le);
   within = within;
-  tree = λ ds rest p. subst (λ ys. P (drop at tokens) ys rest) (sym (append_one found ds d)) (i.tree _ rest (t ds rest p));
+  tree = λ ds rest p. subst (λ ys. P (drop at tokens) ys rest) (sym (append_assoc found (d ∷ []) ds)) (i.tree _ rest (t ds rest p));
   ended = λ end p. i.ended end (e end p);
   stopped = λ n p. i.stopped n (s n p);
 }
 
 pub run_read : {D : Type 0} (J : List Lexeme) (X : List Symbol) (P : List Token → List D → List Token → Type 0) (tokens : List Token) (at place : ℕ)
     (found : List D) → RunOn J X P tokens at place found → P (drop place tokens) [] (drop place tokens) → P (drop at tokens) found (drop place tokens)
-run_read J X P tokens at place found i n = subst (λ ys. P (drop at tokens) ys (drop place tokens)) (append_none found) (i.tree [] _ n)
+run_read J X P tokens at place found i n = subst (λ ys. P (drop at tokens) ys (drop place tokens)) (append-nil found) (i.tree [] _ n)
 
 -- the lists by their parts
 abbrev pub ArgsRead : List Token → List Expression → List Token → Type 0

@@ -4,12 +4,13 @@ use Rattle.std.specs.Prelude.{slice_set, slice_index_or, ◌==◌, nat_lt}
 use Rattle.std.specs.List.{position, position_or_len}
 use Rattle.std.proofs.lemmas.Bool.{eq-eqb, ne_eqb, cases_eq, ltb-true, ltb-false}
 use Rattle.std.proofs.lemmas.List.Sums.{sum_by-cons}
+use Rattle.std.proofs.lemmas.Option.{cond_some}
 use Rattle.flame_spec.specs.Below.{times, HasNoTwice}
 use Rattle.flame_spec.specs.declared.outcomes.Sent.{Sent}
 use Rattle.flame_spec.proofs.NoTwice.{later-once}
 use Rattle.flame_world.specs.AgentRuns.{messages_of}
 use Rattle.flame_events.proofs.Holding.{messages_of-append}
-use Rattle.flame_pieces.proofs.KeptParts.{place-cons, apart_head, some_or_none, none_or_some, stands, stands_behind}
+use Rattle.flame_pieces.proofs.KeptParts.{place-cons, apart_head, none_or_some, stands, stands_behind}
 
 one_message : (one : Sent) (message : ℕ) → messages_of (one ∷ []) message ≡ cond (one.message == message) (one.row ∷ []) []
 one_message one message =
@@ -89,7 +90,7 @@ nowhere one (output ∷ outputs) past message there same =
 pub found_within : (message : ℕ) (outputs : List ℕ) (k : ℕ) → position (λ o. o == message) outputs ≡ Some k → k < length outputs
 found_within message outputs k found =
     let place = place_of message outputs in
-    let parts = some_or_none (nat_lt place (length outputs)) place k found in
+    let parts = cond_some (nat_lt place (length outputs)) place k found in
     omega (arith, ltb-true place (length outputs) parts.0, parts.1)
 
 pub found_more : (sent : List Sent) (one : Sent) (outputs : List ℕ) (k : ℕ) → HasNoTwice outputs
@@ -98,7 +99,7 @@ pub found_more : (sent : List Sent) (one : Sent) (outputs : List ℕ) (k : ℕ) 
     ≡ map (messages_of (sent ++ one ∷ [])) outputs
 found_more sent one outputs k once found =
     let place = place_of one.message outputs in
-    let parts = some_or_none (nat_lt place (length outputs)) place k found in
+    let parts = cond_some (nat_lt place (length outputs)) place k found in
     let within = ltb-true place (length outputs) parts.0 in
     at_place sent one outputs k once (omega (arith, within, parts.1)) parts.1
 

@@ -1,44 +1,16 @@
 -- Counts of those that wait.
-use Rattle.std.proofs.Common.{◌≡◌, ℕ, zero, suc, ◌+◌, ◌-◌, ◌<◌, ◌≤◌, List, [], ◌∷◌, length, take, get_or, set, refl, sym, ap, ◌∙◌, subst, arith, ⊎_elim, Bool, true, false, cond, get_or-set_same, get_or-set_other, length-set, zero-add}
+use Rattle.std.proofs.Common.{◌≡◌, ℕ, zero, suc, ◌+◌, ◌-◌, ◌<◌, List, [], ◌∷◌, length, get_or, set, refl, sym, ap, ◌∙◌, subst, arith, ⊎_elim, Bool, true, false, cond, get_or-set_same, get_or-set_other, length-set, zero-add}
 use Rattle.std.specs.Prelude.{◌==◌, ◌||◌, not, slice_index, slice_set}
 use Rattle.std.specs.List.{All, list_all}
 use Rattle.std.proofs.lemmas.Bool.{eq-eqb, ne_eqb, cases_eq}
 use Rattle.std.proofs.lemmas.List.Elements.{All-set, All-push, All-get_or}
 use Rattle.std.proofs.lemmas.List.Folds.{sum_by-zero}
-use Rattle.std.proofs.lemmas.List.Sums.{sum_by-cons, sum_by_push, sum_by_more, sum_by_more_le, sum_by-set}
+use Rattle.std.proofs.lemmas.List.Sums.{sum_by-cons, sum_by_push, sum_by-set}
 use Rattle.flame_spec.specs.Below.{is_in, times}
 use Rattle.flame_pieces.specs.Waiting.{Awaited, thing_at, is_free, waited_by, finished, open_times, AreCounts}
 
 abbrev pub one : Bool → ℕ
 one here = cond here 1 0
-
--- ---- one less for each
-
--- there is one to take away
-pub some_left : (waiters : List ℕ) (i left all : ℕ) → i < length waiters → left + times (get_or waiters i 0) (take i waiters) ≡ all
-    → times (get_or waiters i 0) waiters ≤ all → 1 ≤ left
-some_left waiters i left all within so_far enough =
-    let here = ap one (eq-eqb (get_or waiters i 0) (get_or waiters i 0) refl) in
-    omega (arith, sum_by_more_le (λ x. cond (x == get_or waiters i 0) 1 0) waiters i 0 within, here, so_far, enough)
-
-pub lessened : (waiters counts before : List ℕ) (i : ℕ) → i < length waiters → get_or waiters i 0 < length counts → 1 ≤ get_or counts (get_or waiters i 0) 0
-    → (number : ℕ) → get_or counts number 0 + times number (take i waiters) ≡ get_or before number 0
-    → get_or (set counts (get_or waiters i 0) (get_or counts (get_or waiters i 0) 0 - 1)) number 0 + times number (take (i + 1) waiters) ≡ get_or before number 0
-lessened waiters counts before i within there some number so_far =
-    let waiter = get_or waiters i 0 in
-    let after = set counts waiter (get_or counts waiter 0 - 1) in
-    let more = sum_by_more (λ x. cond (x == number) 1 0) waiters i 0 within in
-    ⊎_elim
-    (λ (same : waiter ≡ number).
-    let counted = ap one (eq-eqb waiter number same) in
-    let here : get_or after number 0 ≡ get_or counts waiter 0 - 1 = ap (λ k. get_or after k 0) (sym same) ∙ get_or-set_same counts waiter (get_or counts waiter 0 - 1) 0 there in
-    let was : get_or counts waiter 0 ≡ get_or counts number 0 = ap (λ k. get_or counts k 0) same in
-    omega (arith, here, was, counted, more, so_far, some))
-    (λ (apart : waiter ≡ number → ⊥).
-    let none = ap one (ne_eqb waiter number apart) in
-    let here : get_or after number 0 ≡ get_or counts number 0 = get_or-set_other counts waiter number (get_or counts waiter 0 - 1) 0 (λ same. apart (sym same)) in
-    omega (arith, here, none, more, so_far))
-    (cases_eq waiter number)
 
 -- ---- a thing changes
 

@@ -5,6 +5,7 @@ use Rattle.std.specs.List.{find, list_all, position, position_or_len}
 use Rattle.std.proofs.lemmas.Bool.{eq-eqb, ne_eqb, cases_eq, ltb-true, ltb-false}
 use Rattle.std.proofs.lemmas.List.{length-map}
 use Rattle.std.proofs.lemmas.List.Sums.{sum_by-cons}
+use Rattle.std.proofs.lemmas.Option.{cond_some}
 use Rattle.flame_rows.specs.Bags.{ascending, merge}
 use Rattle.flame_rows.proofs.BagLaws.{length-ascending}
 use Rattle.flame_rows.proofs.Lists.{slice_index_or-map}
@@ -113,10 +114,6 @@ place_is message [] = refl
 place_is message (output ∷ outputs) =
     ap (λ n. cond (not (output.message == message)) (1 + n) 0) (place_is message outputs)
 
-pub some_or_none : (b : Bool) (k i : ℕ) → cond b (Some k) None ≡ Some i → (b ≡ true) × (k ≡ i)
-some_or_none true k i is = let same : k ≡ i = cc in (refl, same)
-some_or_none false k i is = absurd cc
-
 pub none_or_some : (b : Bool) (k : ℕ) → (let none : Option ℕ = None in cond b (Some k) None ≡ none) → b ≡ false
 none_or_some true k is = absurd cc
 none_or_some false k is = refl
@@ -124,7 +121,7 @@ none_or_some false k is = refl
 pub place_found : (message : ℕ) (outputs : List Output) (i : ℕ) → position (test message) outputs ≡ Some i
     → (i < length outputs) × (place_in message outputs ≡ i)
 place_found message outputs i found =
-    let parts = some_or_none (nat_lt (position_or_len (test message) outputs) (length outputs)) (position_or_len (test message) outputs) i found in
+    let parts = cond_some (nat_lt (position_or_len (test message) outputs) (length outputs)) (position_or_len (test message) outputs) i found in
     let within = ltb-true (position_or_len (test message) outputs) (length outputs) parts.0 in
     (omega (arith, within, parts.1), sym (place_is message outputs) ∙ parts.1)
 

@@ -107,7 +107,7 @@ ones_clear all i (type ∷ types) (bag ∷ bags) found apart are =
     (λ row is path. one_clear all path i type row found.0 apart.0 is) bag are.0.1)
     (ones_clear all (i + 1) types bags found.1 apart.1 are.1)
 
-among_more :
+pub among_more :
     (name : List ℕ) (names : List (List ℕ)) (other : List ℕ)
     → is_among name names ≡ false → bytes_eq name other ≡ false → is_among name (names ++ other ∷ []) ≡ false
 among_more name [] other h e = ap (λ b. b || false) e
@@ -116,10 +116,10 @@ among_more name (first ∷ names) other h e =
     ap₂ (λ a b. a || b) both.0 (among_more name names other both.1 e)
 
 -- no earlier member has the name of the type
-abbrev IsNewAfter : List Data → AgentType → Type 0
+abbrev pub IsNewAfter : List Data → AgentType → Type 0
 IsNewAfter before type = is_among type.name (taken_names Two before) ≡ false
 
-new_after :
+pub new_after :
     (before : List Data) (name : List ℕ) (bag : List (List ℤ)) (types : List AgentType)
     → IsNoneOf name (map (λ (type : AgentType). type.name) types)
     → Each (IsNewAfter before) types
@@ -161,7 +161,7 @@ twos_clear all path values before n i (type ∷ types) (bag ∷ bags) split long
     (new_after before type.name bag types apart.0 new.1)
     apart.1 found.1 are.1)
 
-none_before : (types : List AgentType) → Each (IsNewAfter []) types
+pub none_before : (types : List AgentType) → Each (IsNewAfter []) types
 none_before [] = tt
 none_before (type ∷ types) = (refl, none_before types)
 

@@ -1,7 +1,7 @@
 -- Agents that are dealt out to their types.
-use Rattle.std.proofs.Common.{◌≡◌, ℕ, zero, suc, ◌+◌, ◌<◌, List, [], ◌∷◌, ◌++◌, length, get_or, map, refl, ap, ap₂, sym, ◌∙◌, subst, arith, add-zero}
+use Rattle.std.proofs.Common.{◌≡◌, ℕ, suc, ◌+◌, ◌<◌, List, [], ◌∷◌, ◌++◌, length, get_or, map, refl, ap, ap₂, sym, ◌∙◌, subst, arith, add-zero}
 use Rattle.std.proofs.Common.{Bool, true, false, cond, Option, Some, None, append-nil}
-use Rattle.std.specs.Prelude.{ℤ, ◌==◌, slice_get, slice_set, slice_index_or, if◌then◌else◌, option_and_then, replicate, Vec}
+use Rattle.std.specs.Prelude.{ℤ, ◌==◌, slice_get, slice_set, slice_index_or, option_and_then, replicate, Vec, if◌then◌else◌}
 use Rattle.std.specs.Global.{Global}
 use Rattle.std.specs.Option.{option_map_or}
 use Rattle.std.proofs.lemmas.Bool.{eqb-true, eqb-false}
@@ -9,7 +9,7 @@ use Rattle.std.proofs.lemmas.List.{flat_map_more, length-replicate, get_or-repli
 use Rattle.std.proofs.lemmas.Option.{slice_get_within}
 use Rattle.serde_json.specs.Data.{Data}
 use Rattle.flame_rows.specs.Bags.{ascending}
-use Rattle.flame_rows.proofs.Lists.{slice_index_or-map}
+use Rattle.flame_rows.proofs.Lists.{slice_index_or-map, slice_index_or-map_slice_set, slice_index_or-map_slice_set_other}
 use Rattle.flame_spec.specs.declared.models.AgentType.{AgentType}
 use Rattle.flame_spec.specs.Lists.{each_from}
 use Rattle.flame_spec.proofs.Numbered.{numbered_from-stands}
@@ -17,7 +17,7 @@ use Rattle.flame_popfile.specs.declared.formats.Format.{Format}
 use Rattle.flame_popfile.specs.PopulationFaults.{type_named, type_in, agent_parts, member_name_faults, content_faults}
 use Rattle.flame_popfile.specs.PopulationParts.{name_in}
 use Rattle.flame_popfile.specs.PopulationAgents.{agents_in, is_of_type, agents_of_type, agents_of}
-use Rattle.flame_popfile.specs.DealtAgents.{AreDealt, AreAdded, rows_of, bags_of}
+use Rattle.flame_popfile.specs.DealtAgents.{AreDealt, AreAdded}
 
 -- lists that are known number by number
 numbered_lists :
@@ -75,17 +75,6 @@ dealt_more format types values value before after dealt added = record {
       ∙ flat_map_more here [] values value;
 }
 
--- the bags of rows are those of the rows' lists
-pub bags_of-rows : (dealt : Vec (Vec (List ℤ) Global) Global) → bags_of dealt ≡ map ascending (rows_of dealt)
-bags_of-rows dealt = each_bag dealt.items
-  where
-    each_bag :
-        (all : List (Vec (List ℤ) Global))
-        → map (λ (rows : Vec (List ℤ) Global). ascending rows.items) all
-        ≡ map ascending (map (λ (rows : Vec (List ℤ) Global). rows.items) all)
-    each_bag [] = refl
-    each_bag (rows ∷ all) = ap (λ bags. ascending rows.items ∷ bags) (each_bag all)
-
 -- ---- the type that a member names
 
 -- the type that is found has its number
@@ -123,25 +112,6 @@ parts_found format types earlier path value found is =
     (λ (o : Option (ℕ × AgentType)). member_name_faults types earlier path value
     ++ option_map_or (λ (one : ℕ × AgentType). content_faults format one.1 path value) o [])
     is
-
--- ---- what is written stands there, and elsewhere nothing changes
-
-written_here :
-    {X Y : Type 0} (g : X → Y) (d : Y) (xs : List X) (i : ℕ) (new : X)
-    → i < length xs → slice_index_or (map g (slice_set xs i new)) i d ≡ g new
-written_here g d [] i new within = absurd (omega (arith, within))
-written_here g d (x ∷ xs) zero new within = refl
-written_here g d (x ∷ xs) (suc i) new within = written_here g d xs i new (omega (arith, within))
-
-written_elsewhere :
-    {X Y : Type 0} (g : X → Y) (d : Y) (xs : List X) (i n : ℕ) (new : X)
-    → (i ≡ n → ⊥) → slice_index_or (map g (slice_set xs i new)) n d ≡ slice_index_or (map g xs) n d
-written_elsewhere g d [] i n new other = refl
-written_elsewhere g d (x ∷ xs) zero zero new other = absurd (other refl)
-written_elsewhere g d (x ∷ xs) zero (suc n) new other = refl
-written_elsewhere g d (x ∷ xs) (suc i) zero new other = refl
-written_elsewhere g d (x ∷ xs) (suc i) (suc n) new other =
-    written_elsewhere g d xs i n new (λ e. other (ap suc e))
 
 -- ---- a member's agents were added to those of its type
 
@@ -182,7 +152,7 @@ added_at format types value dealt place type old new same_count found was become
         → slice_index_or (map items_of (slice_set dealt place new)) place []
         ≡ slice_index_or (map items_of dealt) place [] ++ agents_in format other.memory value
     at_place other same =
-        written_here items_of [] dealt place new within
+        slice_index_or-map_slice_set items_of [] dealt place new within
         ∙ becomes
         ∙ ap₂ (λ l (t : AgentType). l ++ agents_in format t.memory value) (sym (slice_index_or-map items_of [] dealt place old within was)) same
 
@@ -199,5 +169,5 @@ added_at format types value dealt place type old new same_count found was become
         ≡ slice_index_or (map items_of dealt) n [] ++ agents_in format other.memory value)
         same (at_place other type_same)
     at_number number other there false e =
-        written_elsewhere items_of [] dealt place number new (eqb-false place number e)
+        slice_index_or-map_slice_set_other items_of [] dealt place number new (eqb-false place number e)
         ∙ sym (append-nil (slice_index_or (map items_of dealt) number []))

@@ -1,6 +1,6 @@
 -- A population without faults holds a start of the model.
 use Rattle.std.proofs.Common.{◌≡◌, ℕ, suc, ◌+◌, List, [], ◌∷◌, length, take, Bool, true, false, cond, Option, Some, None, Result, Ok, Err, refl, sym, ap, ◌∙◌, subst, arith, add-zero, codes}
-use Rattle.std.specs.Prelude.{ℤ, pos, IfOk, ◌+ℤ◌, ◌≤ℤ◌, int_le, ◌==◌, if◌then◌else◌, slice_get, unwrap_or}
+use Rattle.std.specs.Prelude.{ℤ, pos, IfOk, ◌+ℤ◌, ◌≤ℤ◌, int_le, ◌==◌, slice_get, unwrap_or, if◌then◌else◌}
 use Rattle.std.specs.List.{AllZip}
 use Rattle.std.specs.Option.{option_map_or}
 use Rattle.std.proofs.lemmas.Bool.{eqb-true}
@@ -33,7 +33,7 @@ use Rattle.flame_popfile.specs.declared.faults.PopKind.TheVariants.{Shape, OutOf
 use Rattle.flame_popfile.specs.declared.formats.Format.{Format}
 use Rattle.flame_popfile.specs.declared.formats.Format.TheVariants.{One, Two}
 use Rattle.flame_popfile.specs.declared.starts.Start.{Start}
-use Rattle.flame_popfile.specs.PopulationReads.{Reads}
+use Rattle.flame_spec.specs.FirstFaults.{Reads}
 use Rattle.flame_popfile.specs.PopulationParts.{number_of, members_of, refused, optional, object_faults, list_faults, number_faults, is_itno}
 use Rattle.flame_popfile.specs.PopulationFaults.{environment_faults, type_in, content_faults, member_name_faults, agent_parts, agent_faults}
 use Rattle.flame_popfile.specs.PopulationFaults.{taken_names, agents_faults, world_faults, version_faults, format_of, itno_of, limit_faults}

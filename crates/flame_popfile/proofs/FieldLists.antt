@@ -1,34 +1,18 @@
 -- The texts of variables, written from the last.
-use Rattle.std.proofs.Common.{◌≡◌, ℕ, zero, suc, ◌+◌, ◌-◌, ◌<◌, List, [], ◌∷◌, ◌++◌, true, length, take, drop, get_or, refl, sym, subst, ap, ◌∙◌, arith, inl, inr, eq-zero-or-pos, length-append}
+use Rattle.std.proofs.Common.{◌≡◌, ℕ, ◌+◌, ◌-◌, ◌<◌, List, [], ◌∷◌, ◌++◌, true, length, take, drop, get_or, refl, sym, subst, ap, ◌∙◌, arith, inl, inr, eq-zero-or-pos, length-append}
 use Rattle.std.proofs.Common.{append_assoc}
 use Rattle.std.specs.Prelude.{ℤ, nat_lt}
 use Rattle.std.proofs.lemmas.List.{at_drop_more, drop-drop, get_or_append_left}
 use Rattle.std.proofs.Math.Seq.{get_or-append_seam}
 use Rattle.flame_spec.specs.declared.models.Variable.{Variable}
 use Rattle.flame_spec.specs.Columns.{width, width_of}
+use Rattle.flame_spec.proofs.VariableWidths.{width_more}
 use Rattle.flame_popfile.specs.RowTexts.{named_text, value_text, variable_texts}
 use Rattle.flame_popfile.specs.CommaTexts.{comma_where, behind}
 use Rattle.flame_popfile.specs.FieldTexts.{IsField}
 use Rattle.flame_popfile.specs.declared.fields.Field.{Field}
 use Rattle.flame_popfile.proofs.CommaLists.{one_more}
 use Rattle.flame_popfile.proofs.VariableTexts.{pushed_named}
-
--- the width of one variable more
-pub width_more :
-    (variables : List Variable) (i : ℕ) (variable : Variable)
-    → i < length variables
-    → get_or variables i variable ≡ variable
-    → width (take (i + 1) variables) ≡ width (take i variables) + width_of variable
-width_more [] i variable h is = absurd (omega (arith, h))
-width_more (first ∷ variables) zero variable h is = rw is (omega arith)
-width_more (first ∷ variables) (suc i) variable h is =
-    let next : suc i + 1 ≡ suc (i + 1) = omega arith in
-    ap (λ n. width (take n (first ∷ variables))) next
-    ∙ ap (λ n. width_of first + n) (width_more variables i variable (omega (arith, h)) is)
-    ∙ apart (width_of first) (width (take i variables)) (width_of variable)
-  where
-    apart : (a b c : ℕ) → a + (b + c) ≡ (a + b) + c
-    apart a b c = omega arith
 
 -- a field more
 pub fields_more :
@@ -69,7 +53,7 @@ field_before variables i field row after h is =
     ++ (value_text variable.length (drop n row)
     ++ (behind true (variable_texts later (drop (width (take (i + 1) variables)) row)) ++ after))) is.column
     ∙ ap (λ l. key ++ (value ++ (behind true (variable_texts later l) ++ after)))
-    (ap (λ n. drop n row) (width_more variables i variable h is.variable)
+    (ap (λ n. drop n row) (width_more variables i variable h (sym is.variable))
     ∙ sym (drop-drop (width_of variable) (width (take i variables)) row))
     ∙ sym (append_assoc key value (behind true texts ++ after))
     ∙ ap (λ l. l ++ (behind true texts ++ after))

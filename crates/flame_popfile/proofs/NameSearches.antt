@@ -1,8 +1,9 @@
 -- Searches for different names.
-use Rattle.std.proofs.Common.{◌≡◌, ℕ, ◌+◌, Bool, true, false, cond, List, [], ◌∷◌, map, Option, Some, None, refl, ap, ◌∙◌}
+use Rattle.std.proofs.Common.{◌≡◌, ℕ, ◌+◌, false, cond, List, [], ◌∷◌, map, Option, Some, None, refl, ap, ◌∙◌}
 use Rattle.std.specs.Prelude.{⊤}
 use Rattle.std.specs.Str.{bytes_eq}
 use Rattle.std.proofs.lemmas.Slice.Eq.{bytes_eq-Decides}
+use Rattle.std.proofs.lemmas.Bool.{false_from_ne_true}
 use Rattle.flame_rows.proofs.Bytes.{bytes_eq-self}
 use Rattle.flame_spec.specs.declared.models.AgentType.{AgentType}
 use Rattle.flame_spec.specs.Lists.{numbered_from}
@@ -31,13 +32,9 @@ finds_same name_of make found other i [] same all = tt
 finds_same name_of make found other i (x ∷ xs) same all =
     (same (name_of x) ∙ all.0, finds_same name_of make found other (i + 1) xs same all.1)
 
-not_true : (b : Bool) → (b ≡ true → ⊥) → b ≡ false
-not_true true h = absurd (h refl)
-not_true false h = refl
-
 -- different names are not equal
 pub names_apart : (name other : List ℕ) → (name ≡ other → ⊥) → bytes_eq name other ≡ false
-names_apart name other h = not_true (bytes_eq name other) (λ e. h ((bytes_eq-Decides name other).0 e))
+names_apart name other h = false_from_ne_true (bytes_eq name other) (λ e. h ((bytes_eq-Decides name other).0 e))
 
 finds_behind :
     {X Y : Type 0} (name_of : X → List ℕ) (make : ℕ → X → Y) (found : List ℕ → Option Y) (name : List ℕ)

@@ -41,7 +41,7 @@ memory_in type row apart is =
     (subst AllDiffer (sym (names_of-variables type.memory row)) apart))
     is.0 is.1)
 
-rows_back : (wide : ℕ) (bag : List (List ℤ)) → Each (IsRowOf wide) bag → map (numbers_of wide) (map row_value bag) ≡ bag
+pub rows_back : (wide : ℕ) (bag : List (List ℤ)) → Each (IsRowOf wide) bag → map (numbers_of wide) (map row_value bag) ≡ bag
 rows_back wide [] rows = refl
 rows_back wide (row ∷ bag) rows = ap₂ (λ r rs. r ∷ rs) (row_back wide row rows.0.1) (rows_back wide bag rows.1)
 

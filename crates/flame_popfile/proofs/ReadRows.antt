@@ -4,7 +4,7 @@ use Rattle.std.specs.Prelude.{ℤ, pos, negsuc, unwrap_or, option_map, if◌then
 use Rattle.std.specs.List.{flat_map}
 use Rattle.std.specs.Option.{option_map_or}
 use Rattle.std.proofs.lemmas.Bool.{eq-eqb}
-use Rattle.std.proofs.lemmas.List.{length-map}
+use Rattle.std.proofs.lemmas.List.{length-map, nil_from_length}
 use Rattle.serde_json.specs.Data.{Data, null, object, Members, no_members}
 use Rattle.serde_json.specs.View.{items_of}
 use Rattle.flame_ops.specs.Integers.{is_int}
@@ -99,10 +99,6 @@ variable_back None [] enough ints = absurd (omega arith)
 variable_back None (z ∷ row) enough ints = ap (λ n. n ∷ []) (number_back z ints.0)
 variable_back (Some wide) row enough ints = row_back wide (take wide row) (each_take IsInt wide row ints)
 
-no_length : (row : List ℤ) → length row ≡ 0 → [] ≡ row
-no_length [] h = refl
-no_length (z ∷ row) h = absurd (omega arith)
-
 -- a memory is read as its row
 pub memory_back :
     (found : Members) (variables : List Variable) (row : List ℤ)
@@ -110,7 +106,7 @@ pub memory_back :
     → length row ≡ width variables
     → AreInts row
     → memory_of variables (object found) ≡ row
-memory_back found [] row stands long ints = no_length row long
+memory_back found [] row stands long ints = (sym (nil_from_length row long))
 memory_back found (variable ∷ variables) row stands long ints =
     let wide = width_of variable in
     ap₂ (λ a b. a ++ b)

@@ -3,7 +3,7 @@ use Rattle.std.proofs.Common.{◌≡◌, ℕ, zero, suc, ◌+◌, ◌*◌, ◌-�
 use Rattle.std.specs.Prelude.{ℤ, Result, Ok, IfOk, slice_index_or}
 use Rattle.std.specs.Fork.{slice_chunk}
 use Rattle.std.specs.Global.{Global}
-use Rattle.std.proofs.lemmas.List.{drop-drop, get_or-map, length-drop, length-map, map-append, take-append-drop}
+use Rattle.std.proofs.lemmas.List.{drop-drop, get_or-map, length-drop, length-map, map-append, take-append-drop, nil_from_length}
 use Rattle.std.proofs.lemmas.Grind.{div_ceil_times}
 use Rattle.flame_rows.specs.declared.fails.NoMemory.{NoMemory}
 use Rattle.flame_popfile.specs.declared.forms.Form.{Form}
@@ -24,10 +24,6 @@ module _ {X : Type 0} (text : X → List ℕ) (size : ℕ) (wide : 0 < size) whe
   some-some before [] some = absurd (omega (arith, some))
   some-some true (x ∷ xs) some = refl
   some-some false (x ∷ xs) some = refl
-
-  nothing-left : (xs : List X) → length xs ≤ 0 → xs ≡ []
-  nothing-left [] few = refl
-  nothing-left (x ∷ xs) few = absurd (omega (arith, few))
 
   some-first : (xs : List X) → 0 < length xs → 0 < length (take size xs)
   some-first [] some = absurd (omega (arith, some))
@@ -50,7 +46,7 @@ module _ {X : Type 0} (text : X → List ℕ) (size : ℕ) (wide : 0 < size) whe
       → length xs ≤ length texts * size
       → behind before (map bytes_of texts) ≡ behind before (map text xs)
   shared before xs [] each within enough =
-      ap (λ l. behind before (map text l)) (sym (nothing-left xs (omega (arith, enough))))
+      ap (λ l. behind before (map text l)) (sym (nil_from_length xs (omega (arith, enough))))
   shared before xs (first ∷ texts) each within enough =
       let some : 0 < length xs = let at = within 0 (omega arith) in omega (arith, at) in
       let front = take size xs in

@@ -1,7 +1,8 @@
 -- Texts with commas between them, written from the last.
-use Rattle.std.proofs.Common.{◌≡◌, ℕ, ◌+◌, ◌<◌, List, [], ◌∷◌, ◌++◌, Bool, true, false, ◌||◌, length, drop, get_or, map, refl, ap, ap₂, sym, ◌∙◌}
+use Rattle.std.proofs.Common.{◌≡◌, ℕ, ◌+◌, ◌<◌, List, [], ◌∷◌, ◌++◌, Bool, true, ◌||◌, length, drop, get_or, map, refl, ap, ap₂, sym, ◌∙◌}
 use Rattle.std.proofs.Common.{append_assoc, append-nil, arith}
 use Rattle.std.proofs.lemmas.List.{at_drop_more, map-append}
+use mathlib.Core.Bool.{or-true}
 use Rattle.flame_popfile.specs.RowTexts.{with_commas}
 use Rattle.flame_popfile.specs.CommaTexts.{comma_where, behind, has_some}
 use Rattle.flame_popfile.proofs.CommaLists.{has_some-map, behind-append}
@@ -32,14 +33,6 @@ pub same_texts :
     {X : Type 0} (f g : X → List ℕ) → ((x : X) → f x ≡ g x) → (xs : List X) → map f xs ≡ map g xs
 same_texts f g same [] = refl
 same_texts f g same (x ∷ xs) = ap₂ (λ y ys. y ∷ ys) (same x) (same_texts f g same xs)
-
-pub or_false : (b : Bool) → b || false ≡ b
-or_false true = refl
-or_false false = refl
-
-pub or_true : (b : Bool) → b || true ≡ true
-or_true true = refl
-or_true false = refl
 
 -- a text was put before those behind it, and a comma where there is more
 pub row_before :
@@ -72,4 +65,4 @@ block_more {X = X} text before written more block others rest whole some item =
   where
     begun : (xs : List X) → 0 < length xs → more || has_some (map text xs) ≡ true
     begun [] none = absurd (omega (arith, none))
-    begun (x ∷ xs) h = or_true more
+    begun (x ∷ xs) h = or-true more

@@ -16,7 +16,7 @@ use Rattle.flame_popfile.proofs.WrittenNames.{IsPlain}
 use Rattle.flame_popfile.proofs.WrittenForms.{Writes, WritesMember, writes_integer, writes_list, writes_object}
 use Rattle.flame_meaning.proofs.Eachs.{each_drop}
 
-int_small : (z : ℤ) → IsInt z → mag z < 2 ^ 63
+pub int_small : (z : ℤ) → IsInt z → mag z < 2 ^ 63
 int_small (pos n) h =
     omega (arith, leb-true n 2147483647 (and_parts (int_le least (pos n)) (int_le (pos n) greatest) h).1)
 int_small (negsuc n) h =

@@ -1,20 +1,10 @@
 -- Agents that are dealt out to their types, member by member.
-use Rattle.std.specs.Prelude.{◌≡◌, ℕ, ℤ, List, [], ◌∷◌, ◌++◌, length, map, Some, slice_get, slice_index_or, if◌then◌else◌, Vec}
-use Rattle.std.specs.Global.{Global}
+use Rattle.std.specs.Prelude.{◌≡◌, ℕ, ℤ, List, [], ◌∷◌, ◌++◌, length, Some, slice_get, slice_index_or, if◌then◌else◌}
 use Rattle.serde_json.specs.Data.{Data}
-use Rattle.flame_rows.specs.Bags.{ascending}
 use Rattle.flame_spec.specs.declared.models.AgentType.{AgentType}
 use Rattle.flame_popfile.specs.declared.formats.Format.{Format}
 use Rattle.flame_popfile.specs.declared.formats.Format.TheVariants.{One, Two}
 use Rattle.flame_popfile.specs.PopulationAgents.{agents_in, is_of_type, agents_of_type}
-
--- the rows of each type that stand in vectors [own]
-abbrev pub rows_of : Vec (Vec (List ℤ) Global) Global → List (List (List ℤ))
-rows_of dealt = map (λ (rows : Vec (List ℤ) Global). rows.items) dealt.items
-
--- the bags of these rows [own]
-abbrev pub bags_of : Vec (Vec (List ℤ) Global) Global → List (List (List ℤ))
-bags_of dealt = map (λ (rows : Vec (List ℤ) Global). ascending rows.items) dealt.items
 
 -- each type has its agents of these members, in their order [own]
 pub record AreDealt

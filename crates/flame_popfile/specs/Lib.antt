@@ -14,7 +14,6 @@ pub mod PopulationKinds
 -- ---- writing
 pub mod RowTexts
 -- ---- the words that only bodies and proofs use
-pub mod PopulationReads
 pub mod PopulationNumbers
 pub mod PopulationTables
 pub mod DealtAgents

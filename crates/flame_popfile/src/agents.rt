@@ -2,7 +2,7 @@
 
 ghost use Rattle.std.specs.Prelude.{◌≡◌, ◌++◌, ◌∷◌, [], codes, map, option_map, length, replicate, Some, if◌then◌else◌, IfOk, IfErr, OnOk};
 ghost use Rattle.serde_json.specs.View.{view};
-ghost use Rattle.flame_spec.specs.FirstFaults.{FailsFirst};
+ghost use Rattle.flame_spec.specs.FirstFaults.{FailsFirst, Reads, Passes};
 ghost use Rattle.flame_xmml.specs.ValueParts.{part};
 ghost use Rattle.flame_popfile.specs.PopulationParts.{optional, list_faults, members_of, numbers_of, name_in, refused};
 ghost use Rattle.flame_spec.specs.Columns.{width};
@@ -12,9 +12,9 @@ ghost use Rattle.flame_popfile.specs.PopulationFaults.{type_named, type_in, name
 ghost use Rattle.flame_popfile.specs.PopulationFaults.{memory_faults, rows_faults, content_faults, agent_parts, agent_faults};
 ghost use Rattle.flame_popfile.specs.PopulationFaults.{agents_faults, taken_names};
 ghost use Rattle.flame_popfile.specs.PopulationAgents.{memory_of, agents_in, agents_of};
-ghost use Rattle.flame_popfile.specs.DealtAgents.{AreAdded, rows_of, bags_of, names_taken};
+ghost use Rattle.flame_popfile.specs.DealtAgents.{AreAdded, names_taken};
+ghost use Rattle.flame_rows.specs.RowVectors.{rows_of, bags_of};
 ghost use Rattle.flame_xmml.specs.ValuePlaces.{path_of};
-ghost use Rattle.flame_popfile.specs.PopulationReads.{Reads, Passes};
 
 use crate::faults::{PopFault, PopKind};
 use crate::formats::Format;

@@ -8,7 +8,7 @@ ghost use Rattle.flame_spec.specs.Paths.{at_key};
 ghost use Rattle.flame_popfile.specs.PopulationParts.{object_faults, entries_faults, known_faults, variable_faults};
 ghost use Rattle.flame_popfile.specs.PopulationParts.{entries as entries_in};
 ghost use Rattle.flame_xmml.specs.ValuePlaces.{path_of};
-ghost use Rattle.flame_popfile.specs.PopulationReads.{Passes};
+ghost use Rattle.flame_spec.specs.FirstFaults.{Passes};
 ghost use Rattle.flame_popfile.specs.PopulationTables.{asked_by};
 
 use crate::faults::{PopFault, PopKind};

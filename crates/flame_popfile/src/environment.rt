@@ -11,7 +11,7 @@ ghost use Rattle.flame_popfile.specs.PopulationFaults.{format_numbered, format_o
 ghost use Rattle.flame_popfile.specs.PopulationFaults.{environment_faults};
 ghost use Rattle.flame_popfile.specs.PopulationAgents.{constants_of};
 ghost use Rattle.flame_xmml.specs.ValuePlaces.{path_of};
-ghost use Rattle.flame_popfile.specs.PopulationReads.{Reads, Passes};
+ghost use Rattle.flame_spec.specs.FirstFaults.{Reads, Passes};
 ghost use Rattle.flame_popfile.specs.declared.formats.Format.TheVariants.{One, Two};
 
 use crate::entries::entries;

@@ -3,11 +3,10 @@
 ghost use Rattle.std.specs.Prelude.{◌≡◌, ◌++◌, Some, map, length, OnOk, IfOk, IfErr};
 ghost use Rattle.serde_json.specs.View.{view};
 ghost use Rattle.flame_xmml.specs.ValueParts.{members};
-ghost use Rattle.flame_spec.specs.FirstFaults.{FailsFirst};
+ghost use Rattle.flame_spec.specs.FirstFaults.{FailsFirst, Passes};
 ghost use Rattle.flame_popfile.specs.PopulationParts.{number_of, numbers_of};
 ghost use Rattle.flame_popfile.specs.PopulationParts.{each_member, int_faults, ints_faults, variable_faults};
 ghost use Rattle.flame_xmml.specs.ValuePlaces.{path_of};
-ghost use Rattle.flame_popfile.specs.PopulationReads.{Passes};
 
 use crate::faults::{PopFault, PopKind};
 use crate::numbers::{int_at, number_of};

@@ -10,7 +10,7 @@ ghost use Rattle.flame_popfile.specs.PopulationParts.{optional, each_member, int
 ghost use Rattle.flame_popfile.specs.PopulationFaults.{memory_faults, rows_faults};
 ghost use Rattle.flame_popfile.specs.PopulationAgents.{memory_of};
 ghost use Rattle.flame_xmml.specs.ValuePlaces.{path_of};
-ghost use Rattle.flame_popfile.specs.PopulationReads.{Reads, Passes};
+ghost use Rattle.flame_spec.specs.FirstFaults.{Reads, Passes};
 
 use crate::entries::entries;
 use crate::faults::{PopFault, PopKind};

@@ -10,7 +10,7 @@ ghost use Rattle.flame_xmml.specs.Wants.{held, int_of, is_whole, whole_named};
 ghost use Rattle.flame_popfile.specs.PopulationParts.{number_of, int_faults, number_faults, is_itno};
 ghost use Rattle.flame_popfile.specs.PopulationNumbers.{int_read, int_read_of};
 ghost use Rattle.flame_xmml.specs.ValuePlaces.{path_of};
-ghost use Rattle.flame_popfile.specs.PopulationReads.{Reads};
+ghost use Rattle.flame_spec.specs.FirstFaults.{Reads};
 
 use crate::faults::{PopFault, PopKind};
 use crate::parts::fault;

@@ -6,7 +6,7 @@ ghost use Rattle.flame_popfile.specs.PopulationParts.{object_faults};
 ghost use Rattle.flame_popfile.specs.PopulationFaults.{world_faults, states_faults, population_faults};
 ghost use Rattle.flame_popfile.specs.PopulationStarts.{world_of, states_start, start_of};
 ghost use Rattle.flame_xmml.specs.ValuePlaces.{path_of};
-ghost use Rattle.flame_popfile.specs.PopulationReads.{Reads};
+ghost use Rattle.flame_spec.specs.FirstFaults.{Reads};
 
 use crate::agents::agents_at;
 use crate::environment::{constants_at, format_at, number_at, within_limit};

@@ -4,6 +4,7 @@ use Rattle.std.specs.Prelude.{◌&&◌, not, nat_lt, slice_index_or}
 use Rattle.std.specs.List.{All, list_all}
 use Rattle.std.proofs.lemmas.Bool.{lt-ltb, le-ltb}
 use Rattle.std.proofs.lemmas.Option.{slice_get_within}
+use Rattle.flame_rows.proofs.Lists.{slice_get-some}
 use Rattle.flame_spec.specs.declared.models.Model.{Model}
 use Rattle.flame_spec.specs.Before.{before, function_count}
 use Rattle.flame_spec.specs.Below.{is_in}
@@ -11,7 +12,7 @@ use Rattle.flame_spec.specs.Functions.{functions}
 use Rattle.flame_events.specs.CoreStates.{is_shut, is_waiting, status_of, is_frozen}
 use Rattle.flame_events.specs.LegalEvents.{are_shut, inputs_at, inputs_of, outputs_of, may_freeze, may_open, predecessors, writers}
 use Rattle.flame_events.proofs.Serial.{is_in-later, is_in-self}
-use Rattle.flame_events.proofs.Spots.{get_there, input_named}
+use Rattle.flame_events.proofs.Spots.{input_named}
 use Rattle.flame_pieces.specs.Waiting.{is_free}
 use Rattle.flame_pieces.proofs.Freeing.{free_where_all, free_where_these}
 use Rattle.flame_progress.specs.declared.counts.Counts.{Counts}
@@ -32,7 +33,7 @@ all_in P (number ∷ numbers) holds =
 -- a function's inputs are messages of the model
 pub inputs_below : (model : Model) (f : ℕ) → f < function_count model → All (λ m. m < length model.messages) (inputs_of model f)
 inputs_below model f less =
-    let place = get_there (functions model) f less in
+    let place = slice_get-some (functions model) f less in
     all_in (λ m. m < length model.messages) (inputs_of model f)
     (λ m among.
     let input = input_named model place.0 m (sym (ap (λ o. is_in m (inputs_at o model)) place.1) ∙ among) in

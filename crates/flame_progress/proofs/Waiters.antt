@@ -1,5 +1,5 @@
 -- Many that wait, one after another.
-use Rattle.std.proofs.Common.{◌≡◌, ℕ, suc, ◌+◌, ◌<◌, Bool, true, false, List, [], ◌∷◌, length, drop, drop-cons, get_or, refl, sym, ap, ◌∙◌, arith, ⊎_elim, get_or-set_same, get_or-set_other}
+use Rattle.std.proofs.Common.{◌≡◌, ℕ, ◌<◌, Bool, true, false, List, [], ◌∷◌, refl, sym, ap, ◌∙◌, ⊎_elim, get_or-set_same, get_or-set_other}
 use Rattle.std.specs.Prelude.{◌==◌, ◌||◌, ◌&&◌, slice_set, slice_index_or}
 use Rattle.std.specs.List.{All}
 use Rattle.std.proofs.lemmas.Bool.{cases_eq}
@@ -25,11 +25,6 @@ still_open waiting thing waiter undone k =
     ∙ ap (λ j. (thing_at waiting.things j).done) (sym same))
     (λ (apart : k ≡ thing → ⊥). ap (λ (t : Awaited). t.done) (get_or-set_other waiting.things thing k more none apart))
     (cases_eq k thing)
-
--- the next of a list, in front of the rest
-pub next_first : (numbers : List ℕ) (k : ℕ) → k < length numbers → drop k numbers ≡ get_or numbers k 0 ∷ drop (k + 1) numbers
-next_first numbers k less =
-    drop-cons numbers k 0 less ∙ ap (λ n. get_or numbers k 0 ∷ drop n numbers) (let next : suc k ≡ k + 1 = omega arith in next)
 
 -- another word for who waits for what
 tells_who : (all many : ℕ) (told other : ℕ → ℕ → Bool) (is_done : ℕ → Bool) (waiting : Waiting)

@@ -3,8 +3,9 @@ use Rattle.std.proofs.Common.{◌≡◌, ℕ, suc, ◌+◌, ◌<◌, Bool, true,
 use Rattle.std.specs.Prelude.{not, slice_get}
 use Rattle.std.specs.List.{filter, position_or_len}
 use Rattle.std.proofs.lemmas.Option.{get_or_from_slice_get}
+use Rattle.std.proofs.lemmas.List.{drop_more}
 use Rattle.flame_world.specs.Fields.{changed}
-use Rattle.flame_round.proofs.Gets.{drop-next, has-at}
+use Rattle.flame_round.proofs.Gets.{has-at}
 
 -- where none passes, all are alike
 none-passes : {X Y : Type 0} (entered : X → Bool) (b none : Y) (xs : List X)
@@ -74,7 +75,7 @@ next-type xs k within =
     record {
       item = found.item;
       there = found.there;
-      left = drop-next xs k found.item within ∙ ap (λ x. x ∷ drop (k + 1) xs) (get_or_from_slice_get xs k found.item found.item found.there);
+      left = drop_more xs k found.item within ∙ ap (λ x. x ∷ drop (k + 1) xs) (get_or_from_slice_get xs k found.item found.item found.there);
     }
 
 pub some-left : {X : Type 0} (xs : List X) (k n : ℕ) → suc n ≡ length (drop k xs) → k < length xs

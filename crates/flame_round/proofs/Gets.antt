@@ -1,5 +1,5 @@
 -- Elements of lists, and of two lists place by place.
-use Rattle.std.proofs.Common.{◌≡◌, ℕ, zero, suc, ◌+◌, ◌<◌, Bool, true, false, cond, List, [], ◌∷◌, length, map, drop, drop-cons, get_or, Some, refl, sym, ap, ◌∙◌, arith}
+use Rattle.std.proofs.Common.{◌≡◌, ℕ, zero, suc, ◌+◌, ◌<◌, Bool, true, false, cond, List, [], ◌∷◌, length, map, Some, refl, sym, ap, ◌∙◌, arith}
 use Rattle.std.specs.Prelude.{not, slice_get, slice_index_or}
 use Rattle.std.specs.List.{All, position_or_len}
 use Rattle.flame_spec.specs.Lists.{numbers_from, numbers_where}
@@ -53,7 +53,3 @@ numbers-below {X} p i (x ∷ xs) k d within =
 
 pub numbers-in : {X : Type 0} (p : X → Bool) (xs : List X) → All (λ number. number < length xs) (numbers_where p xs)
 numbers-in p xs = λ k d less. omega (arith, numbers-below p 0 xs k d less)
-
-pub drop-next : {X : Type 0} (xs : List X) (k : ℕ) (d : X) → k < length xs → drop k xs ≡ get_or xs k d ∷ drop (k + 1) xs
-drop-next xs k d within =
-    drop-cons xs k d within ∙ ap (λ n. get_or xs k d ∷ drop n xs) (let next : suc k ≡ k + 1 = omega arith in next)

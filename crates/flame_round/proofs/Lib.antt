@@ -9,3 +9,4 @@ pub mod Beginnings
 pub mod Past
 mod Lengths
 mod Collected
+pub mod BoardBags

@@ -1,5 +1,5 @@
 -- The numbers of the functions of one type among those of all types.
-use Rattle.std.proofs.Common.{◌≡◌, ℕ, zero, suc, ◌+◌, ◌<◌, List, [], ◌∷◌, ◌++◌, length, map, take, Bool, true, false, cond, Some, refl, sym, ap, ◌∙◌, arith, append_assoc, eq-eqb}
+use Rattle.std.proofs.Common.{◌≡◌, ℕ, zero, suc, ◌+◌, ◌<◌, List, [], ◌∷◌, ◌++◌, length, map, take, Bool, true, false, cond, Some, refl, sym, ap, ◌∙◌, arith, append_assoc, eq-eqb, append-nil}
 use Rattle.std.specs.Prelude.{◌==◌, ◌&&◌, slice_get}
 use Rattle.std.specs.Str.{bytes_eq}
 use Rattle.std.proofs.lemmas.Bool.Decides.{nat_tests}
@@ -69,10 +69,6 @@ numbers-later n a first (type ∷ types) state h =
     (numbers-other n a first type type.functions state (eqb-above a n h))
     ∙ numbers-later n (a + 1) (first + length own) types state (omega (arith, h))
 
-append-none : (ns : List ℕ) → ns ++ [] ≡ ns
-append-none [] = refl
-append-none (n ∷ ns) = ap (λ ms. n ∷ ms) (append-none ns)
-
 -- of the functions of all types those leave a state of one that are its own and leave the state
 pub numbers-of-type :
     (n a i first : ℕ) (types : List AgentType) (type : AgentType) (state : List ℕ)
@@ -89,7 +85,7 @@ numbers-of-type n a zero first (t ∷ ts) type state e at =
     let own = map (at_type a t) t.functions in
     numbers-append (leaves n state) first own (functions_from (a + 1) ts)
     ∙ ap (λ ns. numbers_from (leaves n state) first own ++ ns) (numbers-later n (a + 1) (first + length own) ts state later)
-    ∙ append-none (numbers_from (leaves n state) first own)
+    ∙ append-nil (numbers_from (leaves n state) first own)
     ∙ ap (λ m. numbers_from (leaves n state) first (map (at_type m t) t.functions)) here
     ∙ numbers-own n first t t.functions state
     ∙ ap (λ k. numbers_out k t.functions state) none

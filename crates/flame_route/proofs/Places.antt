@@ -4,14 +4,6 @@ use Rattle.std.specs.Prelude.{slice_get}
 use Rattle.std.specs.List.{AllZip}
 use Rattle.flame_rows.proofs.Lists.{AllZip-append}
 
--- the lists are equally long
-pub zip-length :
-    {A B : Type 0} (P : A → B → Type 0) (xs : List A) (ys : List B) → AllZip P xs ys → length xs ≡ length ys
-zip-length P [] [] all = refl
-zip-length P [] (y ∷ ys) all = absurd (all)
-zip-length P (x ∷ xs) [] all = absurd (all)
-zip-length P (x ∷ xs) (y ∷ ys) all = ap suc (zip-length P xs ys all.1)
-
 -- one item more at the end of what is taken
 pub take-more :
     {A : Type 0} (xs : List A) (k : ℕ) (x : A)
@@ -58,8 +50,3 @@ comes-from f (x ∷ xs) zero y at =
 comes-from f (x ∷ xs) (suc i) y at =
     let rest = comes-from f xs i y at in
     record { item = rest.item; there = rest.there; same = rest.same }
-
--- the item behind the first list
-pub behind-there : {A : Type 0} (xs : List A) (y : A) (ys : List A) → slice_get (xs ++ y ∷ ys) (length xs) ≡ Some y
-behind-there [] y ys = refl
-behind-there (x ∷ xs) y ys = behind-there xs y ys

@@ -6,7 +6,7 @@ use Rattle.std.specs.Str.{bytes_eq}
 use Rattle.std.proofs.lemmas.List.{length-append}
 use Rattle.std.proofs.lemmas.Option.{slice_get-map}
 use Rattle.std.proofs.lemmas.Slice.Eq.{bytes_eq-Decides}
-use Rattle.flame_rows.proofs.Lists.{drop-there}
+use Rattle.flame_rows.proofs.Lists.{drop-there, slice_get-behind}
 use Rattle.flame_spec.specs.declared.models.AgentType.{AgentType}
 use Rattle.flame_spec.specs.declared.models.Function.{Function}
 use Rattle.flame_spec.specs.declared.models.Model.{Model}
@@ -15,7 +15,7 @@ use Rattle.flame_spec.specs.States.{states}
 use Rattle.flame_route.specs.declared.routes.Route.{Route}
 use Rattle.flame_route.specs.ModelRoutes.{IsRouteOf}
 use Rattle.flame_route.specs.TypeRoutes.{numbers_out, AreTaken, AreTypeRoutes}
-use Rattle.flame_route.proofs.Places.{zip-taken, of-either, behind-there}
+use Rattle.flame_route.proofs.Places.{zip-taken, of-either}
 
 -- at first there are none
 pub none-taken :
@@ -58,7 +58,7 @@ module _ (model : Model) (agent : ℕ) (type : AgentType) (first i : ℕ) (route
       sym (ap (λ ns. slice_get ns route.choice) (opened state))
       ∙ ap (λ b. slice_get (under state ++ cond b ((first + i) ∷ behind state) (behind state)) route.choice) self
       ∙ ap (slice_get (under state ++ (first + i) ∷ behind state)) choice
-      ∙ behind-there (under state) (first + i) (behind state)
+      ∙ slice_get-behind (under state) (first + i) (behind state)
 
   more-rest : (state : List ℕ)
       → after state ++ numbers_out (first + (i + 1)) (drop (i + 1) type.functions) state

@@ -4,6 +4,7 @@ use Rattle.std.specs.Prelude.{slice_get}
 use Rattle.std.specs.List.{AllZip}
 use Rattle.std.proofs.lemmas.Option.{slice_get_within}
 use Rattle.std.proofs.lemmas.List.{length-append}
+use Rattle.std.proofs.lemmas.Slice.Zip.{AllZip-long}
 use Rattle.flame_rows.proofs.Lists.{AllZip-append}
 use Rattle.flame_spec.specs.declared.models.AgentType.{AgentType}
 use Rattle.flame_spec.specs.declared.models.Function.{Function}
@@ -15,7 +16,7 @@ use Rattle.flame_route.specs.declared.routes.Route.{Route}
 use Rattle.flame_route.specs.declared.routes.Routes.{Routes}
 use Rattle.flame_route.specs.ModelRoutes.{ReadsEach, ReadMessages, IsRouteOf, AreRoutesOf, start_place}
 use Rattle.flame_route.specs.TypeRoutes.{ReadsAll, numbers_out, AreTypeRoutes}
-use Rattle.flame_route.proofs.Places.{zip-length, of-either, ComesFrom, comes-from}
+use Rattle.flame_route.proofs.Places.{of-either, ComesFrom, comes-from}
 use Rattle.flame_route.proofs.Numbers.{numbers-of-type, functions-more}
 
 -- those of the first i types
@@ -49,7 +50,7 @@ module _ (model : Model) (i : ℕ) (type : AgentType) (routes : List Route) (lea
       ∙ ap (λ n. before ++ map (at_type n type) type.functions) same
 
   many : length before ≡ length routes
-  many = zip-length (IsRouteOf model) before routes far.each
+  many = (sym (AllZip-long (IsRouteOf model) before routes far.each))
 
   out-here : (state : List ℕ) → numbers_out (length routes) type.functions state ≡ functions_out model i state
   out-here state =

@@ -50,3 +50,7 @@ merge_all-push bags bag =
 pub all_joined : (all rows : List (List ℤ)) (left : List (List (List ℤ))) → all ≡ rows ++ flat_map (λ bag. bag) left → length left ≡ 0 → rows ≡ all
 all_joined all rows [] so_far none = sym (so_far ∙ append-nil rows)
 all_joined all rows (bag ∷ left) so_far none = absurd (omega (arith, none))
+
+-- a list behind another has the bags of both
+pub ascending-append_merge : (ones twos : List (List ℤ)) → ascending (ones ++ twos) ≡ merge (ascending ones) (ascending twos)
+ascending-append_merge ones twos = ascending-append ones twos ∙ sym (merge-ascending (ascending ones) twos)

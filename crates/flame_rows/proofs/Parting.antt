@@ -1,5 +1,5 @@
 -- Rows parted one by one.
-use Rattle.std.proofs.Common.{◌≡◌, ℕ, ◌<◌, ◌≤◌, Bool, true, false, cond, List, [], ◌∷◌, ◌++◌, length, get_or, set, refl, sym, ap, ◌∙◌, subst, arith, append_assoc, append-nil, ◌⊎◌, inl, inr}
+use Rattle.std.proofs.Common.{◌≡◌, ℕ, ◌<◌, ◌≤◌, Bool, true, false, cond, List, [], ◌∷◌, ◌++◌, length, get_or, set, sym, ap, ◌∙◌, subst, arith, append_assoc, append-nil, ◌⊎◌, inl, inr}
 use Rattle.std.specs.Prelude.{ℤ, ◌==◌, nat_le}
 use Rattle.std.specs.List.{filter}
 use Rattle.std.proofs.lemmas.List.{get_or-set_same, get_or-set_other}
@@ -77,7 +77,7 @@ module _ (passes : ℕ → Bool) where
       elim over [ inl none ↦ absurd (omega (arith, none)) | inr none ↦ absurd (omega (arith, none)) ]
 
 -- where the pairs end, one of the two lists does
-pub over : {X Y : Type 0} {A : X → Type 0} {B : Y → Type 0} (count : ℕ) (left : Rows) (choices : List ℕ)
+pub over : {X Y L M : Type 0} {A : X → Type 0} {B : Y → Type 0} (count : ℕ) (left : List L) (choices : List M)
     → count ≡ length left
     → ((x : X) × ((count ≡ 0) × A x)) ⊎ ((y : Y) × ((length choices ≡ 0) × B y))
     → (length left ≡ 0) ⊎ (length choices ≡ 0)
@@ -92,9 +92,6 @@ is_other a b other = elim (eqb_tells a b) [ inl agree ↦ absurd (other agree.1)
 
 pub all_below : (choice count : ℕ) → choice < count → nat_le count choice ≡ false
 all_below choice count below = grind (arith, nat_tests)
-
-pub none_below : (choice count : ℕ) → count ≤ choice → nat_le count choice ≡ true
-none_below choice count above = grind (arith, nat_tests)
 
 -- ---- many parts
 

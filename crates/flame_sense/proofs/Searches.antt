@@ -4,6 +4,7 @@ use Rattle.std.specs.Prelude.{find, slice_get}
 use Rattle.std.specs.List.{filter, list_any}
 use Rattle.std.specs.Str.{bytes_eq}
 use Rattle.std.proofs.lemmas.List.{at_drop_more}
+use Rattle.flame_rows.proofs.Lists.{find-map}
 use Rattle.flame_spec.specs.declared.models.AgentType.{AgentType}
 use Rattle.flame_spec.specs.declared.models.Model.{Model}
 use Rattle.flame_spec.specs.declared.models.Function.{Function}
@@ -48,19 +49,6 @@ found_behind passes (y ∷ xs) ys h = by_test (passes y) (found_behind passes xs
     by_test true more g = cc
     by_test false more g = more g
 
-found_mapped :
-    {X Y : Type 0} (f : X → Y) (passes : Y → Bool) (xs : List X)
-    → find passes (map f xs) ≡ option_map f (find (λ x. passes (f x)) xs)
-found_mapped f passes [] = refl
-found_mapped f passes (x ∷ xs) = by_test (passes (f x)) (found_mapped f passes xs)
-  where
-    by_test :
-        (b : Bool)
-        → find passes (map f xs) ≡ option_map f (find (λ x. passes (f x)) xs)
-        → cond b (Some (f x)) (find passes (map f xs)) ≡ option_map f (cond b (Some x) (find (λ x. passes (f x)) xs))
-    by_test true e = refl
-    by_test false e = e
-
 -- what is found among those that are left over
 found_among :
     {X : Type 0} (passes keeps : X → Bool) (i : ℕ) (xs : List X)
@@ -101,7 +89,7 @@ defined_here passes units i unit found h is e =
     at_drop_more (λ l. find passes (each_from definitions_of i l)) units i unit h
     ∙ ap (λ u. find passes (definitions_of i u ++ each_from definitions_of (i + 1) (drop (i + 1) units))) (sym is)
     ∙ found_before passes (definitions_of i unit) (each_from definitions_of (i + 1) (drop (i + 1) units)) (definition i found)
-    (found_mapped (definition i) passes unit.functions ∙ ap (option_map (definition i)) (sym e))
+    (find-map passes (definition i) unit.functions ∙ ap (option_map (definition i)) (sym e))
 
 pub defined_later :
     (passes : Definition → Bool) (units : List Unit) (i : ℕ) (unit : Unit)
@@ -113,7 +101,7 @@ defined_later passes units i unit h is e =
     at_drop_more (λ l. find passes (each_from definitions_of i l)) units i unit h
     ∙ ap (λ u. find passes (definitions_of i u ++ each_from definitions_of (i + 1) (drop (i + 1) units))) (sym is)
     ∙ found_behind passes (definitions_of i unit) (each_from definitions_of (i + 1) (drop (i + 1) units))
-    (found_mapped (definition i) passes unit.functions ∙ ap (option_map (definition i)) (sym e))
+    (find-map passes (definition i) unit.functions ∙ ap (option_map (definition i)) (sym e))
 
 -- the number of the file plays no part
 same_wanted : (wanted : Wanted) (i : ℕ) (def : Def) → is_wanted wanted (definition 0 def) ≡ is_wanted wanted (definition i def)

@@ -36,11 +36,3 @@ module _ {X Y Z : Type 0} (f : X × Y → Z) where
   pair-over all found (x ∷ left) [] so_far over = sym (so_far ∙ append-nil found)
   pair-over all found (x ∷ left) (y ∷ more) so_far over =
       elim over [ inl none ↦ absurd (omega (arith, none)) | inr none ↦ absurd (omega (arith, none)) ]
-
--- where the pairs end, one of the two lists does
-pub pairs-end : {X Y L M : Type 0} {A : X → Type 0} {B : Y → Type 0} (count : ℕ) (left : List L) (more : List M)
-    → count ≡ length left
-    → ((x : X) × ((count ≡ 0) × A x)) ⊎ ((y : Y) × ((length more ≡ 0) × B y))
-    → (length left ≡ 0) ⊎ (length more ≡ 0)
-pairs-end count left more counted (inl ends) = inl (sym counted ∙ ends.1.0)
-pairs-end count left more counted (inr ends) = inr ends.1.0

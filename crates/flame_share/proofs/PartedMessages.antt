@@ -1,16 +1,14 @@
 -- Messages parted by outputs, as parts of a piece.
-use Rattle.std.proofs.Common.{◌≡◌, ℕ, List, [], ◌∷◌, map, drop, get_or, refl, ap}
+use Rattle.std.proofs.Common.{◌≡◌, ℕ, List, [], ◌∷◌, map, refl}
 use Rattle.std.specs.Prelude.{ℤ, Vec}
 use Rattle.std.specs.Global.{Global}
 use Rattle.std.specs.List.{zip}
+use Rattle.flame_rows.proofs.Lists.{cons-parts}
 use Rattle.flame_spec.specs.declared.outcomes.Sent.{Sent}
 use Rattle.flame_world.specs.declared.pieces.Piece.{Piece}
 use Rattle.flame_world.specs.AgentRuns.{messages_of}
 use Rattle.flame_world.specs.Meaning.{part_for}
 use Rattle.flame_share.specs.PieceParts.{part_with}
-
-cons-parts : {X : Type 0} (x y : X) (xs ys : List X) → x ∷ xs ≡ y ∷ ys → (x ≡ y) × (xs ≡ ys)
-cons-parts x y xs ys same = (ap (λ l. get_or l 0 x) same, ap (drop 1) same)
 
 pub parts-parted : (piece : Piece) (sent : List Sent) (lists : List (Vec (List ℤ) Global)) (outputs : List ℕ)
     → map (λ (rows : Vec (List ℤ) Global). rows.items) lists ≡ map (messages_of sent) outputs

@@ -1,10 +1,12 @@
 -- What is counted has few members.
-use Rattle.std.proofs.Common.{◌<◌, ◌^◌, List, length, IsTrue}
-use Rattle.std.specs.List.{list_all}
-use Rattle.std.proofs.lemmas.Bool.{ltb-true, and_parts}
+use Rattle.std.proofs.Common.{◌<◌, ◌^◌, List, length, IsTrue, ◌≡◌, ℕ, ◌+◌, ◌∷◌, arith, true, false, Bool, not, cond, []}
+use Rattle.std.specs.List.{list_all, position_or_len}
+use Rattle.std.proofs.lemmas.Bool.{ltb-true, and_parts, false≢true}
+use Rattle.std.specs.Prelude.{◌==◌, ◌||◌}
 use Rattle.flame_spec.specs.declared.models.Model.{Model}
 use Rattle.flame_spec.specs.Functions.{functions}
 use Rattle.flame_spec.specs.Counted.{is_numbered, is_counted_message, is_counted_agent, is_counted}
+use Rattle.flame_spec.specs.Below.{is_in}
 
 -- there is a number for each member
 pub few : {X : Type 0} (members : List X) → IsTrue (is_numbered members) → length members < 2 ^ 32
@@ -40,3 +42,11 @@ has_few model h =
       each_agent = g.0;
       functions = g.1;
     }
+
+pub position_or_len-is_in : (g : ℕ) (xs : List ℕ) → is_in g xs ≡ true → position_or_len (λ f. f == g) xs < length xs
+position_or_len-is_in g [] h = absurd (false≢true h)
+position_or_len-is_in g (x ∷ xs) h = go (x == g) h (position_or_len-is_in g xs)
+  where
+    go : (b : Bool) → (b || is_in g xs) ≡ true → (is_in g xs ≡ true → position_or_len (λ f. f == g) xs < length xs) → cond (not b) (1 + position_or_len (λ f. f == g) xs) 0 < length (x ∷ xs)
+    go true h rest = omega arith
+    go false h rest = omega (arith, rest h)

@@ -15,8 +15,8 @@ pub record IsFirst (test : ℕ → Bool) (n g : ℕ) : Type 0 where
   pub passes : test g ≡ true
   pub least : (j : ℕ) → j < g → test j ≡ false
 
-at_last : (j n : ℕ) → (n ≡ j → ⊥) → j < suc n → j < n
-at_last j n e l = omega arith
+pub below_last : (j n : ℕ) → (n ≡ j → ⊥) → j < suc n → j < n
+below_last j n e l = omega arith
 
 pub none_fails : (test : ℕ → Bool) (n : ℕ) → first_below test n ≡ None → (j : ℕ) → j < n → test j ≡ false
 none_fails test zero e j l = absurd (omega arith)
@@ -25,7 +25,7 @@ none_fails test (suc n) e j l = go (none_fails test n) (first_below test n) refl
     go : (first_below test n ≡ None → (j : ℕ) → j < n → test j ≡ false) → (o : Option ℕ) → first_below test n ≡ o → (b : Bool) → test n ≡ b → option_or o (cond b (Some n) None) ≡ None → test j ≡ false
     go rest (Some h) p b q e = cc
     go rest None p true q e = cc
-    go rest None p false q e = ⊎_elim (λ s. ap test (sym s) ∙ q) (λ s. rest p j (at_last j n s l)) (cases_eq n j)
+    go rest None p false q e = ⊎_elim (λ s. ap test (sym s) ∙ q) (λ s. rest p j (below_last j n s l)) (cases_eq n j)
 
 pub first_is_first : (test : ℕ → Bool) (n g : ℕ) → first_below test n ≡ Some g → IsFirst test n g
 first_is_first test zero g e = cc
@@ -48,7 +48,7 @@ pub first_is : (test : ℕ → Bool) (n g : ℕ) → g < n → test g ≡ true �
 first_is test zero g l t h = absurd (omega arith)
 first_is test (suc n) g l t h = ⊎_elim
     (λ e. ap (λ o. option_or o (cond (test n) (Some n) None)) (none_is test n (λ j k. h j (omega arith))) ∙ ap (λ b. cond b (Some n) None) (ap test e ∙ t) ∙ ap Some e)
-    (λ e. ap (λ o. option_or o (cond (test n) (Some n) None)) (first_is test n g (at_last g n e l) t h))
+    (λ e. ap (λ o. option_or o (cond (test n) (Some n) None)) (first_is test n g (below_last g n e l) t h))
     (cases_eq n g)
 
 pub first_agree : (test other : ℕ → Bool) (n : ℕ) → ((j : ℕ) → j < n → test j ≡ other j) → first_below test n ≡ first_below other n

@@ -6,13 +6,10 @@ use Rattle.std.proofs.lemmas.List.{length_push}
 use Rattle.flame_spec.specs.Below.{is_in}
 use Rattle.flame_spec.specs.ModelOrder.{order, first_left}
 use Rattle.flame_spec.specs.Layers.{above, layer_within, layer}
-use Rattle.flame_spec.proofs.FirstBelow.{is_in_push}
+use Rattle.flame_spec.proofs.FirstBelow.{is_in_push, below_last}
 use Rattle.flame_spec.proofs.Orders.{Relation, IsNext, ready_taken, order_keeps, order_length, none_left_over}
 
 -- ---- the height above what stands before
-
-last_case : (f n : ℕ) → (n ≡ f → ⊥) → f < suc n → f < n
-last_case f n e l = omega arith
 
 pub above_over : (n : ℕ) (before : Relation) (height : ℕ → ℕ) (g f : ℕ) → f < n → before f g ≡ true → height f + 1 ≤ above n before height g
 above_over zero before height g f l b = absurd (omega arith)
@@ -22,7 +19,7 @@ above_over (suc n) before height g f l b = ⊎_elim
     let here : height f + 1 ≤ max (above n before height g) (cond (before f g) (height f + 1) 0) = subst Q (sym b) (most (above n before height g) (height f + 1)) in
     let R : ℕ → Type 0 = λ k. height f + 1 ≤ max (above n before height g) (cond (before k g) (height k + 1) 0) in
     subst R (sym e) here)
-    (λ e. let rest = above_over n before height g f (last_case f n e l) b in least_most (above n before height g) (cond (before n g) (height n + 1) 0) (height f + 1) rest)
+    (λ e. let rest = above_over n before height g f (below_last f n e l) b in least_most (above n before height g) (cond (before n g) (height n + 1) 0) (height f + 1) rest)
     (cases_eq n f)
   where
     most : (a b : ℕ) → b ≤ max a b

@@ -12,3 +12,9 @@ pub mod Numbered
 pub mod OpenLoops
 pub mod VariableWidths
 pub mod NoTwice
+pub mod FaultLists
+pub mod UnitLengths
+pub mod FunctionPlaces
+pub mod TimesLeft
+pub mod NamesLaid
+pub mod ConditionForms

@@ -13,6 +13,7 @@ use Rattle.flame_rows.specs.Bags.{count_of}
 use Rattle.flame_rows.proofs.Sorting.{sum_by-sorted_by, IsAscending-sorted_by, ascending_once, sorted_by-IsAscending}
 use Rattle.flame_rows.proofs.BagLaws.{rows_total, rows_tied}
 use Rattle.flame_rows.proofs.Truths.{cond-add}
+use Rattle.flame_rows.proofs.Lists.{filter-all}
 use Rattle.flame_spec.specs.Conditions.{number_at}
 use Rattle.flame_spec.specs.Views.{Key, column_order, key_order, view_order, view}
 use Rattle.flame_spec.specs.ViewLaws.{ViewKeepsCounts, ViewAscends, ViewGoesByKey, tie_order, ViewTiesByContent, ViewIsTheOne, PlainViewIsBoard}
@@ -185,10 +186,6 @@ view_is_the_one passes key board rows up same =
     by_content : (z : List ℤ) → (λ other. cond (is_eq (view_order key z other)) 1 0) ≡ ones z
     by_content z = λ i other. cond (same_ties key z other i) 1 0
 
-filter_all : (rows : List (List ℤ)) → filter (λ row. true) rows ≡ rows
-filter_all [] = refl
-filter_all (row ∷ rows) = ap (λ rest. row ∷ rest) (filter_all rows)
-
 pub plain_view_is_board : PlainViewIsBoard
 plain_view_is_board board up =
-    ap (sorted_by row_order) (filter_all board) ∙ sorted_by-IsAscending row_order rows_total rows_tied board up
+    ap (sorted_by row_order) (filter-all board) ∙ sorted_by-IsAscending row_order rows_total rows_tied board up

@@ -17,6 +17,7 @@ pub mod LookUps
 pub mod WellFormed
 pub mod Counted
 pub mod WideModels
+pub mod PlainFiles
 pub mod Paths
 pub mod Refusals
 pub mod FirstFaults

@@ -13,14 +13,14 @@ use Rattle.flame_spec.specs.declared.trees.Unit as file
 use Rattle.flame_spec.specs.KnownNames.{is_among}
 use Rattle.flame_spec.specs.Functions.{Place, functions}
 use Rattle.flame_spec.specs.declared.faults.CheckFault.{CheckFault}
-use Rattle.flame_spec.specs.declared.trees.Parameter.{Parameter}
 use Rattle.flame_spec.specs.Definitions.{Definition, definitions, is_idle, is_for, is_transition, has_none, is_helper}
 use Rattle.flame_spec.specs.Definitions.{helpers, body_of}
 use Rattle.flame_spec.specs.Scopes.{Context, Sight, at_entry}
 use Rattle.flame_spec.specs.HelperFaults.{recursive_faults, deep_faults}
-use Rattle.flame_spec.specs.CheckFaults.{twice_where, twice_faults, is_run_by, with_parameters_where}
+use Rattle.flame_spec.specs.CheckFaults.{twice_where, twice_faults, is_run_by}
 use Rattle.flame_spec.specs.CheckFaults.{with_parameters_faults, missing_where}
 use Rattle.flame_spec.specs.CheckFaults.{missing_faults, definition_faults, body_faults, bodies_faults, check_faults}
+use Rattle.flame_meaning.proofs.Checked.{with_parameters_where-none, parameters-none}
 use Rattle.flame_spec_laws.specs.BodyParts.{Part, defining, StandsIn}
 use Rattle.flame_spec_laws.specs.CheckLaws.{IsBodyOf, IsChecked, for_function, for_helper}
 use Rattle.flame_spec_laws.proofs.Found.{Contains-cases, Contains-head, Contains-later, flat_map-none}
@@ -194,15 +194,6 @@ pub part-none :
 part-none inner model units d at sight none is stands =
     no_faults at inner sight stands (definition-none model units d at none is)
 
-with_parameters_where-none : (b : Bool) (d : Definition) → with_parameters_where b d ≡ [] → b ≡ false
-with_parameters_where-none true d none = cc
-with_parameters_where-none false d none = refl
-
-none-where : (parameters : List Parameter) (b : Bool) → b ≡ true → not (has_none parameters) && b ≡ false
-    → parameters ≡ []
-none-where [] b e none = refl
-none-where (parameter ∷ parameters) b e none = cc
-
 pub no-parameters :
     (model : Model) (units : List file.Unit) (place : Place) (d : Definition)
     → check_faults model units ≡ []
@@ -212,7 +203,7 @@ no-parameters model units place d none is =
     let of_d : with_parameters_faults model d ≡ []
     = flat_map-none (with_parameters_faults model) (definitions units) d is.defined
     (none_of_all model units none).having in
-    none-where d.parameters (list_any (is_run_by d) (functions model))
+    parameters-none d.parameters (list_any (is_run_by d) (functions model))
     (list_any-at (is_run_by d) (functions model) place is.listed (is_run model units place d is))
     (with_parameters_where-none _ d of_d)
 

@@ -33,6 +33,7 @@ use Rattle.flame_spec.specs.WellFormed.{is_well_formed_input, is_well_formed_fil
 use Rattle.flame_spec.specs.WellFormed.{is_well_formed_variable, is_well_formed_message}
 use Rattle.flame_spec.specs.Names.{is_name, is_filled}
 use Rattle.flame_spec.specs.Accepted.{IsAccepted}
+use Rattle.flame_spec.proofs.ConditionForms.{has_lengths-And, has_lengths-Or}
 use Rattle.flame_spec_laws.specs.UsedNames.{knows, IsFunctionKnown}
 use Rattle.flame_spec_laws.proofs.Distinct.{units_path, units_none}
 use Rattle.flame_spec_laws.proofs.Measures.{Positive, Known, all_known}
@@ -51,14 +52,6 @@ there p (Some y) x all is =
 
 lengths-Compare : (units : List TimeUnit) (op : Op) (a b : Operand) → has_lengths units (Compare op a b) ≡ true
 lengths-Compare units op a b = search (rules, the_lemmas)
-
-lengths-And : (units : List TimeUnit) (a b : Condition)
-    → has_lengths units (And a b) ≡ has_lengths units a && has_lengths units b
-lengths-And units a b = search (rules, the_lemmas)
-
-lengths-Or : (units : List TimeUnit) (a b : Condition)
-    → has_lengths units (Or a b) ≡ has_lengths units a && has_lengths units b
-lengths-Or units a b = search (rules, the_lemmas)
 
 lengths-Not : (units : List TimeUnit) (a : Condition) → has_lengths units (Not a) ≡ has_lengths units a
 lengths-Not units a = search (rules, the_lemmas)
@@ -97,13 +90,13 @@ condition_lengths scope units (Compare op a b) same known h = lengths-Compare un
 condition_lengths scope units (And' _ (more_of-Condition a end_of-Condition) _ (more_of-Condition b end_of-Condition))
     same known h =
     let parts = sym (knows-And scope a b) ∙ h in
-    lengths-And units a b
+    has_lengths-And units a b
     ∙ and_from _ _ (condition_lengths scope units a same known (and_parts _ _ parts).0)
     (condition_lengths scope units b same known (and_parts _ _ parts).1)
 condition_lengths scope units (Or' _ (more_of-Condition a end_of-Condition) _ (more_of-Condition b end_of-Condition))
     same known h =
     let parts = sym (knows-Or scope a b) ∙ h in
-    lengths-Or units a b
+    has_lengths-Or units a b
     ∙ and_from _ _ (condition_lengths scope units a same known (and_parts _ _ parts).0)
     (condition_lengths scope units b same known (and_parts _ _ parts).1)
 condition_lengths scope units (Not' _ (more_of-Condition a end_of-Condition)) same known h =
@@ -122,11 +115,11 @@ unfolding shape-the_row-Condition-0 hidden-the_row-Condition-0 hidden
 filter_lengths units (Compare op a b) h = lengths-Compare units op a b
 filter_lengths units (And' _ (more_of-Condition a end_of-Condition) _ (more_of-Condition b end_of-Condition)) h =
     let parts = sym (formed-And a b) ∙ h in
-    lengths-And units a b
+    has_lengths-And units a b
     ∙ and_from _ _ (filter_lengths units a (and_parts _ _ parts).0) (filter_lengths units b (and_parts _ _ parts).1)
 filter_lengths units (Or' _ (more_of-Condition a end_of-Condition) _ (more_of-Condition b end_of-Condition)) h =
     let parts = sym (formed-Or a b) ∙ h in
-    lengths-Or units a b
+    has_lengths-Or units a b
     ∙ and_from _ _ (filter_lengths units a (and_parts _ _ parts).0) (filter_lengths units b (and_parts _ _ parts).1)
 filter_lengths units (Not' _ (more_of-Condition a end_of-Condition)) h =
     lengths-Not units a ∙ filter_lengths units a (sym (formed-Not a) ∙ h)

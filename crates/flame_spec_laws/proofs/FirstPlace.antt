@@ -1,12 +1,12 @@
 -- The first place of a list at which a test passes.
-use Rattle.std.proofs.Common.{◌≡◌, ℕ, zero, suc, ◌+◌, ◌<◌, ◌≤◌, Bool, true, false, cond, List, [], ◌∷◌, length, get_or}
+use Rattle.std.proofs.Common.{◌≡◌, ℕ, ◌<◌, ◌≤◌, Bool, true, false, cond, List, [], ◌∷◌, length, get_or}
 use Rattle.std.proofs.Common.{Some, None, refl, sym, ap, ◌∙◌, arith}
-use Rattle.std.specs.Prelude.{nat_lt, slice_get, not, position}
+use Rattle.std.specs.Prelude.{nat_lt, slice_get, position}
 use Rattle.std.specs.List.{position_or_len}
 use Rattle.std.proofs.lemmas.Bool.{lt-ltb, ltb-false}
 use Rattle.std.proofs.lemmas.Option.{get_or_from_slice_get, slice_get-get_or, slice_get_within}
 use Rattle.std.proofs.lemmas.List.Quantifiers.{position-Some}
-use Rattle.std.proofs.lemmas.List.Sums.{position_or_len_is}
+use Rattle.std.proofs.lemmas.List.Sums.{position_or_len_is, fails_before_first}
 
 module _ {X : Type 0} (p : X → Bool) where
   -- the first element that passes is the one that is found
@@ -40,23 +40,6 @@ module _ {X : Type 0} (p : X → Bool) where
   position-stands (x ∷ xs) i found =
       (get_or (x ∷ xs) i x, slice_get-get_or (x ∷ xs) i x (position-Some p (x ∷ xs) i x found).0)
 
-  -- all before that place fail, and so do all where there is none
-  fails : (xs : List X) (k : ℕ) (d : X) → k < position_or_len p xs → p (get_or xs k d) ≡ false
-  fails [] k d less = absurd (omega arith)
-  fails (y ∷ ys) k d less = by_test (p y) refl k less (λ n. fails ys n d)
-    where
-      by_test : (t : Bool) → p y ≡ t → (k : ℕ) → k < position_or_len p (y ∷ ys)
-          → ((n : ℕ) → n < position_or_len p ys → p (get_or ys n d) ≡ false)
-          → p (get_or (y ∷ ys) k d) ≡ false
-      by_test true e k less again =
-          let nothing : position_or_len p (y ∷ ys) ≡ 0 = ap (λ t. cond (not t) (1 + position_or_len p ys) 0) e in
-          absurd (omega arith)
-      by_test false e zero less again = e
-      by_test false e (suc k) less again =
-          let more : position_or_len p (y ∷ ys) ≡ 1 + position_or_len p ys =
-          ap (λ t. cond (not t) (1 + position_or_len p ys) 0) e in
-          again k (omega arith)
-
   -- where none is found none passes
   pub position-None : (xs : List X) (k : ℕ) (x : X) → position p xs ≡ None → slice_get xs k ≡ Some x → p x ≡ false
   position-None xs k x none stands =
@@ -66,5 +49,5 @@ module _ {X : Type 0} (p : X → Bool) where
         | true ↦ λ e f. cc
         | false ↦ λ e f.
             let beyond : length xs ≤ position_or_len p xs = ltb-false _ _ e in
-            sym (ap p (get_or_from_slice_get xs k x x stands)) ∙ fails xs k x (omega arith)
+            sym (ap p (get_or_from_slice_get xs k x x stands)) ∙ fails_before_first p xs k x (omega arith)
       ] refl none

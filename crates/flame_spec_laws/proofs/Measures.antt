@@ -1,6 +1,6 @@
 -- Lengths of time units in models without name faults.
 use mathlib.Core.Bool.{or-false, or-true}
-use Rattle.std.proofs.Common.{◌≡◌, ℕ, zero, suc, ◌*◌, ◌<◌, ◌≤◌, ℤ, pos, negsuc, ◌*ℤ◌, List, [], ◌∷◌, ◌++◌, map, take}
+use Rattle.std.proofs.Common.{◌≡◌, ℕ, zero, suc, ◌*◌, ◌<◌, ◌≤◌, ℤ, pos, negsuc, ◌*ℤ◌, List, [], ◌∷◌, ◌++◌, map, take, take_all}
 use Rattle.std.proofs.Common.{length, get_or, cond, refl, sym, ap, subst, ◌∙◌, Bool, true, false, true≢false, arith}
 use Rattle.std.proofs.Common.{codes, Option, Some, None, option_map}
 use Rattle.std.specs.Prelude.{◌||◌, ◌&&◌, nat_le, nat_lt, IsSomeAnd}
@@ -8,7 +8,7 @@ use Rattle.std.specs.List.{list_all}
 use Rattle.std.specs.Option.{option_map_or}
 use Rattle.std.specs.Str.{bytes_eq}
 use Rattle.std.proofs.Math.Seq.{take-suc}
-use Rattle.std.proofs.lemmas.List.{reverse-append, map_push}
+use Rattle.std.proofs.lemmas.List.{map_push}
 use Rattle.std.proofs.lemmas.Bool.{and_parts}
 use Rattle.std.proofs.lemmas.List.Folds.{list_any-append}
 use Rattle.flame_rows.proofs.Bytes.{bytes_eq-sym, bytes_eq-self}
@@ -17,13 +17,14 @@ use Rattle.flame_rows.proofs.Truths.{or-true_left}
 use Rattle.flame_spec.specs.declared.faults.NameKind.TheVariants.{Duplicate, UnknownUnit, LongUnit}
 use Rattle.flame_spec.specs.declared.models.TimeUnit.{TimeUnit}
 use Rattle.flame_spec.specs.Names.{is_name}
-use Rattle.flame_spec.specs.TimeUnits.{length_back, unit_length}
+use Rattle.flame_spec.specs.TimeUnits.{unit_length}
 use Rattle.flame_spec.specs.KnownNames.{is_among, unit_names}
 use Rattle.flame_spec.specs.Paths.{at_key, at_number}
 use Rattle.flame_spec.specs.Refusals.{fault_where}
 use Rattle.flame_spec.specs.UnitFaults.{is_long, length_after, measure_faults, unit_faults, units_faults}
 use Rattle.flame_spec.specs.WellFormed.{is_positive_int, is_well_formed_unit}
 use Rattle.flame_spec.proofs.FaultTests.{name_fault_where-none}
+use Rattle.flame_spec.proofs.UnitLengths.{unit_length-push}
 use Rattle.flame_spec_laws.proofs.Distinct.{each_none}
 
 -- a length that is known, from 1 to 2147483647
@@ -68,13 +69,6 @@ after_positive : (unit : TimeUnit) (o : Option ℤ)
     → Positive (option_map (λ length. unit.period *ℤ length) o)
 after_positive unit None p h s = h
 after_positive unit (Some z) p h s = product_positive unit.period z p h s
-
-pub unit_length-push : (units : List TimeUnit) (unit : TimeUnit) (name : List ℕ)
-    → unit_length (units ++ unit ∷ []) name
-    ≡ cond (bytes_eq name unit.name) (length_after units unit) (unit_length units name)
-unit_length-push units unit name =
-    ap (λ l. length_back l name) (reverse-append units (unit ∷ []))
-    ∙ ap (λ b. cond b (length_after units unit) (unit_length units name)) (bytes_eq-sym unit.name name)
 
 known_push : (units : List TimeUnit) (unit : TimeUnit)
     → Known units
@@ -159,10 +153,6 @@ known_take path units none well (suc n) inside =
     (sym (take-suc units n u at))
     (known_push (take n units) unit (known_take path units none well n (omega arith)) positive measure.0 measure.1)
 
-pub take_all : (units : List TimeUnit) → take (length units) units ≡ units
-take_all [] = refl
-take_all (u ∷ units) = ap (λ us. u ∷ us) (take_all units)
-
 pub own : (units : List TimeUnit) (k : ℕ) (d : TimeUnit)
     → k < length units → is_among (get_or units k d).name (map (λ u. u.name) units) ≡ true
 own [] k d inside = absurd (omega arith)
@@ -178,7 +168,7 @@ pub all_known : (path : List ℕ) (units : List TimeUnit)
     → Known units
 all_known path units none well =
     let P : List TimeUnit → Type 0 = λ us. Known us in
-    subst P (take_all units) (known_take path units none well (length units) (omega arith))
+    subst P (take_all (length units) units (omega arith)) (known_take path units none well (length units) (omega arith))
 
 -- each unit's length is known
 pub lengths_known : (path : List ℕ) (units : List TimeUnit)

@@ -20,6 +20,7 @@ use Rattle.flame_spec.specs.KnownNames.{is_among}
 use Rattle.flame_spec.specs.Paths.{at_key}
 use Rattle.flame_spec.specs.Leaves.{LeafScope, found_faults, operand_faults, period_faults, leaf_faults}
 use Rattle.flame_spec.proofs.FaultTests.{name_fault_where-none}
+use Rattle.flame_spec.proofs.ConditionForms.{leaf_faults-And, leaf_faults-Or}
 use Rattle.flame_spec_laws.specs.UsedNames.{is_single, knows_operand, knows}
 
 -- where nothing comes from a list, nothing comes from any of its elements
@@ -55,18 +56,6 @@ pub leaf-Compare :
     ≡ operand_faults scope (at_key (at_key path (codes "lhs")) (codes "value")) a
     ++ operand_faults scope (at_key (at_key path (codes "rhs")) (codes "value")) b
 leaf-Compare scope op a b path = search (rules, the_lemmas)
-
-pub leaf-And :
-    (scope : LeafScope) (a b : Condition) (path : List ℕ)
-    → leaf_faults scope (And a b) path
-    ≡ leaf_faults scope a (at_key path (codes "lhs")) ++ leaf_faults scope b (at_key path (codes "rhs"))
-leaf-And scope a b path = search (rules, the_lemmas)
-
-leaf-Or :
-    (scope : LeafScope) (a b : Condition) (path : List ℕ)
-    → leaf_faults scope (Or a b) path
-    ≡ leaf_faults scope a (at_key path (codes "lhs")) ++ leaf_faults scope b (at_key path (codes "rhs"))
-leaf-Or scope a b path = search (rules, the_lemmas)
 
 leaf-Not :
     (scope : LeafScope) (a : Condition) (path : List ℕ)
@@ -110,12 +99,12 @@ condition_known scope (Compare op a b) path none =
     ∙ and_from _ _ (operand_known scope _ a (append-is_nil_left _ _ parts)) (operand_known scope _ b (append-is_nil_right _ _ parts))
 condition_known scope
     (And' _ (more_of-Condition a end_of-Condition) _ (more_of-Condition b end_of-Condition)) path none =
-    let parts = sym (leaf-And scope a b path) ∙ none in
+    let parts = sym (leaf_faults-And scope path a b) ∙ none in
     knows-And scope a b
     ∙ and_from _ _ (condition_known scope a _ (append-is_nil_left _ _ parts)) (condition_known scope b _ (append-is_nil_right _ _ parts))
 condition_known scope
     (Or' _ (more_of-Condition a end_of-Condition) _ (more_of-Condition b end_of-Condition)) path none =
-    let parts = sym (leaf-Or scope a b path) ∙ none in
+    let parts = sym (leaf_faults-Or scope path a b) ∙ none in
     knows-Or scope a b
     ∙ and_from _ _ (condition_known scope a _ (append-is_nil_left _ _ parts)) (condition_known scope b _ (append-is_nil_right _ _ parts))
 condition_known scope (Not' _ (more_of-Condition a end_of-Condition)) path none =

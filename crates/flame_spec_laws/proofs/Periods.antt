@@ -1,6 +1,6 @@
 -- The length of a unit is its period times the length of its own unit.
 use mathlib.Core.Bool.{or-true}
-use Rattle.std.proofs.Common.{◌≡◌, ℕ, zero, suc, ◌+◌, ◌-◌, ◌<◌, ◌≤◌, pos, ◌*ℤ◌, Bool, true, false, true≢false, ◌||◌}
+use Rattle.std.proofs.Common.{◌≡◌, ℕ, zero, suc, ◌+◌, ◌-◌, ◌<◌, ◌≤◌, pos, ◌*ℤ◌, Bool, true, false, true≢false, ◌||◌, take_all}
 use Rattle.std.proofs.Common.{cond, List, [], ◌∷◌, take, length, get_or, codes, Some, option_map, refl, ap, sym, ◌∙◌}
 use Rattle.std.proofs.Common.{subst, arith}
 use Rattle.std.specs.Prelude.{slice_get}
@@ -21,8 +21,9 @@ use Rattle.flame_spec.specs.Paths.{at_key, at_number}
 use Rattle.flame_spec.specs.Refusals.{fault_where}
 use Rattle.flame_spec.specs.UnitFaults.{length_after, measure_faults, unit_faults, units_faults}
 use Rattle.flame_spec.proofs.FaultTests.{name_fault_where-none}
+use Rattle.flame_spec.proofs.UnitLengths.{unit_length-push}
 use Rattle.flame_spec_laws.proofs.Distinct.{each_none, units_path, units_none}
-use Rattle.flame_spec_laws.proofs.Measures.{unit_length-push, measured, take_all}
+use Rattle.flame_spec_laws.proofs.Measures.{measured}
 
 abbrev no_unit : TimeUnit
 no_unit = record { name = []; unit = []; period = pos 0 }
@@ -103,7 +104,7 @@ module _ (units : List TimeUnit) (none : units_faults units_path units ≡ []) w
       → unit_length units name ≡ unit_length (take k units) name
   keeps_on zero k name e there =
       let all : length units ≡ k = omega arith in
-      ap (λ us. unit_length us name) (sym (take_all units) ∙ ap (λ n. take n units) all)
+      ap (λ us. unit_length us name) (sym (take_all (length units) units (omega arith)) ∙ ap (λ n. take n units) all)
   keeps_on (suc more) k name e there =
       keeps_on more (suc k) name (omega arith) (names_more k name (omega arith) there)
       ∙ keeps k name (omega arith) there

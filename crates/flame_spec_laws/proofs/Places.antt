@@ -13,7 +13,7 @@ use Rattle.flame_spec.specs.States.{start_states, many_from, many_starts}
 use Rattle.flame_spec.specs.Accepted.{has_one_start}
 use Rattle.flame_spec.proofs.Orders.{Relation, order_is_order, order_takes, next_is_next, ready_taken}
 use Rattle.flame_spec.proofs.Beginnings.{types_start}
-use Rattle.flame_spec_laws.proofs.Rounds.{place_within}
+use Rattle.flame_spec.proofs.Counts.{position_or_len-is_in}
 
 -- a member of the first so many stands at a lower place
 place_of_early : (f p : ℕ) (xs : List ℕ) → is_in f (take p xs) ≡ true → position_or_len (λ h. h == f) xs < p
@@ -30,7 +30,7 @@ place_of_early f (suc p) (x ∷ xs) h = go (x == f) h (place_of_early f p xs)
     go false h rest = omega (arith, rest h)
 
 at_place : (f : ℕ) (xs : List ℕ) → is_in f xs ≡ true → get_or xs (position_or_len (λ h. h == f) xs) 0 ≡ f
-at_place f xs there = eqb-true _ f (passes_at_first (λ h. h == f) xs 0 (place_within f xs there))
+at_place f xs there = eqb-true _ f (passes_at_first (λ h. h == f) xs 0 (position_or_len-is_in f xs there))
 
 earlier_fails :
     (g i k : ℕ) (xs : List ℕ)
@@ -60,7 +60,7 @@ pub ranks_rise :
     → rank n before f < rank n before g
 ranks_rise n before f g below there stands =
     let p = rank n before g in
-    let inside : p < length (order n before) = place_within g (order n before) there in
+    let inside : p < length (order n before) = position_or_len-is_in g (order n before) there in
     let here : get_or (order n before) p 0 ≡ g = at_place g (order n before) there in
     place_of_early f p (order n before)
     (ready_taken n before (take p (order n before)) (get_or (order n before) p 0)
@@ -82,7 +82,7 @@ pub order_has :
     (n : ℕ) (before : Relation) (f : ℕ)
     → is_in f (order n before) ≡ true
     → (rank n before f < length (order n before)) × (get_or (order n before) (rank n before f) 0 ≡ f)
-order_has n before f there = (place_within f (order n before) there, at_place f (order n before) there)
+order_has n before f there = (position_or_len-is_in f (order n before) there, at_place f (order n before) there)
 
 no_place : (f : ℕ) (xs : List ℕ) → is_in f xs ≡ false → position_or_len (λ h. h == f) xs ≡ length xs
 no_place f [] none = refl

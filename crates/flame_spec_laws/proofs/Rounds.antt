@@ -4,7 +4,7 @@ use Rattle.std.proofs.Common.{get_or, refl, sym, ap, ◌∙◌, subst, arith, tr
 use Rattle.std.proofs.Common.{inl, inr, ⊎_elim, min}
 use Rattle.std.specs.Prelude.{◌==◌, ◌||◌}
 use Rattle.std.specs.List.{position_or_len}
-use Rattle.std.proofs.lemmas.Bool.{eqb-true, eq-eqb, ne_eqb, false≢true, cases_eq, cases_lt, not-true, or_right}
+use Rattle.std.proofs.lemmas.Bool.{eqb-true, eq-eqb, ne_eqb, cases_eq, cases_lt, not-true, or_right}
 use Rattle.std.proofs.lemmas.List.{append_assoc, append-nil, reverse-append, take-append-drop, drop_more}
 use Rattle.std.proofs.lemmas.List.{same_from_push}
 use Rattle.std.proofs.lemmas.List.Sums.{passes_at_first, sum_by-cons}
@@ -14,6 +14,7 @@ use Rattle.flame_spec.specs.ModelOrder.{begun_at, begun_with_least, cycle_from, 
 use Rattle.flame_spec_laws.specs.OrderLaws.{IsChain, IsRound, IsCycle}
 use Rattle.flame_spec.proofs.FirstBelow.{first_is_first, one, times-append, times_push, once_push}
 use Rattle.flame_spec.proofs.Orders.{Relation, remaining, remaining_push, remaining_all, left_steps_back}
+use Rattle.flame_spec.proofs.Counts.{position_or_len-is_in}
 
 -- ---- chains
 
@@ -161,20 +162,10 @@ least_there m (x ∷ xs) = go (x == least_of (min m x) xs) (min_cases m x) (leas
 
 -- ---- the place of a member
 
-pub place_within : (g : ℕ) (path : List ℕ) → is_in g path ≡ true → position_or_len (λ f. f == g) path < length path
-place_within g [] h = absurd (false≢true h)
-place_within g (x ∷ path) h = go (x == g) h (place_within g path)
-  where
-    go : (b : Bool) → (b || is_in g path) ≡ true
-        → (is_in g path ≡ true → position_or_len (λ f. f == g) path < length path)
-        → cond (not b) (1 + position_or_len (λ f. f == g) path) 0 < suc (length path)
-    go true h rest = omega arith
-    go false h rest = omega (arith, rest h)
-
 begun_head : (f : ℕ) (xs : List ℕ) → is_in f xs ≡ true → get_or (begun_at f xs) 0 0 ≡ f
 begun_head f xs h =
     let p = position_or_len (λ g. g == f) xs in
-    let l = place_within f xs h in
+    let l = position_or_len-is_in f xs h in
     ap (λ ys. get_or (ys ++ take p xs) 0 0) (drop_more xs p 0 l)
     ∙ eqb-true (get_or xs p 0) f (passes_at_first (λ g. g == f) xs 0 l)
 
@@ -206,7 +197,7 @@ module _ (n : ℕ) (before : ℕ → ℕ → Bool) (left : ℕ → Bool) (back :
       → IsRound before (repeated_part path g)
   repeats path g h c =
       let p = position_or_len (λ f. f == g) path in
-      let l = place_within g path h in
+      let l = position_or_len-is_in g path h in
       let P : List ℕ → Type 0 = IsChain before in
       let at : get_or path p 0 ≡ g = eqb-true _ g (passes_at_first (λ f. f == g) path 0 l) in
       let cut : drop p path ≡ g ∷ drop (p + 1) path = drop_more path p 0 l ∙ ap (λ k. k ∷ drop (p + 1) path) at in

@@ -1,11 +1,9 @@
 -- Agents that were read by their rows have no fault, and are the agents that the value holds.
 use Rattle.std.proofs.Common.{◌≡◌, ℕ, zero, suc, ◌+◌, ◌<◌, List, [], ◌∷◌, ◌++◌, map, take, length, false, Option, Some, codes, refl, sym, ap, ap₂, subst, ◌∙◌, append_assoc, append-nil, length-append, take_at, arith}
-use Rattle.std.specs.Prelude.{ℤ, ◌==◌, ◌||◌, is_some, slice_get, slice_index_or, if◌then◌else◌}
+use Rattle.std.specs.Prelude.{ℤ, ◌==◌, is_some, slice_get, slice_index_or, if◌then◌else◌}
 use Rattle.std.specs.List.{AllZip, flat_map}
 use Rattle.std.specs.Option.{option_map_or}
-use Rattle.std.specs.Str.{bytes_eq}
-use Rattle.std.proofs.lemmas.Bool.{or_parts, eq-eqb, ne_eqb}
-use Rattle.std.proofs.lemmas.List.Elements.{filter_map-append}
+use Rattle.std.proofs.lemmas.Bool.{eq-eqb, ne_eqb}
 use Rattle.flame_rows.specs.Bags.{ascending}
 use Rattle.flame_rows.proofs.Lists.{append-nils}
 use Rattle.serde_json.specs.Data.{Data}
@@ -20,15 +18,17 @@ use Rattle.flame_world.specs.WorldLaws.{IsRowOf}
 use Rattle.flame_world.proofs.Eachs.{all_each, each_also, each_map}
 use Rattle.flame_popfile.specs.declared.formats.Format.TheVariants.{Two}
 use Rattle.flame_popfile.specs.declared.faults.PopKind.TheVariants.{UnknownAgent, Duplicate}
-use Rattle.flame_popfile.specs.PopulationParts.{name_in, refused, each_member, list_faults, ints_faults, members_of, numbers_of}
+use Rattle.flame_popfile.specs.PopulationParts.{refused, each_member, list_faults, ints_faults, members_of, numbers_of}
 use Rattle.flame_popfile.specs.PopulationFaults.{type_named, content_faults, member_name_faults, agent_faults, taken_names, agents_faults}
 use Rattle.flame_popfile.specs.PopulationAgents.{agents_in, is_of_type, agents_of}
 use Rattle.flame_popfile.specs.DealtAgents.{AreDealt}
-use Rattle.flame_popfile.proofs.PutMembers.{IsNoneOf, AllDiffer}
-use Rattle.flame_popfile.proofs.NameSearches.{AreNumbered, names_apart}
+use Rattle.flame_popfile.proofs.PutMembers.{AllDiffer}
+use Rattle.flame_popfile.proofs.NameSearches.{AreNumbered}
 use Rattle.flame_popfile.proofs.PopulationValues.{list_of, row_value, bag_value}
-use Rattle.flame_popfile.proofs.ReadRows.{IsClear, items_back, each_clear, row_back, row_clear}
+use Rattle.flame_popfile.proofs.ReadRows.{IsClear, items_back, each_clear, row_clear}
 use Rattle.flame_popfile.proofs.Dealing.{bags_dealt}
+use Rattle.flame_popfile.proofs.ReadAgents.{rows_back}
+use Rattle.flame_popfile.proofs.ClearMembers.{IsNewAfter, new_after, none_before}
 use Rattle.flame_tokens.specs.MemberTrees.{IsWide}
 use Rattle.flame_tokens.specs.BagTrees.{AreWide}
 use Rattle.flame_starts.proofs.TreeValues.{bag_values}
@@ -78,34 +78,6 @@ bag_clear all earlier path number type rows found new are =
     (each_map (IsRowOf wide) (IsClear (ints_faults wide)) row_value
     (λ row is path. row_clear wide path row is.0 is.1) rows are))
 
-among_more :
-    (name : List ℕ) (names : List (List ℕ)) (other : List ℕ)
-    → is_among name names ≡ false → bytes_eq name other ≡ false → is_among name (names ++ other ∷ []) ≡ false
-among_more name [] other h e = ap (λ b. b || false) e
-among_more name (first ∷ names) other h e =
-    let both = or_parts (bytes_eq name first) (is_among name names) h in
-    ap₂ (λ a b. a || b) both.0 (among_more name names other both.1 e)
-
--- no earlier member has the name of the type
-abbrev IsNewAfter : List Data → AgentType → Type 0
-IsNewAfter before type = is_among type.name (taken_names Two before) ≡ false
-
-new_after :
-    (before : List Data) (name : List ℕ) (rows : List (List ℤ)) (types : List AgentType)
-    → IsNoneOf name (map (λ (type : AgentType). type.name) types)
-    → Each (IsNewAfter before) types
-    → Each (IsNewAfter (before ++ bag_value name rows ∷ [])) types
-new_after before name rows [] apart new = tt
-new_after before name rows (type ∷ types) apart new = (
-  ap (is_among type.name) (filter_map-append name_in before (bag_value name rows ∷ []))
-      ∙ among_more type.name (taken_names Two before) name new.0 (names_apart type.name name (λ e. apart.0 (sym e))),
-  new_after before name rows types apart.1 new.1,
-)
-
-none_before : (types : List AgentType) → Each (IsNewAfter []) types
-none_before [] = tt
-none_before (type ∷ types) = (refl, none_before types)
-
 each_bag_clear :
     (all : List AgentType) (path : List ℕ) (values before : List Data) (n i : ℕ) (types : List AgentType)
     (dealt : List (List (List ℤ)))
@@ -150,10 +122,6 @@ bags_clear types path dealt apart found are =
 
 -- ---- the agents
 
-each_row_back : (wide : ℕ) (rows : List (List ℤ)) → Each (IsRowOf wide) rows → map (numbers_of wide) (map row_value rows) ≡ rows
-each_row_back wide [] are = refl
-each_row_back wide (row ∷ rows) are = ap₂ (λ r rs. r ∷ rs) (row_back wide row are.0.1) (each_row_back wide rows are.1)
-
 -- what a member gives to the type of this number
 abbrev given : List AgentType → ℕ → List Variable → Data → List (List ℤ)
 given all number variables value = if is_of_type all number value then agents_in Two variables value else []
@@ -173,7 +141,7 @@ gives_own all number type rows found are =
     found
     ∙ ap (λ b. if b then agents_in Two type.memory value else []) (eq-eqb number number refl)
     ∙ ap (map (numbers_of wide)) (items_back (map row_value rows))
-    ∙ each_row_back wide rows are
+    ∙ rows_back wide rows are
 
 -- and nothing to others
 gives_no_other :

@@ -1,9 +1,8 @@
 -- The values that serde_json reads of the trees of populations.
 use Rattle.std.proofs.Common.{◌≡◌, ℕ, suc, ◌^◌, ◌<◌, ◌≤◌, List, [], ◌∷◌, ◌++◌, map, take, drop, length, Bool, true, false, Option, Some, None, option_map, option_and_then, IfSome, codes, refl, sym, ap, subst, ◌∙◌, arith, length-drop, append-nil}
-use Rattle.std.specs.Prelude.{ℤ, pos, negsuc, int_le}
+use Rattle.std.specs.Prelude.{ℤ, pos, negsuc}
 use Rattle.std.specs.Fmt.{signed_decimal}
 use Rattle.std.specs.List.{AllZip}
-use Rattle.std.proofs.lemmas.Bool.{and_parts, leb-true}
 use lib.Signed.{mag}
 use Rattle.json.specs.Json as json
 use Rattle.json.specs.Json.{Json}
@@ -16,7 +15,6 @@ use Rattle.serde_json.specs.Read.{number_of, of_json, of_items, of_members, read
 use Rattle.serde_json.specs.View.{items_of}
 use Rattle.serde_json.proofs.Numbers.{number_of-decimal, number_of-negative}
 use Rattle.flame_rows.proofs.Lists.{AllZip-append}
-use Rattle.flame_ops.specs.Integers.{least, greatest}
 use Rattle.flame_spec.specs.declared.models.Model.{Model}
 use Rattle.flame_spec.specs.declared.models.AgentType.{AgentType}
 use Rattle.flame_spec.specs.declared.models.Variable.{Variable}
@@ -35,7 +33,7 @@ use Rattle.flame_popfile.specs.declared.formats.Format.{Format}
 use Rattle.flame_popfile.specs.declared.formats.Format.TheVariants.{One, Two}
 use Rattle.flame_popfile.proofs.PopulationValues.{object_of, list_of, int_value, row_value, variable_value, variable_pairs, memory_value, constant_pairs, named_value, agent_value, bag_value, environment_value}
 use Rattle.flame_popfile.proofs.PutMembers.{put_all}
-use Rattle.flame_popfile.proofs.WrittenRows.{each_zip, each_take}
+use Rattle.flame_popfile.proofs.WrittenRows.{each_zip, each_take, int_small}
 
 -- the tree, nested no deeper than this, is read as the value
 pub record Reads (deep : ℕ) (tree : Json) (value : Data) : Type 0 where
@@ -107,18 +105,12 @@ reads_object deep trees pairs all = record {
 
 -- ---- numbers and rows
 
-small : (z : ℤ) → IsInt z → mag z < 2 ^ 63
-small (pos n) h =
-    omega (arith, leb-true n 2147483647 (and_parts (int_le least (pos n)) (int_le (pos n) greatest) h).1)
-small (negsuc n) h =
-    omega (arith, leb-true n 2147483647 (and_parts (int_le least (negsuc n)) (int_le (negsuc n) greatest) h).0)
-
 number_read : (z : ℤ) → mag z < 2 ^ 63 → number_of (signed_decimal z) ≡ Some (of_integer z)
 number_read (pos n) h = number_of-decimal n (omega arith)
 number_read (negsuc n) h = number_of-negative n (omega arith)
 
 pub reads_int : (deep : ℕ) (z : ℤ) → IsInt z → Reads deep (number_tree z) (int_value z)
-reads_int deep z h = record { same = ap (option_map number) (number_read z (small z h)); shallow = omega arith }
+reads_int deep z h = record { same = ap (option_map number) (number_read z (int_small z h)); shallow = omega arith }
 
 pub reads_row : (deep : ℕ) (row : List ℤ) → AreInts row → Reads (suc deep) (row_tree row) (row_value row)
 reads_row deep row ints =
@@ -243,7 +235,7 @@ mutual
     value = int_value is.number;
     same =
         ap (λ s. option_map number (number_of s)) is.same
-        ∙ ap (option_map number) (number_read is.number (small is.number is.int));
+        ∙ ap (option_map number) (number_read is.number (int_small is.number is.int));
   }
   plain_read (json.string text) is = record { value = string text; same = refl }
   plain_read (json.array trees) are =

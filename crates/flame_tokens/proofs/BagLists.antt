@@ -2,11 +2,10 @@
 use Rattle.std.proofs.Common.{◌≡◌, ℕ, ◌+◌, ◌<◌, List, [], ◌∷◌, ◌++◌, take, length, get_or, true, refl, sym, ap, subst, ◌∙◌}
 use Rattle.std.specs.Prelude.{ℤ}
 use Rattle.std.specs.List.{AllZip}
-use Rattle.std.proofs.lemmas.List.{take_more}
 use Rattle.json.specs.Token.{Token, begin_array, end_array}
 use Rattle.json.specs.Json.{Json}
 use Rattle.json.specs.Tree.{json_tokens}
-use Rattle.flame_rows.proofs.Lists.{AllZip-append}
+use Rattle.flame_rows.proofs.Lists.{AllZip-append, take-next}
 use Rattle.flame_spec.specs.declared.models.AgentType.{AgentType}
 use Rattle.flame_tokens.specs.NumberTrees.{list_tree, begun}
 use Rattle.flame_tokens.specs.BagTrees.{bag_tree, bag_trees, AreWide}
@@ -23,12 +22,6 @@ trees_more (first ∷ types) type [] rows are = absurd are
 trees_more (first ∷ types) type (other ∷ dealt) rows are =
     ap (λ (trees : List Json). bag_tree first other ∷ trees) (trees_more types type dealt rows are.1)
 
-next :
-    (types : List AgentType) (i : ℕ) (type : AgentType)
-    → i < length types → type ≡ get_or types i type → take (i + 1) types ≡ take i types ++ type ∷ []
-next types i type within is =
-    take_more types i type within ∙ ap (λ (t : AgentType). take i types ++ t ∷ []) (sym is)
-
 -- the tokens of the types so far and of one more
 pub bags_more :
     (types : List AgentType) (i : ℕ) (type : AgentType) (dealt : List (List (List ℤ))) (rows : List (List ℤ))
@@ -39,7 +32,7 @@ pub bags_more :
     → begun (bag_trees (take (i + 1) types) (dealt ++ rows ∷ [])) ++ rest
     ≡ begun (bag_trees (take i types) dealt) ++ (json_tokens (bag_tree type rows) ++ rest)
 bags_more types i type dealt rows rest within is are =
-    ap (λ (ts : List AgentType). begun (bag_trees ts (dealt ++ rows ∷ [])) ++ rest) (next types i type within is)
+    ap (λ (ts : List AgentType). begun (bag_trees ts (dealt ++ rows ∷ [])) ++ rest) (take-next types i type within is)
     ∙ ap (λ (trees : List Json). begun trees ++ rest) (trees_more (take i types) type dealt rows are)
     ∙ begun_more (bag_trees (take i types) dealt) (bag_tree type rows) rest
 
@@ -52,7 +45,7 @@ pub wide_more :
     → AreWide type rows
     → AllZip AreWide (take (i + 1) types) (dealt ++ rows ∷ [])
 wide_more types i type dealt rows within is are wide =
-    subst (λ (ts : List AgentType). AllZip AreWide ts (dealt ++ rows ∷ [])) (sym (next types i type within is))
+    subst (λ (ts : List AgentType). AllZip AreWide ts (dealt ++ rows ∷ [])) (sym (take-next types i type within is))
     (AllZip-append AreWide (take i types) dealt (type ∷ []) (rows ∷ []) are (wide, tt))
 
 -- the list ends

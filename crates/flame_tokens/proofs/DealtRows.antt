@@ -1,5 +1,5 @@
 -- Rows that are dealt out to their types.
-use Rattle.std.proofs.Common.{◌≡◌, ℕ, zero, suc, ◌<◌, List, [], ◌∷◌, ◌++◌, length, get_or, map, refl, ap, sym, ◌∙◌, subst, arith, append-nil}
+use Rattle.std.proofs.Common.{◌≡◌, ℕ, ◌<◌, List, [], ◌∷◌, ◌++◌, length, get_or, map, refl, ap, sym, ◌∙◌, subst, append-nil}
 use Rattle.std.proofs.Common.{Bool, true, false, cond}
 use Rattle.std.specs.Prelude.{ℤ, ◌==◌, slice_set, slice_index_or, Vec, replicate}
 use Rattle.std.specs.Global.{Global}
@@ -7,30 +7,12 @@ use Rattle.std.proofs.lemmas.Bool.{eqb-true, eqb-false}
 use Rattle.std.proofs.lemmas.List.{length-map, length-set, length-replicate, get_or-replicate, flat_map_more}
 use Rattle.std.proofs.lemmas.List.Elements.{All-nil, All-push}
 use Rattle.json.specs.Token.{Token, begin_object, begin_array, end_array}
-use Rattle.flame_rows.specs.Bags.{ascending}
-use Rattle.flame_rows.proofs.Lists.{slice_index_or-map}
+use Rattle.flame_rows.proofs.Lists.{slice_index_or-map, slice_index_or-map_slice_set, slice_index_or-map_slice_set_other}
 use Rattle.flame_spec.specs.declared.models.AgentType.{AgentType}
 use Rattle.flame_tokens.specs.NumberTrees.{begun}
-use Rattle.flame_tokens.specs.AgentTrees.{IsOfTypes, listed_tree, agents_tree, row_for, rows_of, bags_of, IsDealt, IsAdded, AreBegun, AreRead}
+use Rattle.flame_tokens.specs.AgentTrees.{IsOfTypes, listed_tree, agents_tree, row_for, IsDealt, IsAdded, AreBegun, AreRead}
 use Rattle.flame_tokens.specs.PopulationTrees.{HasAgents}
 use Rattle.flame_tokens.proofs.TokenLists.{mapped_more, list_closed}
-
-written_here :
-    {X Y : Type 0} (g : X → Y) (d : Y) (xs : List X) (i : ℕ) (new : X)
-    → i < length xs → slice_index_or (map g (slice_set xs i new)) i d ≡ g new
-written_here g d [] i new within = absurd (omega (arith, within))
-written_here g d (x ∷ xs) zero new within = refl
-written_here g d (x ∷ xs) (suc i) new within = written_here g d xs i new (omega (arith, within))
-
-written_elsewhere :
-    {X Y : Type 0} (g : X → Y) (d : Y) (xs : List X) (i n : ℕ) (new : X)
-    → (i ≡ n → ⊥) → slice_index_or (map g (slice_set xs i new)) n d ≡ slice_index_or (map g xs) n d
-written_elsewhere g d [] i n new other = refl
-written_elsewhere g d (x ∷ xs) zero zero new other = absurd (other refl)
-written_elsewhere g d (x ∷ xs) zero (suc n) new other = refl
-written_elsewhere g d (x ∷ xs) (suc i) zero new other = refl
-written_elsewhere g d (x ∷ xs) (suc i) (suc n) new other =
-    written_elsewhere g d xs i n new (λ e. other (ap suc e))
 
 abbrev items_of : Vec (List ℤ) Global → List (List ℤ)
 items_of rows = rows.items
@@ -52,7 +34,7 @@ dealt_at dealt number row old new within was becomes = record {
         slice_index_or (map items_of (slice_set dealt number new)) number []
         ≡ slice_index_or (map items_of dealt) number [] ++ row ∷ []
     here =
-        written_here items_of [] dealt number new within
+        slice_index_or-map_slice_set items_of [] dealt number new within
         ∙ becomes
         ∙ ap (λ l. l ++ row ∷ []) (sym (slice_index_or-map items_of [] dealt number old within was))
 
@@ -67,7 +49,7 @@ dealt_at dealt number row old new within was becomes = record {
         ≡ slice_index_or (map items_of dealt) n [] ++ row ∷ [])
         same here
     at_other other false e =
-        written_elsewhere items_of [] dealt number other new (eqb-false number other e)
+        slice_index_or-map_slice_set_other items_of [] dealt number other new (eqb-false number other e)
         ∙ sym (append-nil (slice_index_or (map items_of dealt) other []))
 
 -- nobody was read
@@ -126,17 +108,6 @@ all_read types first old new dealt so_far ends = record {
   known = so_far.known;
   dealt_are = so_far.dealt_are;
 }
-
--- the bags of rows are those of the rows' lists
-pub bags_of-rows : (dealt : Vec (Vec (List ℤ) Global) Global) → bags_of dealt ≡ map ascending (rows_of dealt)
-bags_of-rows dealt = each_bag dealt.items
-  where
-    each_bag :
-        (all : List (Vec (List ℤ) Global))
-        → map (λ (rows : Vec (List ℤ) Global). ascending rows.items) all
-        ≡ map ascending (map (λ (rows : Vec (List ℤ) Global). rows.items) all)
-    each_bag [] = refl
-    each_bag (rows ∷ all) = ap (λ bags. ascending rows.items ∷ bags) (each_bag all)
 
 -- agents that were read one by one
 pub listed_read :

@@ -1,11 +1,12 @@
 -- A row with the numbers of one variable more.
-use Rattle.std.proofs.Common.{◌≡◌, ℕ, ◌+◌, ◌<◌, ◌≤◌, List, [], ◌∷◌, ◌++◌, take, drop, length, get_or, Option, Some, None, refl, sym, ap, ap₂, ◌∙◌, arith}
+use Rattle.std.proofs.Common.{◌≡◌, ℕ, ◌+◌, ◌<◌, ◌≤◌, List, [], ◌∷◌, ◌++◌, take, drop, length, get_or, Option, Some, None, refl, ap, ap₂, ◌∙◌, arith}
 use Rattle.std.proofs.Common.{length-drop}
 use Rattle.std.specs.Prelude.{ℤ}
-use Rattle.std.proofs.lemmas.List.{take_more, take-append-le, drop-append-le}
+use Rattle.std.proofs.lemmas.List.{take-append-le, drop-append-le}
 use Rattle.json.specs.Token.{Token, key}
 use Rattle.json.specs.Json.{Json}
 use Rattle.json.specs.Tree.{json_tokens}
+use Rattle.flame_rows.proofs.Lists.{take-next}
 use Rattle.flame_spec.specs.declared.models.Variable.{Variable}
 use Rattle.flame_spec.specs.Columns.{width, width_by, width_of}
 use Rattle.flame_tokens.specs.NumberTrees.{row_tree}
@@ -34,14 +35,6 @@ trees_more (other ∷ variables) variable row more long =
     (ap (variable_trees (variables ++ variable ∷ [])) (drop-append-le wide row more (omega (arith, long)))
     ∙ trees_more variables variable (drop wide row) more (omega (arith, long, length-drop wide row)))
 
-next :
-    (variables : List Variable) (i : ℕ) (variable : Variable)
-    → i < length variables
-    → variable ≡ get_or variables i variable
-    → take (i + 1) variables ≡ take i variables ++ variable ∷ []
-next variables i variable within is =
-    take_more variables i variable within ∙ ap (λ (v : Variable). take i variables ++ v ∷ []) (sym is)
-
 -- the tokens of the variables so far and of one more
 pub more_values :
     (variables : List Variable) (i : ℕ) (variable : Variable) (row more : List ℤ) (rest : List Token)
@@ -52,6 +45,6 @@ pub more_values :
     ≡ keyed (variable_trees (take i variables) row)
     ++ key variable.name ∷ (json_tokens (variable_tree variable.length more) ++ rest)
 more_values variables i variable row more rest within is long =
-    ap (λ (vs : List Variable). keyed (variable_trees vs (row ++ more)) ++ rest) (next variables i variable within is)
+    ap (λ (vs : List Variable). keyed (variable_trees vs (row ++ more)) ++ rest) (take-next variables i variable within is)
     ∙ ap (λ ps. keyed ps ++ rest) (trees_more (take i variables) variable row more long)
     ∙ keyed_more (variable_trees (take i variables) row) (variable.name, variable_tree variable.length more) rest

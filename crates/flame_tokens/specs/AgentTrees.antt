@@ -1,11 +1,9 @@
 -- The agents of a population: as they stand in its text, and each type's.
-use Rattle.std.specs.Prelude.{◌≡◌, ℕ, ℤ, ◌<◌, ◌==◌, List, [], ◌∷◌, ◌++◌, map, length, Some, slice_get, slice_index_or, All, Vec, if◌then◌else◌}
-use Rattle.std.specs.Global.{Global}
+use Rattle.std.specs.Prelude.{◌≡◌, ℕ, ℤ, ◌<◌, ◌==◌, List, [], ◌∷◌, ◌++◌, map, length, Some, slice_get, slice_index_or, All, if◌then◌else◌}
 use Rattle.std.specs.List.{flat_map}
 use Rattle.json.specs.Token.{Token, begin_object, begin_array}
 use Rattle.json.specs.Json.{Json}
 use Rattle.json.specs.Tree.{json_tokens}
-use Rattle.flame_rows.specs.Bags.{ascending}
 use Rattle.flame_spec.specs.declared.models.AgentType.{AgentType}
 use Rattle.flame_spec.specs.Columns.{width}
 use Rattle.flame_tokens.specs.NumberTrees.{list_tree, begun}
@@ -42,14 +40,6 @@ row_for number listed = if listed.number == number then listed.row ∷ [] else [
 -- the rows of all that are of the type of this number, in their order [own]
 abbrev pub rows_for : ℕ → List Listed → List (List ℤ)
 rows_for number all = flat_map (row_for number) all
-
--- the rows that stand in vectors [own]
-abbrev pub rows_of : Vec (Vec (List ℤ) Global) Global → List (List (List ℤ))
-rows_of dealt = map (λ (rows : Vec (List ℤ) Global). rows.items) dealt.items
-
--- the bags of these rows [own]
-abbrev pub bags_of : Vec (Vec (List ℤ) Global) Global → List (List (List ℤ))
-bags_of dealt = map (λ (rows : Vec (List ℤ) Global). ascending rows.items) dealt.items
 
 -- each type has its agents of these, in their order [own]
 pub record AreDealt (types : List AgentType) (all : List Listed) (dealt : List (List (List ℤ))) : Type 0 where

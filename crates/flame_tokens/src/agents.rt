@@ -1,7 +1,8 @@
 //! The agents of a population.
 
 ghost use Rattle.std.specs.Prelude.{◌≡◌, ◌<◌, [], length, replicate, IfSome, OnSome};
-ghost use Rattle.flame_tokens.specs.AgentTrees.{rows_of, IsDealt, IsAdded, AreRead};
+ghost use Rattle.flame_tokens.specs.AgentTrees.{IsDealt, IsAdded, AreRead};
+ghost use Rattle.flame_rows.specs.RowVectors.{rows_of};
 
 use crate::members::{agent, name};
 use crate::memories::opens;

@@ -6,7 +6,7 @@ ghost use Rattle.json.specs.Token.{key, string};
 ghost use Rattle.json.specs.Tree.{json_tokens};
 ghost use Rattle.flame_tokens.specs.NumberTrees.{row_tree, begun};
 ghost use Rattle.flame_tokens.specs.MemberTrees.{IsWide};
-ghost use Rattle.flame_tokens.specs.AgentTrees.{rows_of};
+ghost use Rattle.flame_rows.specs.RowVectors.{rows_of};
 ghost use Rattle.flame_tokens.specs.BagTrees.{rows_tree, bag_tree, bag_trees, AreWide};
 ghost use Rattle.flame_tokens.specs.PopulationTrees.{HasAgents};
 

@@ -2,7 +2,7 @@
 
 ghost use Rattle.std.specs.Prelude.{◌≡◌, pos, replicate, option_map, IfSome};
 ghost use Rattle.flame_rows.specs.Bags.{ascending};
-ghost use Rattle.flame_tokens.specs.AgentTrees.{bags_of};
+ghost use Rattle.flame_rows.specs.RowVectors.{bags_of};
 ghost use Rattle.flame_tokens.specs.PopulationTrees.{number_or, values_or};
 
 use flame_rows::{Bag, Row, Seq};

@@ -2,7 +2,7 @@
 
 ghost use Rattle.std.specs.Prelude.{IfSome, option_map};
 ghost use Rattle.json.specs.Lex.{tokens};
-ghost use Rattle.flame_tokens.specs.AgentTrees.{rows_of};
+ghost use Rattle.flame_rows.specs.RowVectors.{rows_of};
 ghost use Rattle.flame_tokens.specs.PopulationTrees.{IsWhole, IsPopulation};
 
 use crate::parts::{bags_of, constants_or, number_or};

@@ -4,7 +4,7 @@ ghost use Rattle.std.specs.Prelude.{◌≡◌, ◌++◌, ◌∷◌, codes, false
 ghost use Rattle.json.specs.Token.{key};
 ghost use Rattle.json.specs.Tree.{json_tokens};
 ghost use Rattle.flame_tokens.specs.MemberTrees.{keyed, object_tree};
-ghost use Rattle.flame_tokens.specs.AgentTrees.{rows_of};
+ghost use Rattle.flame_rows.specs.RowVectors.{rows_of};
 ghost use Rattle.flame_tokens.specs.PopulationTrees.{constant_trees, version_number, version_trees, itno_trees};
 ghost use Rattle.flame_tokens.specs.PopulationTrees.{environment_tree, environment_trees, IsItno, AreConstants};
 ghost use Rattle.flame_tokens.specs.PopulationTrees.{HasAgents, HasBoards, AreStates, IsWhole};

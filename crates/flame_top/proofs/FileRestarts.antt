@@ -39,6 +39,7 @@ use Rattle.flame_top.specs.OrderReports.{source_read, start_read, version, order
 use Rattle.flame_top.specs.RestartedFiles.{with_turns, report_of_turns, begun_again, IsOfBoth, RunsRestartFromFiles, RunsRestartFromOwnFiles}
 use Rattle.flame_top.proofs.GivenInputs.{given_in_lines}
 use Rattle.flame_top.proofs.LeftFiles.{left_agree, last_is_left}
+use Rattle.flame_top.proofs.OneAnswers.{one_answer}
 
 -- ---- what was read
 
@@ -56,9 +57,6 @@ given_without_lines {R = R} {X = X} line reading x given = go reading.answer giv
 was_found : {R X : Type 0} (refusal_of : FileFault → R) (found : Result X FileFault) (x : X) → found_or refusal_of found ≡ Ok x → found ≡ Ok x
 was_found refusal_of (Ok y) x is = let same : y ≡ x = cc in ap Ok same
 was_found refusal_of (Err fault) x is = absurd (cc)
-
-one_answer : {X E : Type 0} (answer : Result X E) (x y : X) → answer ≡ Ok x → answer ≡ Ok y → x ≡ y
-one_answer answer x y is other = cc
 
 -- a report with status 0 is of inputs that are read
 read_where_fine : (reading : Reading (List ℕ) Report) → (report_in reading).status ≡ 0 → reading.answer ≡ Ok (report_in reading)

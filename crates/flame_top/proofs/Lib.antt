@@ -27,3 +27,4 @@ mod PrintedScripts
 mod RunNames
 mod TrialEndings
 mod TrialInputs
+mod OneAnswers

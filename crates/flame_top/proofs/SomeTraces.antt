@@ -1,5 +1,5 @@
 -- What is carried out with some text of a trace.
-use Rattle.std.proofs.Common.{◌≡◌, ℕ, List, [], Result, Ok, Err, refl, sym, ap, ◌∙◌, subst}
+use Rattle.std.proofs.Common.{◌≡◌, ℕ, List, [], Ok, refl, subst}
 use Rattle.flame_outside.specs.Devices.{SeenDepot, SeenSink}
 use Rattle.flame_outside.specs.Frames.{OnlyReads}
 use Rattle.flame_outside.specs.Scripts.{Outside, outside}
@@ -12,19 +12,11 @@ use Rattle.flame_top.specs.Standing.{Stands}
 use Rattle.flame_top.specs.TraceAnswers.{CarriesSome}
 use Rattle.flame_top.specs.TraceReports.{Traced}
 use Rattle.flame_top.proofs.Standings.{unchanged, carries_known, carries_given, carries_stopped}
+use Rattle.flame_top.proofs.OneAnswers.{one_answer}
 
 -- a text where none was put
 abbrev pub no_trace : Traced
 no_trace = record { bytes = []; events = 0 }
-
-ok_or : {X R : Type 0} → X → Result X R → X
-ok_or x (Ok y) = y
-ok_or x (Err refusal) = x
-
--- an answer gives one thing
-same_given : {X R : Type 0} (x y : X) (answer : Result X R) → answer ≡ Ok x → answer ≡ Ok y → x ≡ y
-unfolding ok_or
-same_given x y answer first second = ap (ok_or x) (sym first ∙ second)
 
 -- nothing was done, for want of memory
 pub some_nothing :
@@ -61,7 +53,7 @@ module _ {X : Type 0} (reading : Reading (List ℕ) X) (such : X → Traced → 
   some_given x ending files old mid out new only given c = record {
     trace = c.trace;
     tells = λ put y other.
-        subst (λ (z : X). such z c.trace) (same_given x y reading.answer given other) (c.tells put);
+        subst (λ (z : X). such z c.trace) (one_answer reading.answer x y given other) (c.tells put);
     carries = carries_given reading (λ y. next y c.trace) x ending files old mid out new only given c.carries;
   }
 

@@ -98,7 +98,7 @@ record Goes (round : Round) (pieces : ℕ) (core : Core) (events count : ℕ) (l
       ++ behind_end round.source.model round.iteration (ending round (replay round pieces core told)))
 
 -- a line, and what is behind it
-line_text-append : (line rest : List ℕ) → line_text line ++ rest ≡ line ++ line_feed ∷ rest
+pub line_text-append : (line rest : List ℕ) → line_text line ++ rest ≡ line ++ line_feed ∷ rest
 line_text-append line rest = append_assoc line (line_feed ∷ []) rest
 
 goes_at_end : (round : Round) (pieces : ℕ) (core : Core) (events count : ℕ) (line rest : List ℕ)

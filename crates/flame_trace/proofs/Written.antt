@@ -5,7 +5,7 @@ use Rattle.std.specs.Prelude.{◌==◌, ℤ, pos, negsuc, ◌≤ℤ◌, All}
 use Rattle.std.specs.Fmt.{decimal, signed_decimal}
 use Rattle.std.specs.List.{list_all}
 use Rattle.std.specs.Ordering.{int_eq}
-use Rattle.std.proofs.lemmas.Bool.{and_parts}
+use Rattle.std.proofs.lemmas.Bool.{and_parts, not-true}
 use Rattle.std.proofs.lemmas.Bool.Decides.{Decides-int_eq}
 use Rattle.std.proofs.lemmas.Int.{ints}
 use Rattle.std.proofs.lemmas.List.Elements.{All-append, All-cons, All-nil, All-head, All-tail}
@@ -28,7 +28,7 @@ use Rattle.flame_events.specs.EveryOrder.{EveryOrderIsTheIteration}
 use Rattle.flame_events.specs.LegalEvents.{is_legal}
 use Rattle.flame_popfile.specs.declared.starts.Start.{Start}
 use Rattle.flame_trace.specs.declared.heads.Head.{Head}
-use Rattle.flame_trace.specs.TraceLines.{line_feed, parts, all_but_last, head_of, event_of, is_end}
+use Rattle.flame_trace.specs.TraceLines.{parts, all_but_last, head_of, event_of, is_end}
 use Rattle.flame_trace.specs.TraceTexts.{head_line, event_line, memory_words, fault_line, end_line, behind_end, line_text, events_text, trace_text}
 use Rattle.flame_trace.specs.TraceVerdicts.{behind_answer, turn_verdict, end_verdict, verdict_behind, next_number, verdict_under, verdict}
 use Rattle.flame_trace.specs.TraceLaws.{IsNumberedEvent, WrittenIsYes}
@@ -37,12 +37,9 @@ use Rattle.flame_trace.proofs.EventLines.{event_of-event_line}
 use Rattle.flame_trace.proofs.Following.{onward-line, verdict-cut, verdict_behind-onward}
 use Rattle.flame_trace.proofs.HeadLines.{IsHeadOf, head_of-head_line}
 use Rattle.flame_trace.proofs.Numerals.{Lacks, decimal-lacks, signed-lacks, split-part}
+use Rattle.flame_trace.proofs.Telling.{line_text-append}
 
 -- ---- no line feed stands in a line
-
-not-true : (test : Bool) → not test ≡ true → test ≡ false
-not-true true e = cc
-not-true false e = refl
 
 lacks_by : (byte : ℕ) (bytes : List ℕ) → list_all (λ other. not (other == byte)) bytes ≡ true → Lacks byte bytes
 lacks_by byte [] all = All-nil (λ other. (other == byte) ≡ false)
@@ -131,10 +128,6 @@ is_end-end_line (Done world boards) = refl
 is_end-end_line (Faulted fault) = refl
 
 -- ---- from line to line
-
--- a line, and what is behind it
-line_text-append : (line rest : List ℕ) → line_text line ++ rest ≡ line ++ line_feed ∷ rest
-line_text-append line rest = append_assoc line (line_feed ∷ []) rest
 
 parts-line : (line rest : List ℕ) → Lacks 10 line → parts (line_text line ++ rest) ≡ line ∷ parts rest
 parts-line line rest lacks = ap parts (line_text-append line rest) ∙ split-part 10 line rest lacks

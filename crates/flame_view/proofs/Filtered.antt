@@ -2,13 +2,7 @@
 use Rattle.std.proofs.Common.{◌≡◌, ℕ, ◌≤◌, zero, suc, Bool, true, false, cond, not, ◌&&◌, List, [], ◌∷◌, length, take, drop, refl, sym, ap, ◌∙◌, arith}
 use Rattle.std.specs.List.{filter, AllWithin}
 use Rattle.std.specs.List.Sorted.{IsPartitionPoint}
-
--- a test that gives another one
-and-given : (a b : Bool) → (a ≡ true → b ≡ true) → (b && a) ≡ a
-and-given true true gives = refl
-and-given true false gives = gives refl
-and-given false true gives = refl
-and-given false false gives = refl
+use Rattle.flame_rows.proofs.Truths.{and-implied}
 
 module _ {X : Type 0} where
   -- what passes two tests
@@ -23,7 +17,7 @@ module _ {X : Type 0} where
 
   -- where what passes p passes q
   pub filter-given : (p q : X → Bool) → ((x : X) → p x ≡ true → q x ≡ true) → (xs : List X) → filter p (filter q xs) ≡ filter p xs
-  filter-given p q gives = filter-filter p q p (λ x. and-given (p x) (q x) (gives x))
+  filter-given p q gives = filter-filter p q p (λ x. and-implied (q x) (p x) (gives x))
 
   module _ (p : X → Bool) where
     filter-none : (xs : List X) → AllWithin (λ x. p x ≡ false) xs 0 (length xs) → filter p xs ≡ []

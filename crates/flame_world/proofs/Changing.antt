@@ -1,5 +1,5 @@
 -- Lists of which one element is changed, and bags to which rows are added.
-use Rattle.std.proofs.Common.{◌≡◌, ℕ, zero, suc, ◌+◌, Bool, true, false, cond, List, [], ◌∷◌, refl, sym, ap, ◌∙◌}
+use Rattle.std.proofs.Common.{◌≡◌, ℕ, zero, suc, ◌+◌, Bool, true, false, cond, List, [], ◌∷◌, refl, ap, ◌∙◌}
 use Rattle.std.specs.Prelude.{ℤ, not, slice_index_or}
 use Rattle.std.specs.List.{filter}
 use Rattle.flame_rows.specs.Order.{row_order}
@@ -7,7 +7,8 @@ use Rattle.flame_rows.specs.Sorted.{IsAscending}
 use Rattle.flame_rows.specs.Bags.{merge}
 use Rattle.flame_rows.proofs.BagLaws.{empty_is_unit}
 use Rattle.flame_meaning.specs.RangeLaws.{Each}
-use Rattle.flame_world.specs.Fields.{changed, changed_pool, pool_in, joined_from, joined}
+use Rattle.flame_meaning.proofs.Eachs.{each_index}
+use Rattle.flame_world.specs.Fields.{changed, changed_pool, pool_in, joined_from}
 
 -- what is changed to itself stays
 pub changed-same : {X : Type 0} (change : X → X) (d : X) (place : ℕ) (xs : List X)
@@ -24,19 +25,11 @@ changed_pool-same change agent state pools same =
     changed-same (changed state change) [] agent pools
     (changed-same change [] state (slice_index_or pools agent []) same)
 
--- what holds of all, and of what stands for none, holds of each
-pub Each-index : {X : Type 0} (P : X → Type 0) (d : X) (xs : List X) (place : ℕ) → Each P xs → P d → P (slice_index_or xs place d)
-Each-index P d [] place all none = none
-Each-index P d (x ∷ xs) zero all none = all.0
-Each-index P d (x ∷ xs) (suc place) all none = Each-index P d xs place all.1 none
-
 pub pool-IsAscending : (pools : List (List (List (List ℤ)))) (agent state : ℕ)
     → Each (λ pools. Each (IsAscending row_order) pools) pools
     → IsAscending row_order (pool_in pools agent state)
 pool-IsAscending pools agent state bags =
-    Each-index (IsAscending row_order) [] (slice_index_or pools agent []) state
-    (Each-index (λ pools. Each (IsAscending row_order) pools) [] pools agent bags tt)
-    tt
+    each_index (IsAscending row_order) [] (slice_index_or pools agent []) state tt (each_index (λ pools. Each (IsAscending row_order) pools) [] pools agent tt bags)
 
 -- where no rows come, bags stay
 pub joined_from-none : (rows : ℕ → List (List ℤ)) (i : ℕ) (bags : List (List (List ℤ)))

@@ -15,13 +15,14 @@ use Rattle.flame_spec.specs.Accepted.{has_one_start}
 use Rattle.flame_spec.specs.Choice.{choice, is_chosen}
 use Rattle.flame_spec.specs.Functions.{Place, functions}
 use Rattle.flame_spec.specs.States.{states, is_entered, start_states, state_place}
+use Rattle.flame_spec.proofs.FunctionPlaces.{functions_from-function}
 use Rattle.flame_world.specs.declared.faults.SimFault.{SimFault}
 use Rattle.flame_world.specs.AgentRuns.{survivors}
 use Rattle.flame_world.specs.Fields.{Field, HasPools, begun, opening, pool_in, changed, changed_pool, gathered}
 use Rattle.flame_world.specs.Iterations.{Round, resting, taking, staying, outcome_in, moved, unless_faulted, step_at, step}
 use Rattle.flame_world.specs.CountLaws.{count_in, resting_in, AllAgentsBegin, SurvivorsReplaceTakers, SurvivorsAndBirthsRemain}
 use Rattle.flame_world.proofs.Eachs.{zip_at, zip_changed}
-use Rattle.flame_world.proofs.NextStates.{next_state, function_at}
+use Rattle.flame_world.proofs.NextStates.{next_state}
 use Rattle.flame_world.proofs.RowsKept.{place_type}
 
 -- ---- sums
@@ -193,7 +194,7 @@ moved_counts round function place field pooled at =
     let left = changed_pool place.agent current stay field.pools in
     let pooled_left = pooled_changed model.agents field.pools place.agent current stay pooled in
     let typed = place_type model function place at in
-    let found = function_at 0 model.agents function place at in
+    let found = functions_from-function 0 model.agents function place at in
     let within_agent = zip_within Pooled model.agents left place.agent place.type pooled_left typed in
     let own = zip_at Pooled model.agents left place.agent place.type [] pooled_left typed in
     let within_state : next < length (slice_index_or left place.agent []) =

@@ -1,6 +1,6 @@
 -- The states that a function leaves and enters are states of its type.
 use mathlib.Core.Bool.{or-true}
-use Rattle.std.proofs.Common.{◌≡◌, ℕ, zero, suc, ◌+◌, ◌<◌, Bool, true, false, cond, List, [], ◌∷◌, ◌++◌, length, map, Some, refl, sym, ap, ◌∙◌, arith, subst}
+use Rattle.std.proofs.Common.{◌≡◌, ℕ, zero, suc, ◌+◌, ◌<◌, Bool, true, false, cond, List, [], ◌∷◌, ◌++◌, length, Some, refl, sym, ap, ◌∙◌, arith, subst}
 use Rattle.std.specs.Prelude.{not, ◌||◌, slice_get}
 use Rattle.std.specs.List.{list_any, position_or_len}
 use Rattle.std.specs.Str.{bytes_eq}
@@ -8,9 +8,7 @@ use Rattle.std.proofs.lemmas.Slice.Eq.{bytes_eq-Decides}
 use Rattle.std.proofs.lemmas.List.Folds.{list_any-append}
 use Rattle.std.proofs.lemmas.Bool.{false≢true}
 use Rattle.flame_rows.proofs.Bytes.{bytes_eq-self}
-use Rattle.flame_spec.specs.declared.models.AgentType.{AgentType}
 use Rattle.flame_spec.specs.declared.models.Function.{Function}
-use Rattle.flame_spec.specs.Functions.{Place, functions_from, at_type}
 use Rattle.flame_spec.specs.KnownNames.{is_among}
 use Rattle.flame_spec.specs.States.{distinct_after, ends, states}
 
@@ -103,20 +101,3 @@ current_state [] j function at = absurd cc
 current_state (own ∷ functions) j function at =
     any_position (is_it function.current) (states (own ∷ functions))
     (any_distinct function.current [] (ends (own ∷ functions)) refl (any_begin (own ∷ functions) j function at))
-
-pub function_at : (i : ℕ) (types : List AgentType) (f : ℕ) (place : Place)
-    → slice_get (functions_from i types) f ≡ Some place
-    → (j : ℕ) × (slice_get place.type.functions j ≡ Some place.function)
-function_at i [] f place at = absurd cc
-function_at i (type ∷ types) f place at = go type.functions f at (λ g there. function_at (i + 1) types g place there) (λ j found there. (j, there))
-  where
-    go : (own : List Function) (g : ℕ) → slice_get (map (at_type i type) own ++ functions_from (i + 1) types) g ≡ Some place
-        → ((h : ℕ) → slice_get (functions_from (i + 1) types) h ≡ Some place → (j : ℕ) × (slice_get place.type.functions j ≡ Some place.function))
-        → ((j : ℕ) (found : Function) → slice_get own j ≡ Some found → (k : ℕ) × (slice_get type.functions k ≡ Some found))
-        → (j : ℕ) × (slice_get place.type.functions j ≡ Some place.function)
-    go [] g there later within = later g there
-    go (function ∷ own) zero there later within =
-        let same : at_type i type function ≡ place = cc in
-        let found = within 0 function refl in
-        subst (λ (p : Place). (j : ℕ) × (slice_get p.type.functions j ≡ Some p.function)) same found
-    go (function ∷ own) (suc g) there later within = go own g there later (λ j found here. within (suc j) found here)

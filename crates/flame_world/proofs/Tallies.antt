@@ -137,7 +137,7 @@ count_in-joined_from born i (bag ∷ bags) =
       count_in-joined_from born (i + 1) bags,
     )
 
-length-joined_from : (rows : ℕ → List (List ℤ)) (i : ℕ) (bags : List (List (List ℤ)))
+pub length-joined_from : (rows : ℕ → List (List ℤ)) (i : ℕ) (bags : List (List (List ℤ)))
     → length (joined_from i rows bags) ≡ length bags
 length-joined_from rows i [] = refl
 length-joined_from rows i (bag ∷ bags) = ap suc (length-joined_from rows (i + 1) bags)

@@ -6,7 +6,7 @@ use Rattle.std.specs.Option.{option_map_or}
 use Rattle.std.specs.Str.{bytes_eq}
 use Rattle.std.proofs.lemmas.Bool.Decides.{nat_tests}
 use Rattle.std.proofs.lemmas.Slice.Eq.{bytes_eq-Decides}
-use Rattle.flame_rows.proofs.Lists.{append-is_nil_left, append-is_nil_right}
+use Rattle.flame_rows.proofs.Lists.{append-is_nil_left, append-is_nil_right, append-nils}
 use Rattle.serde_json.specs.Data.{Data}
 use Rattle.serde_json.specs.Find.{as_str}
 use Rattle.flame_spec.specs.Json.{kept}
@@ -24,8 +24,8 @@ use Rattle.flame_xmml.specs.ShapeFaults.{environment_lists, environment_keys, en
 use Rattle.flame_xmml.specs.ShapeFaults.{wide_variable_faults, wide, wide_faults, plain, shape_faults, xmodel_keys, xmodel_faults}
 use Rattle.flame_xmml.specs.Models.{name_at, length_at, list_at, variable_of, message_of, agent_of, function_of, model_of, environment_of}
 use Rattle.flame_xmml.specs.WideValues.{wide_variable_of, type_of, wide_message_of, wide_agent_of, nested_of, enabled_files, wide_of}
-use Rattle.flame_xmml.specs.PlainFiles.{widened_variable, widened_message, widened_agent, widened}
-use Rattle.flame_xmml.proofs.Firsts.{none_both, object_faults-is}
+use Rattle.flame_spec.specs.PlainFiles.{int_variable, int_message, int_agent, as_file}
+use Rattle.flame_xmml.proofs.Firsts.{object_faults-is}
 use Rattle.flame_xmml.proofs.Formed.{object-is, leaf-is, optional-is, no_members, is_null}
 
 -- an object whose keys have no faults is one
@@ -58,14 +58,14 @@ type-is path value none =
 
 variable-same : (path : List ℕ) (value : Data)
     → variable_faults int_faults path value ≡ []
-    → (wide_variable_faults path value ≡ []) × (wide_variable_of value ≡ widened_variable (variable_of value))
+    → (wide_variable_faults path value ≡ []) × (wide_variable_of value ≡ int_variable (variable_of value))
 variable-same path value none =
     let keys = object-is (variable_keys int_faults) path value none in
     let typed = append-is_nil_left _ _ keys in
     let kind = type-is path value (append-is_nil_left _ _ typed) in (
       object_faults-is (variable_keys name_faults) path value (object-there (variable_keys int_faults) path value none)
-          ∙ none_both (typed_keys name_faults path value) _
-          (none_both (required name_faults (codes "type") path value) _ kind.0 (append-is_nil_right (required int_faults (codes "type") path value) _ typed))
+          ∙ append-nils (typed_keys name_faults path value) _
+          (append-nils (required name_faults (codes "type") path value) _ kind.0 (append-is_nil_right (required int_faults (codes "type") path value) _ typed))
           (append-is_nil_right (typed_keys int_faults path value) _ keys),
       λ i. record { name = name_at (codes "name") value; kind = kind.1 i; length = length_at value },
     )
@@ -81,7 +81,7 @@ module _ {X Y : Type 0} (faults faults' : List ℕ → Data → List Shape) (rea
   each-same path i (value ∷ values) none =
       let here = member (at_number path i) value (append-is_nil_left _ _ none) in
       let more = each-same path (i + 1) values (append-is_nil_right (faults (at_number path i) value) _ none) in (
-        none_both (faults' (at_number path i) value) _ here.0 more.0,
+        append-nils (faults' (at_number path i) value) _ here.0 more.0,
         λ j. here.1 j ∷ more.1 j,
       )
 
@@ -112,29 +112,29 @@ module _ {X Y : Type 0} (faults faults' : List ℕ → Data → List Shape) (rea
 
 message-same : (path : List ℕ) (value : Data)
     → row_faults plain.variable path value ≡ []
-    → (row_faults wide_variable_faults path value ≡ []) × (wide_message_of value ≡ widened_message (message_of value))
+    → (row_faults wide_variable_faults path value ≡ []) × (wide_message_of value ≡ int_message (message_of value))
 message-same path value none =
     let keys = object-is (row_keys plain.variable) path value none in
-    let variables = list-same plain.variable wide_variable_faults variable_of wide_variable_of widened_variable variable-same
+    let variables = list-same plain.variable wide_variable_faults variable_of wide_variable_of int_variable variable-same
     (codes "variables") path value (append-is_nil_right (required name_faults (codes "name") path value) _ keys) in (
       object_faults-is (row_keys wide_variable_faults) path value (object-there (row_keys plain.variable) path value none)
-          ∙ none_both (required name_faults (codes "name") path value) _ (append-is_nil_left _ _ keys) variables.0,
+          ∙ append-nils (required name_faults (codes "name") path value) _ (append-is_nil_left _ _ keys) variables.0,
       λ i. record { name = name_at (codes "name") value; variables = variables.1 i },
     )
 
 agent-same : (path : List ℕ) (value : Data)
     → agent_faults plain.variable path value ≡ []
-    → (agent_faults wide_variable_faults path value ≡ []) × (wide_agent_of value ≡ widened_agent (agent_of value))
+    → (agent_faults wide_variable_faults path value ≡ []) × (wide_agent_of value ≡ int_agent (agent_of value))
 agent-same path value none =
     let keys = object-is (agent_keys plain.variable) path value none in
     let front = append-is_nil_left _ _ keys in
-    let memory = list-same plain.variable wide_variable_faults variable_of wide_variable_of widened_variable variable-same
+    let memory = list-same plain.variable wide_variable_faults variable_of wide_variable_of int_variable variable-same
     (codes "memory") path value (append-is_nil_right (required name_faults (codes "name") path value) _ front) in (
       object_faults-is (agent_keys wide_variable_faults) path value (object-there (agent_keys plain.variable) path value none)
-          ∙ none_both
+          ∙ append-nils
           (required name_faults (codes "name") path value ++ optional (list_faults wide_variable_faults) (codes "memory") path value)
           _
-          (none_both (required name_faults (codes "name") path value) _ (append-is_nil_left _ _ front) memory.0)
+          (append-nils (required name_faults (codes "name") path value) _ (append-is_nil_left _ _ front) memory.0)
           (append-is_nil_right
           (required name_faults (codes "name") path value ++ optional (list_faults plain.variable) (codes "memory") path value)
           _
@@ -199,7 +199,7 @@ environment-same path value none = by (has (codes "environment") value) refl
           ap (λ b. cond b (environment_faults wide.types there inside) []) e
               ∙ object_faults-is (environment_keys wide.types) there inside
               (object-there (environment_keys plain.types) there inside whole)
-              ∙ none_both (environment_lists there inside) _ (append-is_nil_left (environment_lists there inside) _ keys) types.0,
+              ∙ append-nils (environment_lists there inside) _ (append-is_nil_left (environment_lists there inside) _ keys) types.0,
           types.1,
         )
     by false e = (
@@ -210,7 +210,7 @@ environment-same path value none = by (has (codes "environment") value) refl
     )
 
 -- a plain value has no faults in the wide form, and stands for the same there
-pub plain-same : (value : Data) → shape_faults value ≡ [] → (wide_faults value ≡ []) × (wide_of value ≡ widened (model_of value))
+pub plain-same : (value : Data) → shape_faults value ≡ [] → (wide_faults value ≡ []) × (wide_of value ≡ as_file (model_of value))
 plain-same value none =
     let whole = part (codes "xmodel") value in
     let path = at_key root (codes "xmodel") in
@@ -219,17 +219,17 @@ plain-same value none =
     let to_agents = append-is_nil_left _ _ keys in
     let to_messages = append-is_nil_left _ _ to_agents in
     let environment = environment-same path whole (append-is_nil_left _ _ to_messages) in
-    let messages = list-same (row_faults plain.variable) (row_faults wide_variable_faults) message_of wide_message_of widened_message
+    let messages = list-same (row_faults plain.variable) (row_faults wide_variable_faults) message_of wide_message_of int_message
     message-same (codes "messages") path whole
     (append-is_nil_right (optional (environment_faults plain.types) (codes "environment") path whole) _ to_messages) in
-    let agents = list-same (agent_faults plain.variable) (agent_faults wide_variable_faults) agent_of wide_agent_of widened_agent
+    let agents = list-same (agent_faults plain.variable) (agent_faults wide_variable_faults) agent_of wide_agent_of int_agent
     agent-same (codes "agents") path whole (append-is_nil_right _ _ to_agents) in
     let nested = empty-same nested_faults nested_of (codes "models") path whole (append-is_nil_right _ _ keys) in
     let lists = environment_of (part (codes "environment") whole) in (
       object_faults-is (required (xmodel_faults wide) (codes "xmodel")) root value
           (object-there (required (xmodel_faults plain) (codes "xmodel")) root value none)
           ∙ object_faults-is (xmodel_keys wide) path whole (object-there (xmodel_keys plain) path whole inner)
-          ∙ none_both _ _ (none_both _ _ (none_both _ _ environment.0 messages.0) agents.0) nested.0,
+          ∙ append-nils _ _ (append-nils _ _ (append-nils _ _ environment.0 messages.0) agents.0) nested.0,
       λ i. record {
         constants = lists.constants;
         files = lists.files;

@@ -1,6 +1,5 @@
 -- The promise: the model is the one that the value stands for, where the value has no shape fault, and a refusal names
 -- the first one. Each definition's comment ends with its source in brackets, as in flame_spec.
-pub mod ReadValues
 -- What stands in values, what each want wants, the faults of all parts, and what they stand for.
 pub mod ValueParts
 pub mod Wants
@@ -10,7 +9,6 @@ pub mod ShapeFaults
 pub mod WantNames
 pub mod Models
 pub mod WideValues
-pub mod PlainFiles
 -- What holds of these.
 pub mod ShapeLaws
 -- The words that only bodies and proofs use.

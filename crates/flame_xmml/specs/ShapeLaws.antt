@@ -8,7 +8,7 @@ use Rattle.flame_xmml.specs.ConditionShapes.{condition_keys, condition_faults, c
 use Rattle.flame_xmml.specs.ShapeFaults.{shape_faults, wide_faults}
 use Rattle.flame_xmml.specs.Models.{model_of}
 use Rattle.flame_xmml.specs.WideValues.{wide_of}
-use Rattle.flame_xmml.specs.PlainFiles.{widened}
+use Rattle.flame_spec.specs.PlainFiles.{as_file}
 
 -- the faults of a condition are those at its keys, where conditions stand again
 abbrev pub FaultsStandAtKeys : Type 0
@@ -32,4 +32,4 @@ FaultlessIsWellFormedWide = (value : Data) → wide_faults value ≡ [] → IsTr
 
 -- a value without shape faults of the plain form has none of the wide form, and stands there for its model as a file
 abbrev pub PlainIsWide : Type 0
-PlainIsWide = (value : Data) → shape_faults value ≡ [] → (wide_faults value ≡ []) × (wide_of value ≡ widened (model_of value))
+PlainIsWide = (value : Data) → shape_faults value ≡ [] → (wide_faults value ≡ []) × (wide_of value ≡ as_file (model_of value))

@@ -8,7 +8,7 @@ ghost use Rattle.flame_xmml.specs.ConditionShapes.{operation_faults, operation_o
 ghost use Rattle.flame_xmml.specs.LeafShapes.{phase_faults, positive_faults};
 ghost use Rattle.flame_xmml.specs.ValueParts.{part, is_object, object_of, required, optional};
 ghost use Rattle.flame_xmml.specs.ValuePlaces.{path_of};
-ghost use Rattle.flame_xmml.specs.ReadValues.{Reads};
+ghost use Rattle.flame_spec.specs.FirstFaults.{Reads};
 ghost use Rattle.flame_xmml.specs.ValueData.{data_of};
 
 use crate::faults::{Shape, Want};

@@ -7,7 +7,7 @@ ghost use Rattle.flame_xmml.specs.LeafShapes.{truth_faults, order_faults, length
 ghost use Rattle.flame_xmml.specs.Models.{name_at, filled_at, period_at, length_at, descending_at};
 ghost use Rattle.flame_xmml.specs.ValueParts.{part, required, optional};
 ghost use Rattle.flame_xmml.specs.ValuePlaces.{path_of};
-ghost use Rattle.flame_xmml.specs.ReadValues.{Reads, Passes};
+ghost use Rattle.flame_spec.specs.FirstFaults.{Reads, Passes};
 ghost use Rattle.flame_xmml.specs.Wants.{empty_of, truth_of};
 
 use crate::faults::{Shape, Want};

@@ -7,7 +7,7 @@ ghost use Rattle.flame_xmml.specs.declared.faults.Shape.{Shape as ShapeFault};
 ghost use Rattle.flame_xmml.specs.ValuePlaces.{path_of};
 ghost use Rattle.flame_xmml.specs.ValueParts.{each_member, list_faults, members, optional};
 ghost use Rattle.flame_xmml.specs.Models.{list_at};
-ghost use Rattle.flame_xmml.specs.ReadValues.{Reads};
+ghost use Rattle.flame_spec.specs.FirstFaults.{Reads};
 
 use crate::faults::{Shape, Want};
 use crate::parts::{fault, members, part};

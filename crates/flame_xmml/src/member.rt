@@ -10,7 +10,7 @@ ghost use Rattle.flame_xmml.specs.Models.{name_at, filled, there, unit_of, sort_
 ghost use Rattle.flame_xmml.specs.FunctionStep.{step_faults, step_of, uses_faults, uses_of};
 ghost use Rattle.flame_xmml.specs.ValueParts.{optional};
 ghost use Rattle.flame_xmml.specs.ValuePlaces.{path_of};
-ghost use Rattle.flame_xmml.specs.ReadValues.{Reads};
+ghost use Rattle.flame_spec.specs.FirstFaults.{Reads};
 
 use crate::condition::condition;
 use crate::faults::{Shape, Want};

@@ -5,7 +5,7 @@ ghost use Rattle.serde_json.specs.View.{view};
 ghost use Rattle.flame_xmml.specs.declared.faults.Want.TheVariants.{Object};
 ghost use Rattle.flame_xmml.specs.ValuePlaces.{path_of};
 ghost use Rattle.flame_xmml.specs.ValueParts.{part, has, is_object, members, wanted};
-ghost use Rattle.flame_xmml.specs.ReadValues.{IsFirst};
+ghost use Rattle.flame_spec.specs.FirstFaults.{FailsFirst};
 ghost use Rattle.flame_xmml.specs.ValueData.{data_of};
 
 use crate::faults::{Shape, Want};
@@ -43,7 +43,7 @@ pub fn members(value: &Value) -> Option<&[Value]>
 
 /// The fault of a place where something else is wanted.
 pub(crate) fn fault(alloc: Global, place: &Place<'_>, want: Want) -> Fail<Shape>
-    ensures { IsFirst (wanted want (path_of place.now)) result }
+    ensures { FailsFirst (wanted want (path_of place.now)) result }
 {
     match path(alloc, place) {
         Ok(path) => Fail::Fault(Shape { path, want }),
@@ -55,7 +55,7 @@ pub(crate) fn fault(alloc: Global, place: &Place<'_>, want: Want) -> Fail<Shape>
 pub(crate) fn object(alloc: Global, place: &Place<'_>, value: &Value) -> Result<(), Fail<Shape>>
     ensures object { IfOk result (λ _. is_object (view value.now) ≡ true) }
     ensures fault { IfErr result (λ fail.
-        (is_object (view value.now) ≡ false) × IsFirst (wanted Object (path_of place.now)) fail) }
+        (is_object (view value.now) ≡ false) × FailsFirst (wanted Object (path_of place.now)) fail) }
 {
     if value.is_object() {
         Ok(())
@@ -72,7 +72,7 @@ pub(crate) fn wanted<T: Drop>(
     read: Option<T>,
 ) -> Result<T, Fail<Shape>>
     ensures read { IfOk result (λ answer. read ≡ Some answer) }
-    ensures fault { IfErr result (λ fail. (read ≡ None) × IsFirst (wanted want (path_of place.now)) fail) }
+    ensures fault { IfErr result (λ fail. (read ≡ None) × FailsFirst (wanted want (path_of place.now)) fail) }
 {
     match read {
         Some(read) => Ok(read),

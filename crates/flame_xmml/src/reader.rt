@@ -10,7 +10,7 @@ ghost use Rattle.flame_xmml.specs.ShapeFaults.{shape_faults, plain};
 ghost use Rattle.flame_xmml.specs.Models.{environment_of, xmodel_of, model_of};
 ghost use Rattle.flame_xmml.specs.ValueParts.{part, optional};
 ghost use Rattle.flame_xmml.specs.ValuePlaces.{path_of};
-ghost use Rattle.flame_xmml.specs.ReadValues.{IsFirst, Reads};
+ghost use Rattle.flame_spec.specs.FirstFaults.{FailsFirst, Reads};
 
 use crate::faults::{Shape, Want};
 use crate::keys::empty_at;
@@ -35,7 +35,7 @@ pub fn model_of(alloc: Global, value: &Value) -> Result<Model, Fail<Shape>>
     ensures faultless { IfOk result (λ model. shape_faults (view value.now) ≡ []) }
     ensures model { IfOk result (λ model. model ≡ model_of (view value.now)) }
     ensures counted { IfOk result (λ model. IsTrue (is_counted model)) }
-    ensures fault { IfErr result (λ fail. IsFirst (shape_faults (view value.now)) fail) }
+    ensures fault { IfErr result (λ fail. FailsFirst (shape_faults (view value.now)) fail) }
 {
     let root = Place::Root;
     object(alloc, &root, value)?;

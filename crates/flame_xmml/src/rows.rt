@@ -9,7 +9,7 @@ ghost use Rattle.flame_xmml.specs.Models.{name_at, list_at, variable_of, message
 ghost use Rattle.flame_xmml.specs.WideValues.{wide_variable_of, type_of, wide_message_of, wide_agent_of, nested_of};
 ghost use Rattle.flame_xmml.specs.WideValues.{enabled_files};
 ghost use Rattle.flame_xmml.specs.ValuePlaces.{path_of};
-ghost use Rattle.flame_xmml.specs.ReadValues.{Reads};
+ghost use Rattle.flame_spec.specs.FirstFaults.{Reads};
 
 use crate::faults::Shape;
 use crate::keys::{file_at, int_type, length_at, name_at, truth_at};

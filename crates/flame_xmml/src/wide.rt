@@ -9,7 +9,7 @@ ghost use Rattle.flame_xmml.specs.Models.{environment_of, list_at};
 ghost use Rattle.flame_xmml.specs.WideValues.{type_of, wide_xmodel_of, wide_of};
 ghost use Rattle.flame_xmml.specs.ValueParts.{part, optional};
 ghost use Rattle.flame_xmml.specs.ValuePlaces.{path_of};
-ghost use Rattle.flame_xmml.specs.ReadValues.{IsFirst, Reads};
+ghost use Rattle.flame_spec.specs.FirstFaults.{FailsFirst, Reads};
 
 use crate::faults::{Shape, Want};
 use crate::list::list_at;
@@ -34,7 +34,7 @@ pub fn wide_of(alloc: Global, value: &Value) -> Result<Wide, Fail<Shape>>
     ensures faultless { IfOk result (λ wide. wide_faults (view value.now) ≡ []) }
     ensures model { IfOk result (λ wide. wide ≡ wide_of (view value.now)) }
     ensures counted { IfOk result (λ wide. IsTrue (is_counted_wide wide)) }
-    ensures fault { IfErr result (λ fail. IsFirst (wide_faults (view value.now)) fail) }
+    ensures fault { IfErr result (λ fail. FailsFirst (wide_faults (view value.now)) fail) }
 {
     let root = Place::Root;
     object(alloc, &root, value)?;

@@ -5,9 +5,9 @@ use Rattle.flame_spec.specs.CheckFaults.{bodies_faults, body_faults, definition_
 use Rattle.flame_spec.specs.Definitions.{helpers}
 use Rattle.flame_spec.specs.Functions.{functions}
 use Rattle.flame_spec.specs.HelperFaults.{helper_context}
+use Rattle.flame_spec.proofs.FaultLists.{FailsFirst-same}
 use Rattle.flame_lookup.specs.Sources.{BodyPlace, context_at}
 use Rattle.flame_lookup.specs.WordsFound.{definition_found}
-use Rattle.flame_check.proofs.Rests.{fails_same}
 use Rattle.flame_check.proofs.walking.clean_body.Goals as goal
 
 pub returns-in_err-definition-clause-first : goal.returns-in_err-definition-clause-first
@@ -23,5 +23,4 @@ returns-in_err-definition-clause-first c =
     (sym c.is_helper.ensures ∙ c.if-is_helper.true)
     ∙ ap (λ (s : BodyPlace). definition_faults (context_at s) d) (sym c.for_helper-words.ensures) in
     rw (p.1, p.2)
-    (fails_same _ (bodies_faults model hs d) (definition_faults (context_at c.for_helper-words.result) d) same
-    c.in_err-definition.ensures.first)
+    (FailsFirst-same _ (definition_faults (context_at c.for_helper-words.result) d) (bodies_faults model hs d) (sym same) c.in_err-definition.ensures.first)

@@ -1,7 +1,7 @@
 -- The first that is faulted gives its fault.
 use Rattle.std.proofs.Common.{◌≡◌, ◌∙◌, ◌+◌, ◌<◌, true, false, ap, drop, length, sym, arith}
 use Rattle.std.specs.Prelude.{slice_index_or}
-use Rattle.std.proofs.lemmas.List.{drop_all, length-map}
+use Rattle.std.proofs.lemmas.List.{drop_all, length-map, drop_more}
 use Rattle.flame_events.specs.CoreEnds.{first_fault, is_faulted}
 use Rattle.flame_events.specs.CoreStates.{Core, fault_of, status_of}
 use Rattle.flame_events.proofs.Ends.{first_fault-cons}
@@ -9,7 +9,6 @@ use Rattle.flame_pieces.specs.KeptStatuses.{status_of as kept_status}
 use Rattle.flame_progress.specs.declared.progress.Progress.{Progress}
 use Rattle.flame_progress.specs.KeptCores.{core_of}
 use Rattle.flame_progress.proofs.Cores.{status_at}
-use Rattle.flame_round.proofs.Gets.{drop-next}
 use Rattle.flame_core.proofs.Faulting.{faulted_within, or_here, or_later}
 use Rattle.flame_core.proofs.ending.taken_first.Goals as goal
 
@@ -38,7 +37,7 @@ returns-then-is_faulted-clause-fault c =
     ∙ ap (λ (k : Core). fault_of (status_of k function)) same
     ∙ sym (or_here (fault_of (status_of core function)) (first_fault core (drop (place + 1) functions)) faulted)
     ∙ sym (first_fault-cons core function (drop (place + 1) functions))
-    ∙ sym (ap (first_fault core) (drop-next functions place 0 c.loop-function-test.true))
+    ∙ sym (ap (first_fault core) (drop_more functions place 0 c.loop-function-test.true))
     ∙ old.rest
 
 pub loop-function-preserved : goal.loop-function-preserved
@@ -53,7 +52,7 @@ loop-function-preserved c =
     record {
       same = old.same;
       rest =
-          sym (ap (first_fault core) (drop-next functions place 0 c.loop-function-test.true)
+          sym (ap (first_fault core) (drop_more functions place 0 c.loop-function-test.true)
           ∙ first_fault-cons core function (drop (place + 1) functions)
           ∙ or_later (fault_of (status_of core function)) (first_fault core (drop (place + 1) functions)) sound)
           ∙ old.rest;

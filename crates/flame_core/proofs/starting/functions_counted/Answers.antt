@@ -1,10 +1,10 @@
 use Rattle.std.proofs.Common.{◌≡◌, ◌∙◌, ◌<◌, false, ap, arith, get_or, length, take}
-use Rattle.std.proofs.lemmas.List.{take_all}
+use Rattle.std.proofs.lemmas.List.{take_all, get_or_default}
 use Rattle.flame_spec.specs.declared.outcomes.Source.{Source}
 use Rattle.flame_spec.specs.Before.{before, function_count}
 use Rattle.flame_depend.specs.declared.pairs.Edge.{Edge}
 use Rattle.flame_depend.specs.Edges.{edges_of}
-use Rattle.flame_core.proofs.Openings.{edge_told, edges_between, edges_tell, is_edge, other_default, tells_as}
+use Rattle.flame_core.proofs.Openings.{edge_told, edges_between, edges_tell, is_edge, tells_as}
 use Rattle.flame_core.proofs.starting.functions_counted.Goals as goal
 
 pub add-requires-clause-open : goal.add-requires-clause-open
@@ -17,7 +17,7 @@ add-requires-clause-open c =
     let same = c.items-edge-items.ensures ∙ c.in_ok-edges.ensures
     ∙ ap (λ (s : Source). edges_of s.model) c.source.ensures.same in
     let less : k < length (edges_of model) = omega (arith, c.loop-edge-test.true, ap length same) in
-    let at : edge ≡ get_or (edges_of model) k edge = other_default items k none edge c.loop-edge-test.true
+    let at : edge ≡ get_or (edges_of model) k edge = get_or_default items k none edge c.loop-edge-test.true
     ∙ ap (λ l. get_or l k edge) same in
     c.loop-edge.invariant.which edge.before (edges_between model k edge less at).from
 
@@ -31,7 +31,7 @@ add-requires-clause-within c =
     let same = c.items-edge-items.ensures ∙ c.in_ok-edges.ensures
     ∙ ap (λ (s : Source). edges_of s.model) c.source.ensures.same in
     let less : k < length (edges_of model) = omega (arith, c.loop-edge-test.true, ap length same) in
-    let at : edge ≡ get_or (edges_of model) k edge = other_default items k none edge c.loop-edge-test.true
+    let at : edge ≡ get_or (edges_of model) k edge = get_or_default items k none edge c.loop-edge-test.true
     ∙ ap (λ l. get_or l k edge) same in
     omega (arith, (edges_between model k edge less at).to, c.loop-edge.invariant.many)
 
@@ -45,7 +45,7 @@ loop-edge-preserved c =
     let same = c.items-edge-items.ensures ∙ c.in_ok-edges.ensures
     ∙ ap (λ (s : Source). edges_of s.model) c.source.ensures.same in
     let less : k < length (edges_of model) = omega (arith, c.loop-edge-test.true, ap length same) in
-    let here : edge ≡ get_or items k edge = other_default items k none edge c.loop-edge-test.true in
+    let here : edge ≡ get_or items k edge = get_or_default items k none edge c.loop-edge-test.true in
     edge_told (function_count model) items k edge c.loop-edge.waits c.add.new.self c.loop-edge-test.true here
     (edges_between model k edge less (here ∙ ap (λ l. get_or l k edge) same)).from c.in_ok-add.ensures.ok
     c.loop-edge.invariant

@@ -1,14 +1,14 @@
 use Rattle.std.proofs.Common.{◌≡◌, ◌∙◌, ◌<◌, [], ◌∷◌, List, ap, sym, subst, arith, length, map, refl, suc}
 use Rattle.std.specs.List.{All}
 use Rattle.std.specs.Vec.Iter.{into_iter_items}
-use Rattle.std.proofs.lemmas.List.{length-set}
+use Rattle.std.proofs.lemmas.List.{length-set, nil_from_length}
 use Rattle.flame_rows.specs.Bags.{merge}
 use Rattle.flame_spec.specs.declared.outcomes.Sent.{Sent}
 use Rattle.flame_world.specs.AgentRuns.{messages_of}
 use Rattle.flame_world.specs.Fields.{joined}
 use Rattle.flame_field.specs.KeptBoards.{board_bag}
 use Rattle.flame_field.proofs.Changed.{map-written}
-use Rattle.flame_field.proofs.Gathered.{board-in_order, none_left}
+use Rattle.flame_field.proofs.Gathered.{board-in_order}
 use Rattle.flame_field.proofs.Joining.{joined-message, joined-nothing}
 use Rattle.flame_field.proofs.fields.send.Goals as goal
 
@@ -39,7 +39,7 @@ pub returns : goal.returns
 returns c =
     let old = c.loop-message.invariant in
     let messages = into_iter_items c.loop-message.message-iterator in
-    let none : messages ≡ [] = none_left messages (sym old.counted ∙ c.in-None.ensures.steps.0) in
+    let none : messages ≡ [] = nil_from_length messages (sym old.counted ∙ c.in-None.ensures.steps.0) in
     sym (joined-nothing board_bag board-in_order (messages_of []) (λ n. refl) c.loop-message.boards.items)
     ∙ ap (λ (list : List Sent). joined (messages_of list) (map board_bag c.loop-message.boards.items)) (sym none)
     ∙ old.joins

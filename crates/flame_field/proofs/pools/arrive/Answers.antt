@@ -1,9 +1,9 @@
 use Rattle.std.proofs.Common.{◌∙◌, List, [], length, ap, arith}
 use Rattle.std.specs.Prelude.{ℤ, slice_index_or}
+use Rattle.std.proofs.lemmas.Result.{on_ok_weaker, on_err_weaker}
 use Rattle.flame_rows.specs.Bags.{ascending, merge}
 use Rattle.flame_field.specs.KeptPools.{pool_bag, pools_of}
 use Rattle.flame_field.proofs.Changed.{changed_pool-back, changed_pool-still, changed_pool-length}
-use Rattle.flame_field.proofs.Written.{then_ok, then_err}
 use Rattle.flame_field.proofs.pools.arrive.Goals as goal
 
 pub exchange-requires : goal.exchange-requires
@@ -18,7 +18,7 @@ exchange-requires c =
 
 pub returns-clause-ok : goal.returns-clause-ok
 returns-clause-ok c =
-    then_ok c.add_all-arrived.result
+    on_ok_weaker c.add_all-arrived.result
     (λ added.
     changed_pool-back c.args.agent c.args.state (pool_bag c.empty.result) (pool_bag c.add_all-arrived.new.self) (pools_of c.args.pools.now)
     (pools_of c.exchange-pool.new.pools) (pools_of c.exchange.new.pools) (λ pool. merge pool (ascending c.args.rows.items))
@@ -28,7 +28,7 @@ returns-clause-ok c =
 
 pub returns-clause-err : goal.returns-clause-err
 returns-clause-err c =
-    then_err c.add_all-arrived.result
+    on_err_weaker c.add_all-arrived.result
     (λ kept.
     changed_pool-back c.args.agent c.args.state (pool_bag c.empty.result) (pool_bag c.add_all-arrived.new.self) (pools_of c.args.pools.now)
     (pools_of c.exchange-pool.new.pools) (pools_of c.exchange.new.pools) (λ pool. pool)

@@ -4,13 +4,12 @@ use Rattle.std.specs.List.{All, flat_map}
 use Rattle.std.specs.Vec.Iter.{into_iter_items, into_iter_len}
 use Rattle.std.specs.Iterator.Adapters.{zip_first, zip_second}
 use Rattle.std.specs.Slice.Iter.{iter_rest}
-use Rattle.std.proofs.lemmas.List.{length-set}
+use Rattle.std.proofs.lemmas.List.{length-set, nil_from_length}
 use Rattle.flame_rows.specs.Bags.{merge, merge_all, weigh}
 use Rattle.flame_rows.proofs.BagLaws.{IsAscending-ascending, IsAscending-merge, equal_by_weighings, merge_adds_weights, weigh-append}
 use Rattle.flame_rows.proofs.Parting.{over}
 use Rattle.flame_field.specs.declared.gatherings.Gathering.{Gathering}
 use Rattle.flame_field.specs.KeptGatherings.{bags_of}
-use Rattle.flame_field.proofs.Gathered.{none_left}
 use Rattle.flame_field.proofs.Dealing.{weighs, weigh-bags, weighs-written, apart-of, apart-to, apart-more, RoomsIn, room-there, rooms_left, both_over}
 use Rattle.flame_field.proofs.pools.deal_out.Goals as goal
 
@@ -89,7 +88,7 @@ returns-clause-bags c =
     let before = c.args.chosen.now in
     let rows = c.args.rows.items in
     let left = into_iter_items (zip_first c.loop-row.row-iterator) in
-    let none : left ≡ [] = none_left left (both_over (length left) _ kept.long (over _ _ _ kept.counted c.in-None.ensures.steps)) in
+    let none : left ≡ [] = nil_from_length left (both_over (length left) _ kept.long (over _ _ _ kept.counted c.in-None.ensures.steps)) in
     equal_by_weighings (merge_all (bags_of chosen)) (merge (merge_all (bags_of before)) rows)
     (IsAscending-ascending (flat_map (λ bag. bag) (bags_of chosen))) (IsAscending-merge (merge_all (bags_of before)) rows)
     (λ w.

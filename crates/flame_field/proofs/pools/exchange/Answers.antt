@@ -1,9 +1,9 @@
-use Rattle.std.proofs.Common.{◌≡◌, Some}
+use Rattle.std.proofs.Common.{◌≡◌, Some, length, refl}
 use Rattle.std.specs.Prelude.{slice_get}
+use Rattle.std.proofs.lemmas.Option.{slice_get_read}
 use Rattle.flame_world.specs.Fields.{changed}
 use Rattle.flame_field.specs.KeptPools.{pool_bag, pool_bags}
 use Rattle.flame_field.proofs.Changed.{map-written, within_list}
-use Rattle.flame_field.proofs.Dealing.{got-there}
 use Rattle.flame_field.proofs.PoolsAt.{pool-dealt, pool-kept, pool-others, pool-placed}
 use Rattle.flame_field.proofs.pools.exchange.Goals as goal
 
@@ -17,7 +17,7 @@ pub returns-clause-kept : goal.returns-clause-kept
 returns-clause-kept c =
     let pools = c.args.pools.now.items in
     let own : slice_get pools c.args.agent ≡ Some c.index_mut.result.now =
-    got-there pools c.args.agent c.index_mut.result.now (within_list pool_bags pools c.args.agent c.args.state c.requires) c.index_mut.ensures.value in
+    slice_get_read pools (length pools) c.args.agent c.index_mut.result.now refl (within_list pool_bags pools c.args.agent c.args.state c.requires) c.index_mut.ensures.value in
     pool-kept pools c.args.agent c.args.state c.index_mut.result.now c.exchanged.new.pools c.exchanged.result c.args.pool own
     c.exchanged.ensures.was c.exchanged.ensures.now
 
@@ -25,7 +25,7 @@ pub returns-clause-placed : goal.returns-clause-placed
 returns-clause-placed c =
     let pools = c.args.pools.now.items in
     let own : slice_get pools c.args.agent ≡ Some c.index_mut.result.now =
-    got-there pools c.args.agent c.index_mut.result.now (within_list pool_bags pools c.args.agent c.args.state c.requires) c.index_mut.ensures.value in
+    slice_get_read pools (length pools) c.args.agent c.index_mut.result.now refl (within_list pool_bags pools c.args.agent c.args.state c.requires) c.index_mut.ensures.value in
     pool-placed pools c.args.agent c.args.state c.index_mut.result.now c.exchanged.new.pools c.exchanged.result c.args.pool own
     c.exchanged.ensures.was c.exchanged.ensures.now
 
@@ -33,7 +33,7 @@ pub returns-clause-others : goal.returns-clause-others
 returns-clause-others c =
     let pools = c.args.pools.now.items in
     let own : slice_get pools c.args.agent ≡ Some c.index_mut.result.now =
-    got-there pools c.args.agent c.index_mut.result.now (within_list pool_bags pools c.args.agent c.args.state c.requires) c.index_mut.ensures.value in
+    slice_get_read pools (length pools) c.args.agent c.index_mut.result.now refl (within_list pool_bags pools c.args.agent c.args.state c.requires) c.index_mut.ensures.value in
     pool-others pools c.args.agent c.args.state c.index_mut.result.now c.exchanged.new.pools c.exchanged.result c.args.pool own
     c.exchanged.ensures.was c.exchanged.ensures.now
 
@@ -41,7 +41,7 @@ pub returns-clause-dealt : goal.returns-clause-dealt
 returns-clause-dealt c choose dealt =
     let pools = c.args.pools.now.items in
     let own : slice_get pools c.args.agent ≡ Some c.index_mut.result.now =
-    got-there pools c.args.agent c.index_mut.result.now (within_list pool_bags pools c.args.agent c.args.state c.requires) c.index_mut.ensures.value in
+    slice_get_read pools (length pools) c.args.agent c.index_mut.result.now refl (within_list pool_bags pools c.args.agent c.args.state c.requires) c.index_mut.ensures.value in
     dealt c.args.agent c.args.state c.exchanged.result
     (pool-kept pools c.args.agent c.args.state c.index_mut.result.now c.exchanged.new.pools c.exchanged.result c.args.pool own
     c.exchanged.ensures.was c.exchanged.ensures.now)
@@ -50,6 +50,6 @@ pub returns-clause-stay_dealt : goal.returns-clause-stay_dealt
 returns-clause-stay_dealt c choose dealt here =
     let pools = c.args.pools.now.items in
     let own : slice_get pools c.args.agent ≡ Some c.index_mut.result.now =
-    got-there pools c.args.agent c.index_mut.result.now (within_list pool_bags pools c.args.agent c.args.state c.requires) c.index_mut.ensures.value in
+    slice_get_read pools (length pools) c.args.agent c.index_mut.result.now refl (within_list pool_bags pools c.args.agent c.args.state c.requires) c.index_mut.ensures.value in
     pool-dealt pools c.args.agent c.args.state c.index_mut.result.now c.exchanged.new.pools c.exchanged.result c.args.pool own
     c.exchanged.ensures.was c.exchanged.ensures.now choose dealt here

@@ -1,12 +1,13 @@
 use Rattle.std.proofs.Common.{◌<◌, ◌≤◌, ◌+◌, ◌∙◌, length, ap, arith}
 use Rattle.std.specs.Vec.{vec_len, vec_capacity}
 use Rattle.std.proofs.lemmas.List.{length-set}
+use Rattle.std.proofs.lemmas.Option.{slice_get_within}
 use Rattle.flame_rows.specs.Bags.{ascending}
 use Rattle.flame_field.specs.declared.gatherings.Gathering.{Gathering}
 use Rattle.flame_field.specs.KeptGatherings.{bag_of}
 use Rattle.flame_field.specs.KeptPools.{choosing}
 use Rattle.flame_field.proofs.Written.{map-kept}
-use Rattle.flame_field.proofs.Dealing.{rooms_more, got_some}
+use Rattle.flame_field.proofs.Dealing.{rooms_more}
 use Rattle.flame_field.proofs.pools.make_rooms.Goals as goal
 
 pub returns-in_err-reserve-clause-bags : goal.returns-in_err-reserve-clause-bags
@@ -39,4 +40,4 @@ pub returns-clause-rooms : goal.returns-clause-rooms
 returns-clause-rooms c place own at =
     let kept = c.loop-place.invariant in
     kept.rooms place own
-    (omega (arith, got_some c.loop-place.chosen.items place own at, kept.count, c.loop-place-test.false, c.len-place-end.ensures, c.args.chosen.now.ok.0)) at
+    (omega (arith, slice_get_within c.loop-place.chosen.items place own at, kept.count, c.loop-place-test.false, c.len-place-end.ensures, c.args.chosen.now.ok.0)) at

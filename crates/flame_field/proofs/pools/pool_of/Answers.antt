@@ -1,12 +1,12 @@
-use Rattle.std.proofs.Common.{[], List, Vec, length, map, sym, ap, ◌∙◌, arith}
+use Rattle.std.proofs.Common.{[], List, Vec, length, map, sym, ap, ◌∙◌, arith, refl}
 use Rattle.std.specs.Prelude.{option_and_then, slice_get, slice_index_or}
 use Rattle.std.specs.Global.{Global}
 use Rattle.std.proofs.lemmas.List.{length-map}
+use Rattle.std.proofs.lemmas.Option.{slice_get_read}
 use Rattle.flame_rows.proofs.Lists.{slice_index_or-map}
 use Rattle.flame_field.specs.KeptPools.{pool_bag, pool_bags}
 use Rattle.flame_field.proofs.Changed.{within_list}
 use Rattle.flame_field.specs.declared.pools.Pool.{Pool}
-use Rattle.flame_field.proofs.Dealing.{got-there}
 use Rattle.flame_field.proofs.pools.pool_of.Goals as goal
 
 pub bounds-pools-agent : goal.bounds-pools-agent
@@ -33,6 +33,6 @@ returns-clause-kept c =
     let pools = c.args.pools.now in
     let own = c.index-pools-agent.result in
     ap (option_and_then (λ (o : Vec Pool Global). slice_get o.items c.args.state))
-    (got-there pools c.args.agent own (within_list pool_bags pools c.args.agent c.args.state c.requires) c.index-pools-agent.is)
+    (slice_get_read pools (length pools) c.args.agent own refl (within_list pool_bags pools c.args.agent c.args.state c.requires) c.index-pools-agent.is)
     ∙ ap (λ (l : List Pool). slice_get l c.args.state) (sym c.deref.ensures.value)
     ∙ c.pool_in_type.ensures.kept

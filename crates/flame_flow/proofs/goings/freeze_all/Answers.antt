@@ -1,9 +1,10 @@
 -- Boards are frozen, one after another.
 use Rattle.std.proofs.Common.{◌≡◌, ◌+◌, ℕ, List, drop, get_or, refl, sym, ap, ◌∙◌}
+use Rattle.std.proofs.lemmas.List.{drop_more}
 use Rattle.flame_events.specs.declared.events.Event.TheVariants as event
 use Rattle.flame_core.specs.SeenCores.{round_in}
 use Rattle.flame_flow.specs.Goings.{with_legal, with_frozen}
-use Rattle.flame_flow.proofs.Tellings.{drop_next, gone_none, gone_on, gone_round, gone_pieces}
+use Rattle.flame_flow.proofs.Tellings.{gone_none, gone_on, gone_round, gone_pieces}
 use Rattle.flame_flow.proofs.goings.freeze_all.Goals as goal
 
 pub loop-message-init : goal.loop-message-init
@@ -25,7 +26,7 @@ loop-message-preserved c =
       on = gone_on first told c.come.new.told old.on c.in_ok-come.ensures.on;
       rest =
           ap (with_frozen (round_in first.seen) first.seen.pieces (drop (k + 1) messages)) is
-          ∙ sym (ap (λ (l : List ℕ). with_frozen (round_in first.seen) first.seen.pieces l told.seen.core) (drop_next messages k c.loop-message-test.true))
+          ∙ sym (ap (λ (l : List ℕ). with_frozen (round_in first.seen) first.seen.pieces l told.seen.core) (drop_more messages k 0 c.loop-message-test.true))
           ∙ old.rest;
     }
 

@@ -1,9 +1,10 @@
 -- Functions are opened, one after another.
 use Rattle.std.proofs.Common.{◌≡◌, ◌+◌, ℕ, List, drop, get_or, refl, sym, ap, ◌∙◌}
+use Rattle.std.proofs.lemmas.List.{drop_more}
 use Rattle.flame_core.specs.SeenCores.{round_in}
 use Rattle.flame_flow.specs.Goings.{with_one_opened, with_opened}
 use Rattle.flame_flow.specs.KeptGoings.{going_of}
-use Rattle.flame_flow.proofs.Tellings.{drop_next, gone_none, gone_on, gone_round, gone_pieces}
+use Rattle.flame_flow.proofs.Tellings.{gone_none, gone_on, gone_round, gone_pieces}
 use Rattle.flame_flow.proofs.goings.open_all.Goals as goal
 
 pub loop-function-init : goal.loop-function-init
@@ -26,7 +27,7 @@ loop-function-preserved c =
       on = gone_on first going.told c.open.new.going.told old.on c.in_ok-open.ensures.on;
       rest =
           ap (with_opened (round_in first.seen) first.seen.pieces ranks (drop (k + 1) functions)) is
-          ∙ sym (ap (λ (l : List ℕ). with_opened (round_in first.seen) first.seen.pieces ranks l (going_of going)) (drop_next functions k c.loop-function-test.true))
+          ∙ sym (ap (λ (l : List ℕ). with_opened (round_in first.seen) first.seen.pieces ranks l (going_of going)) (drop_more functions k 0 c.loop-function-test.true))
           ∙ old.rest;
     }
 

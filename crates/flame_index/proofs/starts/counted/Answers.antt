@@ -1,8 +1,9 @@
 use mir.Syntax.{w32}
 use mir.Val.{to_z, of_z}
 use Rattle.std.proofs.Common.{◌≡◌, ℤ, pos, ◌+ℤ◌, ◌+◌, [], ◌∷◌, ◌++◌, length, sym, ap, ◌∙◌, subst, rules}
+use Rattle.std.proofs.lemmas.List.{length_push}
 use Rattle.flame_index.specs.IndexBodies.{IsStartOf, AreStartsOf}
-use Rattle.flame_index.proofs.Starting.{less_on, starts_push, length_push}
+use Rattle.flame_index.proofs.Starting.{less_on, starts_push}
 use Rattle.flame_index.proofs.starts.counted.Goals as goal
 
 pub loop-place-preserved : goal.loop-place-preserved

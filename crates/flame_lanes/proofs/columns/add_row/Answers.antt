@@ -1,9 +1,9 @@
 use Rattle.std.proofs.Common.{◌≡◌, ℕ, ◌<◌, ◌++◌, ◌∷◌, ◌∙◌, [], List, map, length, refl, set, ap, sym, subst, arith, append-nil, append_assoc, length-append}
 use Rattle.std.specs.Vec.Iter.{into_iter_items}
-use Rattle.std.proofs.lemmas.List.{map-append}
+use Rattle.std.proofs.lemmas.List.{map-append, nil_from_length}
 use Rattle.flame_board.specs.declared.lanes.Lane.{Lane}
 use Rattle.flame_lanes.specs.LaneColumns.{AreLongerBy}
-use Rattle.flame_lanes.proofs.Columned.{AreBegun, begun-all, begun-length, begun-more, no_lanes, row-place}
+use Rattle.flame_lanes.proofs.Columned.{AreBegun, begun-all, begun-length, begun-more, row-place}
 use Rattle.flame_lanes.proofs.columns.add_row.Goals as goal
 
 abbrev lane_of : ℕ × Lane → Lane
@@ -58,7 +58,7 @@ returns-clause-longer c =
     let it = b.place-iterator.iter in
     let row = c.args.row.items in
     let done : List Lane = map lane_of b.yielded in
-    let none : into_iter_items it ≡ [] = no_lanes (into_iter_items it) (omega (arith, it.rest.ok.0, c.in-None.ensures.steps.0.0)) in
+    let none : into_iter_items it ≡ [] = nil_from_length (into_iter_items it) (omega (arith, it.rest.ok.0, c.in-None.ensures.steps.0.0)) in
     let whole : done ≡ row =
     sym (append-nil done) ∙ ap (λ (l : List Lane). done ++ l) (sym none) ∙ b.invariant.rest in
     subst (λ (l : List Lane). AreLongerBy c.args.columns.now.items l b.columns.items) whole

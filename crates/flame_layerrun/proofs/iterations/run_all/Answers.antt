@@ -1,7 +1,7 @@
 use Rattle.std.proofs.Common.{◌≡◌, ◌∙◌, ap, arith, length, refl, subst, sym, None, Some}
 use Rattle.std.specs.Prelude.{slice_get}
 use Rattle.std.proofs.lemmas.Option.{slice_get_read}
-use Rattle.flame_route.proofs.Places.{zip-length}
+use Rattle.std.proofs.lemmas.Slice.Zip.{AllZip-long}
 use Rattle.flame_world.specs.Fields.{Field}
 use Rattle.flame_layers.specs.LayerStates.{HasComeTo}
 use Rattle.flame_field.specs.KeptFields.{field_of}
@@ -43,7 +43,7 @@ run_layer-requires-clause-fits g c κs within =
     let source = round.program.now in
     let begun = c.requires.begun in
     let world = begun.world in
-    let count = sym (zip-length _ source.model.agents world.agents begun.fits.agents) in
+    let count = sym ((sym (AllZip-long _ source.model.agents world.agents begun.fits.agents))) in
     let field = field_of c.loop-own.field in
     c.layers_fit.ensures.found source world round.iteration round.fuel c.loop-own.own-index c.loop-own.stop field begun.fits
     (in_world source round.constants.now round.iteration round.fuel world world.agents c.loop-own.own-index c.loop-own.stop field begun.constants
@@ -81,7 +81,7 @@ pub returns : goal.returns
 returns g c world fits same opens =
     let round = c.args.round.now in
     let source = round.program.now in
-    let count = sym (zip-length _ source.model.agents world.agents fits.agents) in
+    let count = sym ((sym (AllZip-long _ source.model.agents world.agents fits.agents))) in
     let field = field_of c.loop-own.field in
     c.layers_lead.ensures.end source world round.iteration round.fuel c.loop-own.own-index c.loop-own.stop field c.source-source.ensures.accepted count
     (λ function less. omega (arith, c.loop-own-test.false, c.in_ok-layers.ensures.all function less, ap length c.deref-own-items.ensures.value))

@@ -2,8 +2,8 @@ use Rattle.std.proofs.Common.{◌≡◌, ◌∙◌, ◌+◌, ◌<◌, ℕ, Vec, 
 use Rattle.std.specs.Global.{Global}
 use Rattle.std.specs.List.{All, flat_map}
 use Rattle.std.proofs.lemmas.List.Elements.{All-nil}
+use Rattle.std.proofs.lemmas.Slice.Zip.{AllZip-long}
 use Rattle.flame_spec.specs.Before.{function_count}
-use Rattle.flame_route.proofs.Places.{zip-length}
 use Rattle.flame_round.specs.KeptRounds.{round_of}
 use Rattle.flame_board.specs.declared.boards.Board.{Board}
 use Rattle.flame_board.specs.declared.lanes.Lane.{Lane}
@@ -98,7 +98,7 @@ freeze_all-requires-clause-own g c = λ lifetimes outlives.
     let long = c.in_ok-own.ensures.long ∙ ap length c.listed.ensures.same in
     let filled = jobs-filled meant has.read messages jobs c.in_ok-dones.dones.items columns news
     (c.in_ok-dones.ensures has.read has.reads) c.in_ok-jobs.ensures.lanes c.in_ok-columns.ensures.columns
-    (sym (zip-length _ own columns c.in_ok-own.ensures.new.own) ∙ long)
+    (sym ((sym (AllZip-long _ own columns c.in_ok-own.ensures.new.own))) ∙ long)
     (omega (arith, c.in_ok-columns.ensures.width, c.len.ensures, c.in_ok-own.own.ok.0, long)) in
     still-taken (weigh_jobs meant has.read jobs) messages own columns news filled c.in_ok-own.ensures.new.own
 
@@ -135,7 +135,7 @@ returns-clause-sent g c read reads message weight =
     let long = c.in_ok-own.ensures.long ∙ ap length c.listed.ensures.same in
     let filled = jobs-filled meant read messages jobs c.in_ok-dones.dones.items columns news
     (c.in_ok-dones.ensures read reads) c.in_ok-jobs.ensures.lanes c.in_ok-columns.ensures.columns
-    (sym (zip-length _ own columns c.in_ok-own.ensures.new.own) ∙ long)
+    (sym ((sym (AllZip-long _ own columns c.in_ok-own.ensures.new.own))) ∙ long)
     (omega (arith, c.in_ok-columns.ensures.width, c.len.ensures, c.in_ok-own.own.ok.0, long)) in
     let listed : AreListed round.program.now.model messages tasks =
     subst (λ (list : List Task). AreListed round.program.now.model messages list) c.as_slice.ensures.value c.in_ok-list_outputs.ensures.all in

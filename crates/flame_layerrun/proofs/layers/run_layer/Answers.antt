@@ -3,14 +3,15 @@ use Rattle.std.specs.Prelude.{slice_get, slice_index_or, Some}
 use Rattle.std.specs.List.{All}
 use Rattle.std.proofs.lemmas.List.{length-map}
 use Rattle.std.proofs.lemmas.List.Elements.{All-map}
+use Rattle.std.proofs.lemmas.Slice.Zip.{AllZip-long}
 use Rattle.flame_rows.specs.Bags.{weigh}
 use Rattle.flame_spec.specs.Before.{function_count}
-use Rattle.flame_route.proofs.Places.{zip-length}
 use Rattle.flame_world.specs.Fields.{Field as Standing, HasPools}
 use Rattle.flame_field.specs.KeptBoards.{board_bag}
 use Rattle.flame_field.specs.KeptFields.{field_of}
 use Rattle.flame_round.specs.Choices.{choice_at}
 use Rattle.flame_round.specs.KeptRounds.{round_of}
+use Rattle.flame_round.proofs.BoardBags.{board_bags-IsAscending}
 use Rattle.flame_layers.specs.LayerFields.{all_takers, brought_by_all, first_stop, rank_of}
 use Rattle.flame_lanes.specs.declared.tasks.Task.{Task}
 use Rattle.flame_lanes.specs.LaneTasks.{agents_at}
@@ -19,7 +20,7 @@ use Rattle.flame_layerrun.specs.declared.schedules.Ranked.{Ranked}
 use Rattle.flame_layerrun.specs.LayerTasks.{AreRead, FitsTask}
 use Rattle.flame_layerrun.proofs.BroughtFields.{left-boards}
 use Rattle.flame_layerrun.proofs.TasksDone.{placed-tasks}
-use Rattle.flame_layerrun.proofs.WholeLayers.{all-marks, boards-up, layer-gains, left-fits, lefts-below, takers-up, tasks-weigh, whole-field}
+use Rattle.flame_layerrun.proofs.WholeLayers.{all-marks, layer-gains, left-fits, lefts-below, takers-up, tasks-weigh, whole-field}
 use Rattle.flame_layerrun.proofs.layers.run_layer.Goals as goal
 
 pub run_tasks-requires-clause-fit : goal.run_tasks-requires-clause-fit
@@ -34,7 +35,7 @@ run_tasks-requires-clause-boards g c κs within =
     sym (length-map c.open_all.new.field.boards.items board_bag)
     ∙ ap (λ (field : Standing). length field.boards) c.in_ok-opened.ensures.field
     ∙ ap length (left-boards (round_of c.args.round.now) fs (field_of c.args.field.now))
-    ∙ sym (zip-length _ model.messages (map board_bag c.args.field.now.boards.items) c.requires.fits.boards)
+    ∙ sym ((sym (AllZip-long _ model.messages (map board_bag c.args.field.now.boards.items) c.requires.fits.boards)))
 
 pub run_tasks-requires-clause-read : goal.run_tasks-requires-clause-read
 run_tasks-requires-clause-read g c κs within = record {
@@ -105,7 +106,7 @@ returns-clause-field g c =
     (c.in_ok-stop.ensures.field read takers gains) in
     whole-field meant fs read c.names_differ.ensures.messages c.requires.accepted
     (All-map (λ f. f < function_count model) (λ (ranked : Ranked). ranked.function) c.args.functions.now c.requires.there) mid after
-    (boards-up c.args.field.now.boards.items) (boards-up c.run_tasks.new.boards.items)
+    (board_bags-IsAscending c.args.field.now.boards.items) (board_bags-IsAscending c.run_tasks.new.boards.items)
     (ap (λ (field : Standing). field.pools) c.in_ok-opened.ensures.field)
     (ap (λ (field : Standing). field.born) c.in_ok-opened.ensures.field)
     (length-map c.run_tasks.new.boards.items board_bag ∙ c.in_ok-lefts.ensures.count

@@ -2,6 +2,7 @@ use Rattle.std.proofs.Common.{◌≡◌, ◌∙◌, ◌<◌, ap, length, map, sy
 use Rattle.std.specs.Prelude.{ℤ, Option, slice_index_or}
 use Rattle.std.specs.List.{All}
 use Rattle.std.proofs.lemmas.List.{length-map}
+use Rattle.std.proofs.lemmas.Slice.Zip.{AllZip-long}
 use Rattle.flame_rows.specs.Order.{row_order}
 use Rattle.flame_spec.specs.Columns.{width}
 use Rattle.flame_spec.specs.Functions.{Place}
@@ -15,7 +16,6 @@ use Rattle.flame_world.specs.WorldFits.{AreWide}
 use Rattle.flame_field.specs.KeptBoards.{board_bag}
 use Rattle.flame_field.specs.KeptFields.{field_of}
 use Rattle.flame_field.proofs.Borne.{pools_long}
-use Rattle.flame_route.proofs.Places.{zip-length}
 use Rattle.flame_round.specs.Choices.{choice_at}
 use Rattle.flame_round.specs.KeptRounds.{HasRoute, round_of}
 use Rattle.flame_round.proofs.NamedNumbers.{numbers-within}
@@ -40,7 +40,7 @@ share-requires g c =
     let goes = c.route_of-route.ensures in
     let all = numbers-within model goes.place.function.inputs c.route_of-route.result.now.inputs goes.routed.inputs in
     let count : length model.messages ≡ length c.args.field.now.boards.items =
-    zip-length _ model.messages (map board_bag c.args.field.now.boards.items) c.requires.fits.boards
+    (sym (AllZip-long _ model.messages (map board_bag c.args.field.now.boards.items) c.requires.fits.boards))
     ∙ length-map c.args.field.now.boards.items board_bag in
     subst (λ n. All (λ number. number < n) c.items.result.now) count
     (subst (λ list. All (λ number. number < length model.messages) list) (sym c.items.ensures) all)

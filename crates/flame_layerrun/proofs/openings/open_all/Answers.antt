@@ -1,9 +1,8 @@
 use Rattle.std.proofs.Common.{◌≡◌, ◌∙◌, ◌++◌, ◌+◌, ◌∷◌, ap, arith, drop, get_or, length, map, subst, sym, [], List, append_assoc}
-use Rattle.std.proofs.lemmas.List.{drop_all, map-append}
+use Rattle.std.proofs.lemmas.List.{drop_all, map-append, drop_more}
 use Rattle.flame_rows.specs.Cuts.{cut}
 use Rattle.flame_field.specs.KeptFields.{field_of}
 use Rattle.flame_round.specs.KeptRounds.{round_of}
-use Rattle.flame_round.proofs.Gets.{drop-next}
 use Rattle.flame_world.specs.WorldFits.{FitsField}
 use Rattle.flame_lanes.specs.declared.tasks.Task.{Task}
 use Rattle.flame_lanes.specs.LaneTasks.{tasks_of}
@@ -21,7 +20,7 @@ loop-ranked-preserved g c =
     let one = get_or functions i none in
     let numbers = map (λ (ranked : Ranked). ranked.function) functions in
     let rest = drop (i + 1) functions in
-    let next : drop i functions ≡ one ∷ rest = drop-next functions i none c.loop-ranked-test.true in
+    let next : drop i functions ≡ one ∷ rest = drop_more functions i none c.loop-ranked-test.true in
     let start = field_of c.args.field.now in
     let now = field_of c.loop-ranked.field in
     let after = field_of c.open.new.field in

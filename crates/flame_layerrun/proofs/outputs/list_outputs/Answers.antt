@@ -1,12 +1,12 @@
 use Rattle.std.proofs.Common.{◌≡◌, ◌∙◌, ◌<◌, ℕ, List, ap, length, subst, sym, take_all}
 use Rattle.std.specs.List.{All, AllZip}
 use Rattle.std.proofs.lemmas.Option.{slice_get_read}
+use Rattle.std.proofs.lemmas.Slice.Zip.{AllZip-long}
 use Rattle.flame_rows.proofs.Lists.{AllZip-at}
 use Rattle.flame_spec.specs.Before.{function_count}
 use Rattle.flame_spec.specs.Functions.{functions}
 use Rattle.flame_route.specs.declared.routes.Route.{Route}
 use Rattle.flame_route.specs.ModelRoutes.{IsRouteOf}
-use Rattle.flame_route.proofs.Places.{zip-length}
 use Rattle.flame_round.proofs.Gets.{has-at}
 use Rattle.flame_lanes.specs.declared.tasks.Task.{Task}
 use Rattle.flame_layerrun.specs.LayerTasks.{AreListed}
@@ -18,7 +18,7 @@ bounds-routes-task c =
     let model = c.args.program.now.model in
     let task = c.task-item.result in
     let count : function_count model ≡ length c.items-routes.result.now =
-    zip-length (IsRouteOf model) (functions model) c.routes.result.now.routes c.routes.ensures.each
+    (sym (AllZip-long (IsRouteOf model) (functions model) c.routes.result.now.routes c.routes.ensures.each))
     ∙ sym (ap (length {A = Route}) c.items-routes.ensures) in
     subst (λ n. task.function < n) count
     (subst (λ (one : Task). one.function < function_count model) (sym c.task-item.is)
@@ -39,7 +39,7 @@ loop-task-preserved c =
     (subst (λ (list : List Route). AllZip (IsRouteOf model) (functions model) list) (sym c.items-routes.ensures) c.routes.ensures.each)
     place.there
     (slice_get_read routes (function_count model) task.function route
-    (zip-length (IsRouteOf model) (functions model) c.routes.result.now.routes c.routes.ensures.each ∙ sym (ap (length {A = Route}) c.items-routes.ensures))
+    ((sym (AllZip-long (IsRouteOf model) (functions model) c.routes.result.now.routes c.routes.ensures.each)) ∙ sym (ap (length {A = Route}) c.items-routes.ensures))
     there c.index-routes-task.is) in
     let outputs = outputs-below model task.function place.item c.items.result.now place.there (c.items.ensures ∙ ap (λ (one : Route). one.outputs) (sym c.index-routes-task.is) ∙ routed.outputs) in
     let is = c.in_ok-add_all.ensures in

@@ -1,11 +1,11 @@
-use Rattle.std.proofs.Common.{◌≡◌, ◌<◌, ◌+◌, ◌-◌, ◌∙◌, ℕ, sym, ap, arith, cond, Some, length, take, drop, option_map, string_bytes}
+use Rattle.std.proofs.Common.{◌≡◌, ◌<◌, ◌+◌, ◌-◌, ◌∙◌, ℕ, sym, ap, arith, cond, Some, length, take, drop, option_map, string_bytes, refl}
 use Rattle.std.specs.HashMap.{get_by_text}
 use Rattle.std.specs.Str.{bytes_eq}
+use Rattle.flame_rows.proofs.Truths.{option_map-cond}
 use Rattle.flame_spec.specs.Columns.{width, width_of, columned_from}
 use Rattle.flame_spec.proofs.VariableWidths.{width_more}
 use Rattle.flame_lookup.specs.WordsFound.{item_found}
 use Rattle.flame_lookup.specs.WrittenForms.{written}
-use Rattle.flame_lookup.proofs.Backwards.{choice_mapped}
 use Rattle.flame_lookup.proofs.Columns.{columned_before}
 use Rattle.flame_lookup.proofs.table.columned.Goals as goal
 
@@ -37,7 +37,7 @@ loop-left-preserved c =
       found = λ word.
           let rest = get_by_text c.loop-left.table word in
           ap (option_map item_found) (c.in_ok-put.ensures word)
-          ∙ choice_mapped item_found (bytes_eq (string_bytes c.in_ok-word.word) word) _ rest
+          ∙ (sym (option_map-cond item_found (bytes_eq (string_bytes c.in_ok-word.word) word) _ (option_map item_found rest) rest refl))
           ∙ ap (λ text. cond (bytes_eq text word) (Some (at, item)) (option_map item_found rest))
           (c.in_ok-word.ensures ∙ ap (written c.args.form) c.as_str.ensures)
           ∙ columned_before (λ variable. bytes_eq (written c.args.form variable.name) word) variables (left - 1) item at

@@ -1,8 +1,9 @@
 use Rattle.std.proofs.Common.{◌++◌, ◌∙◌, ap, arith, length, sym, append_assoc}
 use Rattle.std.specs.List.{flat_map}
 use Rattle.std.specs.Vec.Iter.{into_iter_items}
+use Rattle.flame_rows.proofs.Lists.{append-flat_none}
 use Rattle.flame_merging.specs.RowLists.{rows_in}
-use Rattle.flame_merging.proofs.RowWeights.{flat-over, rows-push}
+use Rattle.flame_merging.proofs.RowWeights.{rows-push}
 use Rattle.flame_merging.proofs.lists.lists_of.Goals as goal
 
 pub loop-bag-preserved : goal.loop-bag-preserved
@@ -23,5 +24,5 @@ loop-bag-preserved c =
 
 pub returns : goal.returns
 returns c =
-    sym (flat-over (rows_in c.loop-bag.lists.items) _ (sym c.loop-bag.invariant.counted ∙ c.in-None.ensures.steps.0))
+    sym (append-flat_none (rows_in c.loop-bag.lists.items) _ (sym c.loop-bag.invariant.counted ∙ c.in-None.ensures.steps.0))
     ∙ c.loop-bag.invariant.rows

@@ -3,9 +3,9 @@ use Rattle.std.specs.Prelude.{◌||◌}
 use Rattle.std.proofs.lemmas.Result.{IfErr-weaker, on_ok_weaker}
 use Rattle.flame_spec.specs.KnownNames.{is_among}
 use Rattle.flame_spec.specs.NameFaults.{function_names}
+use Rattle.flame_spec.proofs.FaultLists.{FailsFirst-same}
 use Rattle.flame_names.specs.PlacePaths.{text_of}
 use Rattle.flame_names.specs.TableScopes.{declared_of}
-use Rattle.flame_names.proofs.Rests.{fails-same}
 use Rattle.flame_names.proofs.Types.{functions-are}
 use Rattle.flame_names.proofs.agents.add_agent.Goals as goal
 
@@ -57,4 +57,4 @@ returns-clause-first c =
     c.items-2.ensures
     c.in_ok-add_new.ensures.none
     c.in_ok-memory.ensures.none in
-    IfErr-weaker c.walk_functions.result _ _ (λ fail. fails-same fail _ _ whole) c.walk_functions.ensures.first
+    IfErr-weaker c.walk_functions.result _ _ (λ fail. FailsFirst-same fail _ _ whole) c.walk_functions.ensures.first

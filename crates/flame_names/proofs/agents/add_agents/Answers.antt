@@ -7,9 +7,10 @@ use Rattle.std.specs.Str.{bytes_eq}
 use Rattle.flame_spec.specs.KnownNames.{is_among}
 use Rattle.flame_spec.specs.Paths.{at_number}
 use Rattle.flame_spec.specs.NameFaults.{type_names, function_names, names_of_functions, agent_faults}
+use Rattle.flame_spec.proofs.FaultLists.{FailsFirst-member}
 use Rattle.flame_names.specs.PlacePaths.{text_of}
 use Rattle.flame_names.specs.TableScopes.{declared_of}
-use Rattle.flame_names.proofs.Rests.{fails-member, none-member}
+use Rattle.flame_names.proofs.Rests.{none-member}
 use Rattle.flame_names.proofs.Sharing.{names_of_functions-push}
 use Rattle.flame_names.proofs.agents.add_agents.Goals as goal
 
@@ -26,7 +27,7 @@ returns-in_err-add_agent-clause-first c =
     λ j name. c.loop-i.invariant.shared name j in
     rw
     (p.1, p.2)
-    (fails-member
+    (FailsFirst-member
     _
     (λ i type.
     agent_faults

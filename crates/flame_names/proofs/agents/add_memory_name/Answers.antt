@@ -5,11 +5,11 @@ use Rattle.flame_spec.specs.KnownNames.{is_among, variable_names}
 use Rattle.flame_ops.specs.Ascii.{capitals}
 use Rattle.flame_spec.specs.Paths.{at_key}
 use Rattle.flame_spec.specs.Refusals.{fault_where, name_fault}
+use Rattle.flame_spec.proofs.FaultLists.{FailsFirst-same}
 use Rattle.flame_names.specs.PlacePaths.{text_of}
 use Rattle.flame_names.proofs.Among.{looked_up}
 use Rattle.flame_name_sets.proofs.Among.{was_there, was_new}
 use Rattle.flame_names.proofs.Firsts.{fails_first, memory_name_faults-clash, memory_name_faults-new}
-use Rattle.flame_names.proofs.Rests.{fails-same}
 use Rattle.flame_names.proofs.agents.add_memory_name.Goals as goal
 
 pub returns-then-not-branch-clause-first : goal.returns-then-not-branch-clause-first
@@ -74,4 +74,4 @@ returns-clause-first c =
     (looked_up name _ _ names shouted c.requires ∙ new)
     ∙ ap (λ b. fault_where b Clash path name) constant
     ∙ ap (fault_where c.has-is_constant.result Clash path) (sym c.as_str-name.ensures) in
-    IfErr-weaker c.refuse.result _ _ (λ fail. fails-same fail _ _ (sym whole)) c.refuse.ensures.first
+    IfErr-weaker c.refuse.result _ _ (λ fail. FailsFirst-same fail _ _ (sym whole)) c.refuse.ensures.first

@@ -2,8 +2,8 @@ use Rattle.std.proofs.Common.{take}
 use Rattle.std.proofs.lemmas.Result.{err_from_is_err_and}
 use Rattle.flame_spec.specs.Paths.{at_number}
 use Rattle.flame_spec.specs.NameFaults.{memory_variable_faults}
+use Rattle.flame_spec.proofs.FaultLists.{FailsFirst-member}
 use Rattle.flame_names.specs.PlacePaths.{text_of}
-use Rattle.flame_names.proofs.Rests.{fails-member}
 use Rattle.flame_names.proofs.agents.add_named.Goals as goal
 
 pub returns-in_err-add_memory-clause-first : goal.returns-in_err-add_memory-clause-first
@@ -15,7 +15,7 @@ returns-in_err-add_memory-clause-first c =
     let i = c.loop-i.i in
     rw
     (p.1, p.2)
-    (fails-member
+    (FailsFirst-member
     _
     (λ i variable. memory_variable_faults constants (take i variables) (at_number path i) variable)
     variables

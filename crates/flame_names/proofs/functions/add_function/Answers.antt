@@ -4,10 +4,10 @@ use Rattle.flame_spec.specs.KnownNames.{is_among}
 use Rattle.flame_spec.specs.Paths.{at_key}
 use Rattle.flame_spec.specs.Leaves.{condition_faults}
 use Rattle.flame_spec.specs.FunctionFaults.{condition_scope, inputs_faults, outputs_faults}
+use Rattle.flame_spec.proofs.FaultLists.{FailsFirst-same, FailsFirst-front}
 use Rattle.flame_names.specs.PlacePaths.{text_of}
 use Rattle.flame_names.specs.TableScopes.{declared_of}
 use Rattle.flame_names.specs.FunctionTitles.{title_at}
-use Rattle.flame_names.proofs.Rests.{fails-append, fails-same}
 use Rattle.flame_names.proofs.Chains.{skip_two, skip_three}
 use Rattle.flame_names.proofs.functions.add_function.Goals as goal
 
@@ -20,7 +20,7 @@ returns-in_err-inputs-clause-first c =
     let function = c.args.function.now in
     rw
     (p.1, p.2)
-    (fails-append
+    (FailsFirst-front
     _
     _
     (inputs_faults declared memory (at_key path (codes "inputs")) c.items.result.now)
@@ -49,7 +49,7 @@ returns-clause-first c =
     c.outputs.result
     _
     _
-    (λ fail. fails-same
+    (λ fail. FailsFirst-same
     fail
     _
     _

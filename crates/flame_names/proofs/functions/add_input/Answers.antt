@@ -6,12 +6,12 @@ use Rattle.flame_spec.specs.KnownNames.{is_among}
 use Rattle.flame_spec.specs.Paths.{at_key}
 use Rattle.flame_spec.specs.Refusals.{fault_where, name_fault}
 use Rattle.flame_spec.specs.FunctionFaults.{reading_faults}
+use Rattle.flame_spec.proofs.FaultLists.{FailsFirst-same, FailsFirst-front}
 use Rattle.flame_names.specs.PlacePaths.{text_of}
 use Rattle.flame_names.specs.TableScopes.{declared_of}
 use Rattle.flame_name_sets.specs.NameTables.{look}
 use Rattle.flame_names.proofs.Firsts.{fails_first}
 use Rattle.flame_name_sets.proofs.Tables.{is_some-look}
-use Rattle.flame_names.proofs.Rests.{fails-append, fails-same}
 use Rattle.flame_names.proofs.Readings.{read_scope, input_faults-known, input_faults-unknown, rest_is}
 use Rattle.flame_names.proofs.functions.add_input.Goals as goal
 
@@ -54,7 +54,7 @@ returns-in_err-add_new-clause-first c =
     ∙ ap option_copied c.in-Some.is in
     rw
     (p.1, p.2)
-    (fails-append
+    (FailsFirst-front
     _
     _
     (fault_where
@@ -119,5 +119,5 @@ returns-clause-first c =
     c.reading.result
     _
     _
-    (λ fail. fails-same fail _ _ (sym whole))
+    (λ fail. FailsFirst-same fail _ _ (sym whole))
     c.reading.ensures.first

@@ -4,12 +4,13 @@ use Rattle.std.proofs.lemmas.Result.{err_from_is_err_and}
 use Rattle.flame_spec.specs.KnownNames.{is_among}
 use Rattle.flame_spec.specs.Paths.{at_number}
 use Rattle.flame_spec.specs.FunctionFaults.{function_faults}
+use Rattle.flame_spec.proofs.FaultLists.{FailsFirst-member}
 use Rattle.flame_names.specs.PlacePaths.{text_of}
 use Rattle.flame_names.specs.NameLooks.{transition_of}
 use Rattle.flame_names.specs.TableScopes.{declared_of}
 use Rattle.flame_names.specs.FunctionTitles.{function_at}
 use Rattle.flame_names.proofs.Chains.{function-is}
-use Rattle.flame_names.proofs.Rests.{fails-member, none-member}
+use Rattle.flame_names.proofs.Rests.{none-member}
 use Rattle.flame_names.proofs.functions.functions.Goals as goal
 
 pub returns-in_err-add_function-clause-first : goal.returns-in_err-add_function-clause-first
@@ -24,7 +25,7 @@ returns-in_err-add_function-clause-first c =
     let function = c.index-functions-i.result in
     rw
     (p.1, p.2)
-    (fails-member
+    (FailsFirst-member
     _
     (λ i function. function_faults declared memory is_taken (take i functions) (at_number path i) function)
     functions

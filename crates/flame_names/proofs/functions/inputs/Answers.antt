@@ -2,9 +2,9 @@ use Rattle.std.proofs.Common.{take}
 use Rattle.std.proofs.lemmas.Result.{err_from_is_err_and}
 use Rattle.flame_spec.specs.Paths.{at_number}
 use Rattle.flame_spec.specs.FunctionFaults.{read_names, input_faults}
+use Rattle.flame_spec.proofs.FaultLists.{FailsFirst-member}
 use Rattle.flame_names.specs.PlacePaths.{text_of}
 use Rattle.flame_names.specs.TableScopes.{declared_of}
-use Rattle.flame_names.proofs.Rests.{fails-member}
 use Rattle.flame_names.proofs.functions.inputs.Goals as goal
 
 pub returns-in_err-add_input-clause-first : goal.returns-in_err-add_input-clause-first
@@ -16,7 +16,7 @@ returns-in_err-add_input-clause-first c =
     let inputs = c.args.inputs.now in
     rw
     (p.1, p.2)
-    (fails-member
+    (FailsFirst-member
     _
     (λ i input. input_faults declared memory (read_names (take i inputs)) (at_number path i) input)
     inputs

@@ -2,10 +2,10 @@ use Rattle.std.proofs.Common.{◌∙◌, ◌++◌, sym, ap, codes}
 use Rattle.std.proofs.lemmas.Result.{err_from_is_err_and}
 use Rattle.flame_spec.specs.Paths.{at_key}
 use Rattle.flame_spec.specs.Leaves.{leaf_faults}
+use Rattle.flame_spec.proofs.FaultLists.{FailsFirst-front}
+use Rattle.flame_spec.proofs.ConditionForms.{leaf_faults-And, leaf_faults-Or}
 use Rattle.flame_names.specs.PlacePaths.{text_of}
 use Rattle.flame_names.specs.TableScopes.{scope_of}
-use Rattle.flame_names.proofs.Rests.{fails-append}
-use Rattle.flame_names.proofs.Sides.{leaf_faults-And, leaf_faults-Or}
 use Rattle.flame_names.proofs.leaves.+leaves.Goals as goal
 
 pub returns-in_err-leaves-in-And-clause-first : goal.returns-in_err-leaves-in-And-clause-first
@@ -17,7 +17,7 @@ returns-in_err-leaves-in-And-clause-first t c =
     let path = text_of c.args.place.now in
     rw
     (p.1, p.2)
-    (fails-append
+    (FailsFirst-front
     _
     (leaf_faults scope c.args.condition.now path)
     (leaf_faults scope c.deref.result.now (at_key path (codes "lhs")))
@@ -40,7 +40,7 @@ returns-in_err-leaves-in-Or-clause-first t c =
     let path = text_of c.args.place.now in
     rw
     (p.1, p.2)
-    (fails-append
+    (FailsFirst-front
     _
     (leaf_faults scope c.args.condition.now path)
     (leaf_faults scope c.deref-in-Or.result.now (at_key path (codes "lhs")))

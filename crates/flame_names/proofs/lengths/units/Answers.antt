@@ -3,9 +3,10 @@ use Rattle.std.proofs.lemmas.Result.{err_from_is_err_and}
 use Rattle.std.proofs.lemmas.List.{take_more}
 use Rattle.flame_spec.specs.Paths.{at_number}
 use Rattle.flame_spec.specs.UnitFaults.{unit_faults}
+use Rattle.flame_spec.proofs.FaultLists.{FailsFirst-member}
 use Rattle.flame_names.specs.PlacePaths.{text_of}
 use Rattle.flame_names.specs.UnitTables.{unit_at, with_unit}
-use Rattle.flame_names.proofs.Rests.{fails-member, none-member}
+use Rattle.flame_names.proofs.Rests.{none-member}
 use Rattle.flame_names.proofs.Units.{unit-is, knows-push, knows-same}
 use Rattle.flame_names.proofs.lengths.units.Goals as goal
 
@@ -17,7 +18,7 @@ returns-in_err-add_unit-clause-first c =
     let unit = c.index-units-i.result in
     rw
     (p.1, p.2)
-    (fails-member
+    (FailsFirst-member
     _
     (λ i unit. unit_faults (take i units) (at_number path i) unit)
     units

@@ -2,8 +2,8 @@ use Rattle.std.proofs.Common.{codes, take}
 use Rattle.std.proofs.lemmas.Result.{err_from_is_err_and}
 use Rattle.flame_spec.specs.Paths.{at_key, at_number}
 use Rattle.flame_spec.specs.MessageFaults.{apart_faults}
+use Rattle.flame_spec.proofs.FaultLists.{FailsFirst-member}
 use Rattle.flame_names.specs.PlacePaths.{text_of}
-use Rattle.flame_names.proofs.Rests.{fails-member}
 use Rattle.flame_names.proofs.messages.add_constants.Goals as goal
 
 pub returns-in_err-add_apart-clause-first : goal.returns-in_err-add_apart-clause-first
@@ -13,7 +13,7 @@ returns-in_err-add_apart-clause-first c =
     let names = c.args.constants.now in
     rw
     (p.1, p.2)
-    (fails-member
+    (FailsFirst-member
     _
     (λ i name. apart_faults (take i names) (at_key (at_number path i) (codes "name")) name)
     names

@@ -6,8 +6,8 @@ use Rattle.flame_spec.specs.Columns.{width, is_array}
 use Rattle.flame_spec.specs.MessageFaults.{width_faults, variable_faults}
 use Rattle.flame_spec.specs.Paths.{at_key}
 use Rattle.flame_spec.specs.Refusals.{fault_where}
+use Rattle.flame_spec.proofs.FaultLists.{FailsFirst-same}
 use Rattle.flame_names.specs.PlacePaths.{text_of}
-use Rattle.flame_names.proofs.Rests.{fails-same}
 use Rattle.flame_names.proofs.Widths.{wide-push}
 use Rattle.flame_names.proofs.messages.add_field.Goals as goal
 
@@ -34,4 +34,4 @@ returns-clause-none c = on_ok_weaker c.refuse_wide.result (λ e. width_is c ∙ 
 
 pub returns-clause-first : goal.returns-clause-first
 returns-clause-first c =
-    IfErr-weaker c.refuse_wide.result _ _ (λ fail. fails-same fail _ _ (sym (width_is c))) c.refuse_wide.ensures.first
+    IfErr-weaker c.refuse_wide.result _ _ (λ fail. FailsFirst-same fail _ _ (sym (width_is c))) c.refuse_wide.ensures.first

@@ -3,10 +3,10 @@ use Rattle.std.proofs.lemmas.Result.{err_from_is_err_and}
 use Rattle.flame_spec.specs.KnownNames.{is_among, message_names}
 use Rattle.flame_spec.specs.Paths.{at_number}
 use Rattle.flame_spec.specs.MessageFaults.{message_faults}
+use Rattle.flame_spec.proofs.FaultLists.{FailsFirst-member}
 use Rattle.flame_names.specs.PlacePaths.{text_of}
 use Rattle.flame_names.specs.NameLooks.{message_entry}
 use Rattle.flame_name_sets.specs.NameTables.{look}
-use Rattle.flame_names.proofs.Rests.{fails-member}
 use Rattle.flame_names.proofs.MessageNames.{names_of-messages}
 use Rattle.flame_name_sets.proofs.Tables.{look-none}
 use Rattle.flame_names.proofs.messages.add_messages.Goals as goal
@@ -18,7 +18,7 @@ returns-in_err-variables-clause-first c =
     let messages = c.args.messages.now in
     rw
     (p.1, p.2)
-    (fails-member
+    (FailsFirst-member
     _
     (λ i message. message_faults (message_names (take i messages)) (at_number path i) message)
     messages

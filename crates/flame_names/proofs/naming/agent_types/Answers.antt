@@ -3,8 +3,8 @@ use Rattle.std.proofs.lemmas.Result.{IfErr-weaker, on_ok_weaker}
 use Rattle.flame_spec.specs.KnownNames.{declared_by}
 use Rattle.flame_spec.specs.NameFaults.{agents_faults}
 use Rattle.flame_spec.specs.Paths.{at_key}
+use Rattle.flame_spec.proofs.FaultLists.{FailsFirst-same}
 use Rattle.flame_names.specs.PlacePaths.{text_of}
-use Rattle.flame_names.proofs.Rests.{fails-same}
 use Rattle.flame_names.proofs.Wholes.{declared-is}
 use Rattle.flame_names.proofs.naming.agent_types.Goals as goal
 
@@ -42,4 +42,4 @@ returns-clause-first c =
     c.requires.units
     c.requires.messages)
     ∙ ap (agents_faults (declared_by model) (at_key path (codes "agents"))) c.items.ensures in
-    IfErr-weaker c.agents.result _ _ (λ fail. fails-same fail _ _ whole) c.agents.ensures.first
+    IfErr-weaker c.agents.result _ _ (λ fail. FailsFirst-same fail _ _ whole) c.agents.ensures.first

@@ -4,8 +4,8 @@ use Rattle.flame_spec.specs.KnownNames.{declared_by}
 use Rattle.flame_spec.specs.MessageFaults.{messages_faults}
 use Rattle.flame_spec.specs.NameFaults.{agents_faults}
 use Rattle.flame_spec.specs.Paths.{at_key}
+use Rattle.flame_spec.proofs.FaultLists.{FailsFirst-same}
 use Rattle.flame_names.specs.PlacePaths.{text_of}
-use Rattle.flame_names.proofs.Rests.{fails-same}
 use Rattle.flame_names.proofs.naming.model_names.Goals as goal
 
 pub returns-clause-none : goal.returns-clause-none
@@ -26,4 +26,4 @@ returns-clause-first c =
     messages_faults (at_key path (codes "messages")) model.messages
     ++ agents_faults (declared_by model) (at_key path (codes "agents")) model.agents in
     let whole = ap (λ l. l ++ rest) c.in_ok-constants.ensures.none in
-    IfErr-weaker c.types.result _ _ (λ fail. fails-same fail _ _ (sym whole)) c.types.ensures.first
+    IfErr-weaker c.types.result _ _ (λ fail. FailsFirst-same fail _ _ (sym whole)) c.types.ensures.first

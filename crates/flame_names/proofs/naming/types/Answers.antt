@@ -4,8 +4,8 @@ use Rattle.flame_spec.specs.KnownNames.{declared_by}
 use Rattle.flame_spec.specs.MessageFaults.{messages_faults}
 use Rattle.flame_spec.specs.NameFaults.{agents_faults}
 use Rattle.flame_spec.specs.Paths.{at_key}
+use Rattle.flame_spec.proofs.FaultLists.{FailsFirst-same}
 use Rattle.flame_names.specs.PlacePaths.{text_of}
-use Rattle.flame_names.proofs.Rests.{fails-same}
 use Rattle.flame_names.proofs.naming.types.Goals as goal
 
 pub returns-clause-none : goal.returns-clause-none
@@ -28,4 +28,4 @@ returns-clause-first c =
     ap
     (λ l. l ++ rest)
     (ap (messages_faults (at_key path (codes "messages"))) (sym c.items.ensures) ∙ c.in_ok-messages.ensures.none) in
-    IfErr-weaker c.agent_types.result _ _ (λ fail. fails-same fail _ _ (sym whole)) c.agent_types.ensures.first
+    IfErr-weaker c.agent_types.result _ _ (λ fail. FailsFirst-same fail _ _ (sym whole)) c.agent_types.ensures.first

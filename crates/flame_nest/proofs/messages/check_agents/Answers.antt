@@ -1,7 +1,8 @@
 use Rattle.std.proofs.Common.{◌∙◌, ap, sym}
 use Rattle.std.proofs.lemmas.Result.{err_from_is_err_and}
+use Rattle.flame_spec.proofs.FaultLists.{FailsFirst-same}
 use Rattle.flame_nest.specs.NestFaults.{meant_by, variables_faults}
-use Rattle.flame_nest.proofs.Firsts.{fails-item, fails-same, none-item}
+use Rattle.flame_nest.proofs.Firsts.{fails-item, none-item}
 use Rattle.flame_nest.proofs.messages.check_agents.Goals as goal
 
 pub loop-agent-preserved : goal.loop-agent-preserved
@@ -35,7 +36,7 @@ returns-in_err-check_variables-clause-first c =
     c.loop-agent-test.true
     c.agent-item.is
     c.loop-agent.invariant
-    (fails-same
+    (FailsFirst-same
     _
     _
     _

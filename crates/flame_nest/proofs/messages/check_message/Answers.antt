@@ -1,7 +1,8 @@
 use Rattle.std.proofs.Common.{◌∙◌, [], ap, sym, cond}
 use Rattle.std.proofs.lemmas.Result.{IfErr-weaker}
+use Rattle.flame_spec.proofs.FaultLists.{FailsFirst-behind, FailsFirst-same}
 use Rattle.flame_nest.specs.NestFaults.{meant_by, variables_faults}
-use Rattle.flame_nest.proofs.Firsts.{fails-skip, fails-same, where-same}
+use Rattle.flame_nest.proofs.Firsts.{where-same}
 use Rattle.flame_nest.specs.declared.faults.NestKind.TheVariants.{Differs}
 use Rattle.flame_nest.proofs.messages.check_message.Goals as goal
 
@@ -15,12 +16,12 @@ returns-clause-first c =
     _
     _
     (λ fail h.
-    fails-skip
+    FailsFirst-behind
     fail
     _
     _
     (sym (where-same _ _ Differs file message.name c.differs-differs.ensures) ∙ c.in_ok-refuse.ensures.none)
-    (fails-same
+    (FailsFirst-same
     fail
     _
     _

@@ -2,11 +2,12 @@ use Rattle.std.proofs.Common.{◌∙◌, ap, sym, take, cond, ◌++◌, ◌∷�
 use Rattle.std.proofs.lemmas.Result.{err_from_is_err_and}
 use Rattle.std.specs.Option.{is_some}
 use Rattle.flame_spec.specs.KnownNames.{is_among}
+use Rattle.flame_spec.proofs.FaultLists.{FailsFirst-member}
 use Rattle.flame_nest.specs.FlatModels.{with_new}
 use Rattle.flame_nest.specs.NestFaults.{meant_by, type_names, type_faults}
 use Rattle.flame_name_sets.specs.NameTables.{look}
 use Rattle.flame_nest.specs.GivenTables.{given_in}
-use Rattle.flame_nest.proofs.Firsts.{fails-member, none-member}
+use Rattle.flame_nest.proofs.Firsts.{none-member}
 use Rattle.flame_nest.proofs.Joins.{with_new-none, with_new-more}
 use Rattle.flame_nest.proofs.Typing.{type_once, here-more, member-is}
 use Rattle.flame_nest.proofs.types.check_types.Goals as goal
@@ -30,7 +31,7 @@ returns-in_err-check_type-clause-first c =
     let p = err_from_is_err_and c.from_residual.result c.from_residual.ensures.1 in
     rw
     (p.1, p.2)
-    (fails-member
+    (FailsFirst-member
     _
     (λ i type.
     type_faults

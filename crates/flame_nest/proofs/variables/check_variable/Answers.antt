@@ -3,10 +3,11 @@ use Rattle.std.specs.Prelude.{◌&&◌, ◌||◌, is_some}
 use Rattle.std.proofs.lemmas.Result.{err_from_is_err_and, on_ok_weaker, IfErr-weaker}
 use Rattle.flame_rows.proofs.Lists.{append-nils}
 use Rattle.flame_spec.specs.KnownNames.{is_among}
+use Rattle.flame_spec.proofs.FaultLists.{FailsFirst-append, FailsFirst-behind, FailsFirst-same}
 use Rattle.flame_nest.specs.declared.faults.NestKind.TheVariants.{UnknownType, TypedArray, TooWide, LongName}
 use Rattle.flame_nest.specs.FlatModels.{flat_variables}
 use Rattle.flame_nest.specs.NestFaults.{type_names, is_int, is_wide}
-use Rattle.flame_nest.proofs.Firsts.{fails-append, fails-skip, fails-same, where-same, where-false, never_both}
+use Rattle.flame_nest.proofs.Firsts.{where-same, where-false, never_both}
 use Rattle.flame_nest.proofs.variables.check_variable.Goals as goal
 
 pub returns-in_err-refuse-clause-first : goal.returns-in_err-refuse-clause-first
@@ -18,7 +19,7 @@ returns-in_err-refuse-clause-first c =
     let unknown = c.is_unknown.ensures ∙ ap (λ t. not (is_int kind || t)) c.is_typed-typed.ensures.typed in
     rw
     (p.1, p.2)
-    (fails-append _ _ _ (fails-same _ _ _ (where-same _ _ UnknownType file name unknown) c.in_err-refuse.ensures.first))
+    (FailsFirst-append _ _ _ (FailsFirst-same _ _ _ (where-same _ _ UnknownType file name unknown) c.in_err-refuse.ensures.first))
 
 pub returns-in_err-refuse-2-clause-first : goal.returns-in_err-refuse-2-clause-first
 returns-in_err-refuse-2-clause-first c =
@@ -30,12 +31,12 @@ returns-in_err-refuse-2-clause-first c =
     let array = c.is_typed_array.ensures ∙ ap (λ t. t && is_some c.args.variable.now.length) c.is_typed-typed.ensures.typed in
     rw
     (p.1, p.2)
-    (fails-skip
+    (FailsFirst-behind
     _
     _
     _
     (sym (where-same _ _ UnknownType file name unknown) ∙ c.in_ok-refuse.ensures.none)
-    (fails-append _ _ _ (fails-same _ _ _ (where-same _ _ TypedArray file name array) c.in_err-refuse-2.ensures.first)))
+    (FailsFirst-append _ _ _ (FailsFirst-same _ _ _ (where-same _ _ TypedArray file name array) c.in_err-refuse-2.ensures.first)))
 
 pub returns-clause-none : goal.returns-clause-none
 returns-clause-none c =
@@ -82,20 +83,20 @@ returns-clause-first c =
     _
     _
     (λ fail h.
-    fails-skip
+    FailsFirst-behind
     fail
     _
     _
     (sym (where-same _ _ UnknownType file name unknown) ∙ c.in_ok-refuse.ensures.none)
-    (fails-skip
+    (FailsFirst-behind
     fail
     _
     _
     (sym (where-same _ _ TypedArray file name array) ∙ c.in_ok-refuse-2.ensures.none)
-    (fails-skip
+    (FailsFirst-behind
     fail
     _
     _
     (where-false _ TooWide file name narrow)
-    (fails-same fail _ _ (where-same _ _ LongName file name c.has_long.ensures) h))))
+    (FailsFirst-same fail _ _ (where-same _ _ LongName file name c.has_long.ensures) h))))
     c.refuse-3.ensures.first

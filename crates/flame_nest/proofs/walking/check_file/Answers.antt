@@ -1,11 +1,11 @@
 use Rattle.std.proofs.Common.{◌∙◌, ap, sym}
 use Rattle.std.proofs.lemmas.Result.{err_from_is_err_and, on_ok_weaker, IfErr-weaker}
 use Rattle.flame_rows.proofs.Lists.{append-nils}
+use Rattle.flame_spec.proofs.FaultLists.{FailsFirst-append, FailsFirst-behind, FailsFirst-same}
 use Rattle.flame_nest.specs.FlatModels.{with_new}
 use Rattle.flame_nest.specs.NestFaults.{meant_by, types_faults, messages_faults, agents_faults}
 use Rattle.flame_nest.specs.GivenTables.{given_in}
 use Rattle.flame_nest.specs.FileWalks.{known_with}
-use Rattle.flame_nest.proofs.Firsts.{fails-append, fails-skip, fails-same}
 use Rattle.flame_nest.proofs.walking.check_file.Goals as goal
 
 pub returns-in_err-check_types-clause-first : goal.returns-in_err-check_types-clause-first
@@ -13,11 +13,11 @@ returns-in_err-check_types-clause-first c =
     let p = err_from_is_err_and c.from_residual.result c.from_residual.ensures.1 in
     rw
     (p.1, p.2)
-    (fails-append
+    (FailsFirst-append
     _
     _
     _
-    (fails-same
+    (FailsFirst-same
     _
     _
     _
@@ -32,17 +32,17 @@ returns-in_err-check_messages-clause-first c =
     let known = c.in_ok-check_types.ensures.kinds ∙ ap (with_new (λ type. type.name) c.args.kinds.now) c.items.ensures in
     rw
     (p.1, p.2)
-    (fails-skip
+    (FailsFirst-behind
     _
     _
     _
     (ap (types_faults file (given_in c.args.types.now) c.args.kinds.now) (sym c.items.ensures)
     ∙ c.in_ok-check_types.ensures.none)
-    (fails-append
+    (FailsFirst-append
     _
     _
     _
-    (fails-same
+    (FailsFirst-same
     _
     _
     _
@@ -86,13 +86,13 @@ returns-clause-first c =
     _
     _
     (λ fail h.
-    fails-skip
+    FailsFirst-behind
     fail
     _
     _
     (ap (types_faults file (given_in c.args.types.now) c.args.kinds.now) (sym c.items.ensures)
     ∙ c.in_ok-check_types.ensures.none)
-    (fails-skip
+    (FailsFirst-behind
     fail
     _
     _
@@ -100,7 +100,7 @@ returns-clause-first c =
     (ap (λ k. messages_faults file given (meant_by k) c.items-2.result.now) known
     ∙ ap (messages_faults file given (meant_by (known_with c.args.kinds.now c.args.wide.now))) c.items-2.ensures)
     ∙ c.in_ok-check_messages.ensures.none)
-    (fails-same
+    (FailsFirst-same
     fail
     _
     _

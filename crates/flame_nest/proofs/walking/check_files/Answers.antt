@@ -1,9 +1,10 @@
 use Rattle.std.proofs.Common.{◌<◌, length, refl, take, map, [], unwrap_or, arith}
 use Rattle.std.specs.Prelude.{slice_get}
 use Rattle.std.proofs.lemmas.Result.{err_from_is_err_and}
+use Rattle.flame_spec.proofs.FaultLists.{FailsFirst-member}
 use Rattle.flame_nest.specs.NestFaults.{of_type, of_message, file_faults}
 use Rattle.flame_nest.specs.GivenTables.{given_in}
-use Rattle.flame_nest.proofs.Firsts.{fails-member, none-member}
+use Rattle.flame_nest.proofs.Firsts.{none-member}
 use Rattle.flame_nest.proofs.Walks.{types-known, given-more, kinds-more, kept-more, walk-is}
 use Rattle.flame_nest.proofs.walking.check_files.Goals as goal
 
@@ -28,7 +29,7 @@ returns-in_err-add-clause-first c =
     let inside : c.loop-i.i < length c.args.files.now = omega arith in
     rw
     (p.1, p.2)
-    (fails-member
+    (FailsFirst-member
     _
     (λ i wide. file_faults (unwrap_or (slice_get files i) []) (take i wides) wide)
     wides

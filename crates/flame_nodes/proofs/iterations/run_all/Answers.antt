@@ -1,13 +1,14 @@
 use Rattle.std.proofs.Common.{◌≡◌, ◌∙◌, ◌<◌, ◌+◌, ap, drop, length, sym, subst, Ok}
 use Rattle.std.specs.Prelude.{slice_index_or}
+use Rattle.std.proofs.lemmas.List.{drop_more}
+use Rattle.flame_rows.proofs.Truths.{is_some-false}
 use Rattle.flame_spec.specs.Before.{before, function_count}
 use Rattle.flame_spec.specs.ModelOrder.{model_order}
 use Rattle.flame_world.specs.Iterations.{and_on, step, steps, unless_faulted}
 use Rattle.flame_world.proofs.WidthsKept.{fitting_fields_stay}
 use Rattle.flame_field.specs.KeptFields.{field_of}
 use Rattle.flame_round.specs.KeptRounds.{round_of}
-use Rattle.flame_round.proofs.Gets.{drop-next}
-use Rattle.flame_nodes.proofs.NodeSteps.{none-so, stops-so}
+use Rattle.flame_nodes.proofs.NodeSteps.{stops-so}
 use Rattle.flame_nodes.proofs.iterations.run_all.Goals as goal
 
 pub step-requires-clause-there : goal.step-requires-clause-there
@@ -29,14 +30,14 @@ loop-function-preserved g c =
     let next = field_of c.step.new.field in
     let stepped : step round function field ≡ Ok next =
     sym c.in_ok-fault.ensures.stepped
-    ∙ ap (λ fault. unless_faulted fault next) (none-so c.in_ok-fault.fault (sym c.if-is_some.ensures)) in
+    ∙ ap (λ fault. unless_faulted fault next) (is_some-false c.in_ok-fault.fault (sym c.if-is_some.ensures)) in
     let old = c.loop-function.invariant in
     record {
       fits = fitting_fields_stay round function field next old.fits stepped;
       dealt = c.in_ok-fault.ensures.dealt;
       rest =
           sym (ap (λ r. and_on r (steps round (drop (place + 1) items))) stepped)
-          ∙ ap (λ list. steps round list field) (sym (drop-next items place 0 c.loop-function-test.true))
+          ∙ ap (λ list. steps round list field) (sym (drop_more items place 0 c.loop-function-test.true))
           ∙ old.rest;
     }
 
@@ -50,6 +51,6 @@ returns-then-is_some g c =
     let order : items ≡ model_order round.source.model = c.items-function-items.ensures ∙ c.plan.ensures.order in
     sym (stops-so c.in_ok-fault.fault next (steps round (drop (place + 1) items)) (sym c.if-is_some.ensures))
     ∙ ap (λ r. and_on r (steps round (drop (place + 1) items))) c.in_ok-fault.ensures.stepped
-    ∙ ap (λ list. steps round list field) (sym (drop-next items place 0 c.loop-function-test.true))
+    ∙ ap (λ list. steps round list field) (sym (drop_more items place 0 c.loop-function-test.true))
     ∙ c.loop-function.invariant.rest
     ∙ ap (λ list. steps round list (field_of c.args.field.now)) order

@@ -1,11 +1,10 @@
-use Rattle.std.proofs.Common.{◌≡◌, ◌+◌, ◌*◌, ◌∙◌, ◌∷◌, [], ◌++◌, ap, arith, drop, drop-drop, length, map, refl, sym, take, ℕ}
+use Rattle.std.proofs.Common.{◌≡◌, ◌+◌, ◌*◌, ◌∙◌, ◌∷◌, [], ◌++◌, ap, arith, drop, drop-drop, length, map, sym, take, ℕ}
 use Rattle.std.specs.Int.{div_ceil}
 use Rattle.std.specs.List.{range_with_len}
-use Rattle.std.specs.Vec.Iter.{into_iter_items}
 use Rattle.std.proofs.lemmas.List.FromFn.{map-range_with_len_more}
 use Rattle.flame_rows.specs.Bags.{ascending}
 use Rattle.flame_rows.specs.Sorted.{sorted_by}
-use Rattle.flame_nodes.proofs.PartedTakers.{length-sorted_by}
+use Rattle.flame_world.proofs.Counting.{length-sorted_by}
 use Rattle.flame_nodes.specs.Partings.{range_order, run_at}
 use Rattle.flame_nodes.proofs.partings.by_ranges.Goals as goal
 

@@ -1,9 +1,11 @@
-use Rattle.std.proofs.Common.{◌≡◌, ◌∙◌, ◌<◌, ℕ, ap, arith, length, map, refl, sym, subst, [], List, None}
+use Rattle.std.proofs.Common.{◌≡◌, ◌∙◌, ◌<◌, ap, arith, length, map, refl, sym, subst, [], List, None}
 use Rattle.std.specs.Prelude.{ℤ, slice_index_or}
 use Rattle.std.specs.List.{All}
 use Rattle.std.proofs.lemmas.List.{length-map}
+use Rattle.std.proofs.lemmas.Slice.Zip.{AllZip-long}
 use Rattle.flame_rows.specs.Bags.{ascending}
 use Rattle.flame_rows.proofs.Merging.{ascending-ascending}
+use Rattle.flame_rows.proofs.Truths.{is_some-false}
 use Rattle.flame_spec.specs.Columns.{width}
 use Rattle.flame_spec.specs.declared.outcomes.Outcome.{Outcome}
 use Rattle.flame_spec.specs.declared.outcomes.Sent.{Sent}
@@ -23,11 +25,11 @@ use Rattle.flame_round.specs.Choices.{choice_at}
 use Rattle.flame_round.specs.KeptRounds.{round_of}
 use Rattle.flame_round.proofs.LeftRows.{sent-within}
 use Rattle.flame_round.proofs.NamedNumbers.{numbers-within}
-use Rattle.flame_route.proofs.Places.{zip-length}
 use Rattle.flame_round.proofs.Stepped.{frozen-named, frozen-wide, has-route, takers-wide}
+use Rattle.flame_round.proofs.BoardBags.{board_bags-IsAscending}
 use Rattle.flame_nodes.specs.NodeLeavings.{AreLeftBy}
 use Rattle.flame_nodes.proofs.NodeLists.{wide-ascending}
-use Rattle.flame_nodes.proofs.NodeSteps.{boards-up, faulted-so, left-below, none-so, settled, stepped}
+use Rattle.flame_nodes.proofs.NodeSteps.{faulted-so, left-below, settled, stepped}
 use Rattle.flame_nodes.proofs.steps.step.Goals as goal
 
 pub leave_chosen-requires-clause-pools : goal.leave_chosen-requires-clause-pools
@@ -42,7 +44,7 @@ share-requires g c =
     let boards = c.args.field.now.boards.items in
     let all = numbers-within model goes.place.function.inputs c.route_of-route.result.now.inputs goes.routed.inputs in
     let count : length model.messages ≡ length boards =
-    zip-length _ model.messages (map board_bag boards) c.requires.fits.boards ∙ length-map boards board_bag in
+    (sym (AllZip-long _ model.messages (map board_bag boards) c.requires.fits.boards)) ∙ length-map boards board_bag in
     subst (λ n. All (λ number. number < n) c.items.result.now) count
     (subst (λ list. All (λ number. number < length model.messages) list) (sym c.items.ensures) all)
 
@@ -93,7 +95,7 @@ settle-requires-clause-messages g c =
     let left : AreLeftBy round.iteration c.args.function run (outputs_of source.model c.args.function) agents c.in_ok-left.left =
     c.in_ok-left.ensures all named in
     let count : length source.model.messages ≡ length c.share.new.boards.items =
-    zip-length _ source.model.messages all c.requires.fits.boards
+    (sym (AllZip-long _ source.model.messages all c.requires.fits.boards))
     ∙ ap length (sym c.in_ok-boards.ensures.bags)
     ∙ length-map c.share.new.boards.items board_bag in
     left-below round.iteration c.args.function run (outputs_of source.model c.args.function) agents c.in_ok-left.left left
@@ -132,7 +134,7 @@ returns-then-is_some-clause-stepped g c =
     faulted-so c.in_ok-left.left.fault _ (settled c.in_ok-left.left route after) (sym c.if-is_some.ensures)
     ∙ stepped meant function goes.place field goes.there outputs c.in_ok-left.left route after left
     (λ message out. sends_to_outputs c.names_differ.ensures.messages meant function field c.source-accepted.ensures.accepted c.requires.there
-    (boards-up c.args.field.now.boards.items) takers message out)
+    (board_bags-IsAscending c.args.field.now.boards.items) takers message out)
     order goes.routed.agent goes.routed.to pools born c.in_ok-boards.ensures.bags
 
 pub returns-clause-stepped : goal.returns-clause-stepped
@@ -164,10 +166,10 @@ returns-clause-stepped g c =
       boards = map board_bag c.share.new.boards.items;
     } in
     ap (unless_faulted None) c.in_ok-settle.ensures.field
-    ∙ ap (λ fault. unless_faulted fault (settled c.in_ok-left.left route after)) (sym (none-so c.in_ok-left.left.fault (sym c.if-is_some.ensures)))
+    ∙ ap (λ fault. unless_faulted fault (settled c.in_ok-left.left route after)) (sym (is_some-false c.in_ok-left.left.fault (sym c.if-is_some.ensures)))
     ∙ stepped meant function goes.place field goes.there outputs c.in_ok-left.left route after left
     (λ message out. sends_to_outputs c.names_differ.ensures.messages meant function field c.source-accepted.ensures.accepted c.requires.there
-    (boards-up c.args.field.now.boards.items) takers message out)
+    (board_bags-IsAscending c.args.field.now.boards.items) takers message out)
     order goes.routed.agent goes.routed.to pools born c.in_ok-boards.ensures.bags
 
 pub returns-clause-dealt : goal.returns-clause-dealt

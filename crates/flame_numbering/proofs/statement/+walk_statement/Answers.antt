@@ -8,13 +8,14 @@ use Rattle.flame_spec.specs.ExpressionFaults.{expression_faults}
 use Rattle.flame_spec.specs.Scopes.{Sight, after, after_all, in_loop, in_scope, over_none}
 use Rattle.flame_spec.specs.Seen.{arms, statement, statements, tested}
 use Rattle.flame_spec.specs.StatementFaults.{arms_faults, statement_faults, statements_faults}
+use Rattle.flame_spec.proofs.FaultLists.{FailsFirst-front}
 use Rattle.flame_lookup.specs.Sources.{context_at}
 use Rattle.flame_body.specs.declared.slots.SlotArm.{SlotArm}
 use Rattle.flame_body.specs.NumberedTrees.{numbered, numbered_arms, numbered_statement, numbered_statements}
 use Rattle.flame_numbering.specs.Heads.{head_faults, head_seen}
 use Rattle.flame_numbering.specs.SightTables.{loop_of}
 use Rattle.flame_numbering.specs.WordPlaces.{words_at}
-use Rattle.flame_numbering.proofs.Firsts.{clean-next, first_more_as}
+use Rattle.flame_numbering.proofs.Firsts.{clean-next}
 use Rattle.flame_numbering.proofs.Rests.{rest-next, rest-pushed}
 use Rattle.flame_numbering.proofs.Scoping.{scope-round, scope-left, loop-round, loop-left}
 use Rattle.flame_numbering.proofs.statement.+walk_statement.Goals as goal
@@ -42,12 +43,9 @@ statement-returns-in_err-tests-in-If-clause-first t c =
     let sight = c.args.spot.now in
     let rest = statements_faults context (in_scope sight) (statements c.in-If.otherwise) in
     rw (p.1, p.2)
-    (first_more_as (statement_faults context sight (statement c.args.s.now))
-    (arms_faults context sight (arms c.items-in-If.result.now)) rest _
-    (ap (λ s. statement_faults context sight (statement s)) c.in-If.is
+    (FailsFirst-front _ (statement_faults context sight (statement c.args.s.now)) (arms_faults context sight (arms c.items-in-If.result.now)) rest (ap (λ s. statement_faults context sight (statement s)) c.in-If.is
     ∙ ap (statement_faults context sight) (statement-If c.in-If.tests c.in-If.otherwise)
-    ∙ ap (λ l. arms_faults context sight (arms l) ++ rest) (sym c.items-in-If.ensures))
-    c.in_err-tests-in-If.ensures.first)
+    ∙ ap (λ l. arms_faults context sight (arms l) ++ rest) (sym c.items-in-If.ensures)) c.in_err-tests-in-If.ensures.first)
 
 pub statement-returns-in_ok-tests-in-If-clause-first : goal.statement-returns-in_ok-tests-in-If-clause-first
 statement-returns-in_ok-tests-in-If-clause-first t c =
@@ -78,12 +76,9 @@ statement-returns-in_err-head-in-For-clause-first t c =
     let last = in_loop over_none (after_all (in_scope sight) first) in
     let rest = statements_faults context last (statements c.in-For.body) in
     rw (p.1, p.2)
-    (first_more_as (statement_faults context sight (statement c.args.s.now))
-    (head_faults context (in_scope sight) (head_seen c.get.result.now)) rest _
-    (ap (λ s. statement_faults context sight (statement s)) c.in-For.is
+    (FailsFirst-front _ (statement_faults context sight (statement c.args.s.now)) (head_faults context (in_scope sight) (head_seen c.get.result.now)) rest (ap (λ s. statement_faults context sight (statement s)) c.in-For.is
     ∙ ap (statement_faults context sight) (statement-For c.in-For.line c.in-For.head c.in-For.body)
-    ∙ ap (λ h. head_faults context (in_scope sight) (head_seen h) ++ rest) (sym c.get.ensures))
-    c.in_err-head-in-For.ensures.first)
+    ∙ ap (λ h. head_faults context (in_scope sight) (head_seen h) ++ rest) (sym c.get.ensures)) c.in_err-head-in-For.ensures.first)
 
 pub statement-returns-in_ok-head-in-For-clause-after : goal.statement-returns-in_ok-head-in-For-clause-after
 statement-returns-in_ok-head-in-For-clause-after t c =

@@ -5,8 +5,8 @@ use Rattle.flame_spec.specs.declared.faults.CheckKind.TheVariants.{ReadOnly}
 use Rattle.flame_spec.specs.ExpressionFaults.{fault_where, unknown_faults}
 use Rattle.flame_spec.specs.Seen.{indexed}
 use Rattle.flame_spec.specs.StatementFaults.{is_read_only, subscript_faults}
+use Rattle.flame_spec.proofs.FaultLists.{FailsFirst-append}
 use Rattle.flame_lookup.specs.Sources.{context_at}
-use Rattle.flame_numbering.proofs.Firsts.{first_more}
 use Rattle.flame_numbering.proofs.stored.assignee.Goals as goal
 
 pub returns-in_err-visible-clause-first : goal.returns-in_err-visible-clause-first
@@ -20,4 +20,4 @@ returns-in_err-visible-clause-first c =
     let fixed = fault_where (is_read_only context word) context ReadOnly line word in
     let index = subscript_faults context sight line word (option_map indexed c.args.subscript.now) in
     rw (p.1, p.2)
-    (first_more (unknown ++ fixed) index _ (first_more unknown fixed _ c.in_err-visible.ensures.first))
+    (FailsFirst-append _ (unknown ++ fixed) index (FailsFirst-append _ unknown fixed c.in_err-visible.ensures.first))

@@ -6,8 +6,8 @@ use Rattle.flame_spec.specs.declared.faults.CheckKind.TheVariants.{ReadOnly}
 use Rattle.flame_spec.specs.ExpressionFaults.{fault_where, unknown_faults}
 use Rattle.flame_spec.specs.Seen.{assigned, indexed, stored}
 use Rattle.flame_spec.specs.StatementFaults.{assignment_faults, is_read_only, stored_faults, subscript_faults}
+use Rattle.flame_spec.proofs.FaultLists.{FailsFirst-front}
 use Rattle.flame_lookup.specs.Sources.{context_at}
-use Rattle.flame_numbering.proofs.Firsts.{first_more_as}
 use Rattle.flame_numbering.proofs.stored.assignment.Goals as goal
 
 pub returns-in_err-target-clause-first : goal.returns-in_err-target-clause-first
@@ -21,6 +21,4 @@ returns-in_err-target-clause-first c =
     ++ subscript_faults context sight a.line w (option_map indexed a.subscript) in
     let value = stored_faults context sight (stored a.value) in
     rw (p.1, p.2)
-    (first_more_as (assignment_faults context sight (assigned a)) (here c.as_str.result.now) value _
-    (ap (λ w. here w ++ value) (sym c.as_str.ensures))
-    c.in_err-target.ensures.first)
+    (FailsFirst-front _ (assignment_faults context sight (assigned a)) (here c.as_str.result.now) value (ap (λ w. here w ++ value) (sym c.as_str.ensures)) c.in_err-target.ensures.first)

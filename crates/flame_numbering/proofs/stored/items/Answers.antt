@@ -3,10 +3,11 @@ use Rattle.std.proofs.lemmas.Result.{err_from_is_err_and}
 use Rattle.flame_spec.specs.Scopes.{after_items, after_name}
 use Rattle.flame_spec.specs.Seen.{declared}
 use Rattle.flame_spec.specs.StatementFaults.{item_faults, items_faults}
+use Rattle.flame_spec.proofs.FaultLists.{FailsFirst-front}
 use Rattle.flame_lookup.specs.Sources.{context_at}
 use Rattle.flame_body.specs.NumberedTrees.{numbered_item, numbered_items}
 use Rattle.flame_numbering.specs.WordPlaces.{words_at}
-use Rattle.flame_numbering.proofs.Firsts.{clean-next, first_more_as}
+use Rattle.flame_numbering.proofs.Firsts.{clean-next}
 use Rattle.flame_numbering.proofs.Rests.{rest-next, rest-pushed}
 use Rattle.flame_numbering.proofs.stored.items.Goals as goal
 
@@ -20,11 +21,8 @@ returns-in_err-slot-clause-first c =
     let one = c.item-item.result in
     let rest = items_faults context (after_name sight one.name) (map declared (drop (i + 1) all)) in
     rw (p.1, p.2)
-    (first_more_as (items_faults context c.args.spot.now (map declared all))
-    (item_faults context sight (declared one)) rest _
-    (c.loop-item.invariant.clean
-    ∙ rest-next (λ l. items_faults context sight (map declared l)) all i one c.loop-item-test.true c.item-item.is)
-    c.in_err-slot.ensures.first)
+    (FailsFirst-front _ (items_faults context c.args.spot.now (map declared all)) (item_faults context sight (declared one)) rest (c.loop-item.invariant.clean
+    ∙ rest-next (λ l. items_faults context sight (map declared l)) all i one c.loop-item-test.true c.item-item.is) c.in_err-slot.ensures.first)
 
 pub loop-item-preserved : goal.loop-item-preserved
 loop-item-preserved c =

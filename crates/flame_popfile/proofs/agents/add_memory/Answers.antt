@@ -1,14 +1,14 @@
 -- The variables are those of the type.
-use Rattle.std.proofs.Common.{◌≡◌, ◌++◌, ◌∷◌, [], ◌∙◌, List, codes, option_map, sym, ap, ap₂, subst}
+use Rattle.std.proofs.Common.{◌++◌, ◌∷◌, [], ◌∙◌, codes, option_map, sym, ap, ap₂, subst}
 use Rattle.serde_json.specs.View.{view}
 use Rattle.flame_spec.specs.declared.models.AgentType.{AgentType}
 use Rattle.flame_spec.specs.declared.models.Variable.{Variable}
 use Rattle.flame_spec.specs.FirstFaults.{FailsFirst}
+use Rattle.flame_spec.proofs.FaultLists.{Passes-passed}
 use Rattle.flame_popfile.specs.PopulationAgents.{memory_of}
 use Rattle.flame_popfile.specs.PopulationFaults.{memory_faults}
 use Rattle.flame_popfile.specs.PopulationParts.{optional, called}
 use Rattle.flame_xmml.specs.ValuePlaces.{path_of}
-use Rattle.flame_popfile.proofs.Firsts.{passed_on}
 use Rattle.flame_popfile.proofs.agents.add_memory.Goals as goal
 
 pub memory_at-requires : goal.memory_at-requires
@@ -23,7 +23,7 @@ memory_at-requires c = λ name.
 pub returns-in_err-memory_at-clause-passes : goal.returns-in_err-memory_at-clause-passes
 returns-in_err-memory_at-clause-passes c =
     let same = c.items-variables.ensures ∙ ap (λ (type : AgentType). type.memory) c.agent-agent.ensures in
-    passed_on _ _ c.from_residual.result c.from_residual.ensures.1
+    Passes-passed _ _ c.from_residual.result c.from_residual.ensures.1
     (subst
     (λ variables. FailsFirst
     (optional (memory_faults variables) (codes "memory") (path_of c.args.place.now) (view c.args.value.now))

@@ -1,9 +1,9 @@
 -- What a member has wrong with its name comes before what its type finds wrong.
-use Rattle.std.proofs.Common.{◌≡◌, ◌++◌, [], ◌∙◌, Some, sym, ap, arith}
+use Rattle.std.proofs.Common.{◌++◌, [], ◌∙◌, Some, sym, ap, arith}
 use Rattle.serde_json.specs.View.{view}
+use Rattle.flame_spec.proofs.FaultLists.{FailsFirst-append, FailsFirst-behind, Passes-same, Passes-passed}
 use Rattle.flame_xmml.specs.ValuePlaces.{path_of}
-use Rattle.flame_popfile.specs.PopulationFaults.{content_faults, member_name_faults}
-use Rattle.flame_popfile.proofs.Firsts.{first_stays, first_after, passed_on, passes_along}
+use Rattle.flame_popfile.specs.PopulationFaults.{content_faults}
 use Rattle.flame_popfile.proofs.Dealing.{type_within, parts_found, added_at}
 use Rattle.flame_popfile.proofs.agents.add_named.Goals as goal
 
@@ -18,15 +18,15 @@ index_mut-requires c =
 
 pub returns-in_err-kind-clause-passes : goal.returns-in_err-kind-clause-passes
 returns-in_err-kind-clause-passes c =
-    passed_on _ _ c.from_residual.result c.from_residual.ensures.1 (first_stays _ _ _ c.in_err-kind.ensures.first)
+    Passes-passed _ _ c.from_residual.result c.from_residual.ensures.1 (FailsFirst-append _ _ _ c.in_err-kind.ensures.first)
 
 pub returns-in_err-add_content-clause-passes : goal.returns-in_err-add_content-clause-passes
 returns-in_err-add_content-clause-passes c =
-    passes_along c.from_residual-in_err-add_content.result
+    Passes-same c.from_residual-in_err-add_content.result
     (parts_found c.args.format c.args.kinds.now c.args.earlier.now (path_of c.args.place.now) (view c.args.value.now)
     c.in_ok-kind.kind.now c.in_ok-kind.ensures.kind)
-    (passed_on _ _ c.from_residual-in_err-add_content.result c.from_residual-in_err-add_content.ensures.1
-    (first_after _ _ _ c.in_ok-kind.ensures.none c.in_err-add_content.ensures.passes))
+    (Passes-passed _ _ c.from_residual-in_err-add_content.result c.from_residual-in_err-add_content.ensures.1
+    (FailsFirst-behind _ _ _ c.in_ok-kind.ensures.none c.in_err-add_content.ensures.passes))
 
 pub returns-clause-passes : goal.returns-clause-passes
 returns-clause-passes c =

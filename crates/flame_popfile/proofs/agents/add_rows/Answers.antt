@@ -1,17 +1,17 @@
 -- The width is that of the type.
-use Rattle.std.proofs.Common.{◌≡◌, ◌++◌, ◌∙◌, ℕ, map, codes, sym, ap, subst}
+use Rattle.std.proofs.Common.{◌++◌, ◌∙◌, ℕ, map, codes, sym, ap, subst}
 use Rattle.serde_json.specs.View.{view}
 use Rattle.flame_spec.specs.FirstFaults.{FailsFirst}
+use Rattle.flame_spec.proofs.FaultLists.{Passes-passed}
 use Rattle.flame_xmml.specs.ValueParts.{part}
 use Rattle.flame_popfile.specs.PopulationFaults.{rows_faults}
 use Rattle.flame_popfile.specs.PopulationParts.{optional, members_of, numbers_of}
 use Rattle.flame_xmml.specs.ValuePlaces.{path_of}
-use Rattle.flame_popfile.proofs.Firsts.{passed_on}
 use Rattle.flame_popfile.proofs.agents.add_rows.Goals as goal
 
 pub returns-in_err-add_rows_at-clause-passes : goal.returns-in_err-add_rows_at-clause-passes
 returns-in_err-add_rows_at-clause-passes c =
-    passed_on _ _ c.from_residual.result c.from_residual.ensures.1
+    Passes-passed _ _ c.from_residual.result c.from_residual.ensures.1
     (subst
     (λ (wide : ℕ). FailsFirst
     (optional (rows_faults wide) (codes "rows") (path_of c.args.place.now) (view c.args.value.now))

@@ -1,5 +1,5 @@
 -- A member's faults come before those of the members behind it.
-use Rattle.std.proofs.Common.{◌≡◌, ℕ, ◌+◌, List, [], ◌∷◌, ◌++◌, map, take, drop, length, take_all, refl, sym, ap, subst, ◌∙◌, arith}
+use Rattle.std.proofs.Common.{◌≡◌, ℕ, ◌+◌, List, [], ◌∷◌, ◌++◌, map, take, drop, take_all, refl, sym, ap, subst, ◌∙◌, arith}
 use Rattle.std.specs.Prelude.{replicate}
 use Rattle.std.proofs.lemmas.List.{length-map}
 use Rattle.serde_json.specs.Data.{Data}
@@ -7,13 +7,15 @@ use Rattle.serde_json.specs.View.{view}
 use Rattle.flame_spec.specs.FirstFaults.{FailsFirst}
 use Rattle.flame_spec.specs.Lists.{each_from}
 use Rattle.flame_spec.specs.Paths.{at_number}
+use Rattle.flame_spec.proofs.FaultLists.{FailsFirst-append, Reads-passed}
 use Rattle.flame_popfile.specs.declared.faults.PopFault.{PopFault}
 use Rattle.flame_popfile.specs.PopulationAgents.{agents_of}
 use Rattle.flame_popfile.specs.PopulationFaults.{agent_faults, taken_names}
 use Rattle.flame_xmml.specs.ValuePlaces.{path_of}
-use Rattle.flame_popfile.specs.DealtAgents.{AreDealt, rows_of}
-use Rattle.flame_popfile.proofs.Dealing.{bags_of-rows, bags_dealt, nobody_dealt, dealt_more}
-use Rattle.flame_popfile.proofs.Firsts.{first_stays, read_on}
+use Rattle.flame_popfile.specs.DealtAgents.{AreDealt}
+use Rattle.flame_rows.specs.RowVectors.{rows_of}
+use Rattle.flame_rows.proofs.BagLaws.{bags_of-rows}
+use Rattle.flame_popfile.proofs.Dealing.{bags_dealt, nobody_dealt, dealt_more}
 use Rattle.flame_popfile.proofs.MemberFaults.{next_member, no_member, taken_members}
 use Rattle.flame_popfile.proofs.PlacePaths.{path_of-Member}
 use Rattle.flame_popfile.proofs.TakenNames.{taken_none, taken_more}
@@ -83,12 +85,12 @@ returns-in_err-add_agent c =
     ∙ ap (λ earlier. agent_faults c.args.format c.args.kinds.now earlier (at_number path i) (view value))
     c.loop-number.invariant.names)
     c.in_err-add_agent.ensures.passes in
-    read_on _ _ _ c.from_residual-in_err-add_agent.result c.from_residual-in_err-add_agent.ensures.1
+    Reads-passed _ _ _ c.from_residual-in_err-add_agent.result c.from_residual-in_err-add_agent.ensures.1
     (subst (λ l. FailsFirst l c.in_err-add_agent.field-0.0)
     (sym
     (c.loop-number.invariant.faults
     ∙ next_member faults view c.args.values.now i value c.loop-number-test.true c.index-values-number.is))
-    (first_stays (faults i (view value)) _ _ fails))
+    (FailsFirst-append _ (faults i (view value)) _ fails))
 
 pub returns : goal.returns
 returns c =

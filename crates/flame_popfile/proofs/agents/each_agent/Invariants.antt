@@ -4,7 +4,8 @@ use Rattle.serde_json.specs.View.{view}
 use Rattle.flame_spec.specs.Lists.{each_from}
 use Rattle.flame_spec.specs.Paths.{at_number}
 use Rattle.flame_popfile.specs.PopulationFaults.{agent_faults, agents_faults, taken_names}
-use Rattle.flame_popfile.specs.DealtAgents.{AreDealt, rows_of}
+use Rattle.flame_popfile.specs.DealtAgents.{AreDealt}
+use Rattle.flame_rows.specs.RowVectors.{rows_of}
 use Rattle.flame_xmml.specs.ValuePlaces.{path_of}
 use Rattle.flame_popfile.proofs.agents.each_agent.Given as goal
 

@@ -1,6 +1,6 @@
 use Rattle.std.proofs.Common.{◌≡◌, []}
 use Rattle.std.specs.Prelude.{replicate}
-use Rattle.flame_popfile.specs.DealtAgents.{rows_of}
+use Rattle.flame_rows.specs.RowVectors.{rows_of}
 use Rattle.flame_popfile.proofs.agents.no_agents.Given as goal
 
 abbrev pub invariant-loop-turn : goal.invariant-loop-turn

@@ -1,10 +1,9 @@
 -- What the table has is what was found.
-use Rattle.std.proofs.Common.{◌≡◌, ◌∙◌, ap, option_map, subst}
-use Rattle.std.specs.HashMap.{get_by_text}
+use Rattle.std.proofs.Common.{subst}
 use Rattle.serde_json.specs.View.{view}
-use Rattle.flame_popfile.specs.PopulationParts.{known_faults, variable_faults}
+use Rattle.flame_popfile.specs.PopulationParts.{known_faults}
 use Rattle.flame_xmml.specs.ValuePlaces.{path_of}
-use Rattle.flame_popfile.specs.PopulationReads.{Passes}
+use Rattle.flame_spec.specs.FirstFaults.{Passes}
 use Rattle.flame_popfile.proofs.KeyTables.{found_lengths}
 use Rattle.flame_popfile.proofs.entries.asked.Goals as goal
 

@@ -5,11 +5,11 @@ use Rattle.serde_json.specs.Data.{Data}
 use Rattle.serde_json.specs.View.{view, members_view}
 use Rattle.flame_spec.specs.Paths.{at_key}
 use Rattle.flame_spec.specs.FirstFaults.{FailsFirst}
+use Rattle.flame_spec.proofs.FaultLists.{FailsFirst-append, Passes-same, Passes-passed}
 use Rattle.flame_popfile.specs.declared.faults.PopFault.{PopFault}
 use Rattle.flame_popfile.specs.PopulationParts.{entries}
 use Rattle.flame_xmml.specs.ValuePlaces.{path_of}
 use Rattle.flame_popfile.specs.PopulationTables.{asked_by}
-use Rattle.flame_popfile.proofs.Firsts.{first_stays, passed_on, passes_along}
 use Rattle.flame_popfile.proofs.PlacePaths.{asked_at}
 use Rattle.flame_popfile.proofs.entries.each_entry.Goals as goal
 
@@ -36,7 +36,7 @@ returns-in_err-asked c =
     (asked_at c.args.unknown c.args.lengths.now c.args.place c.as_str-name.result _ (view c.in-Some.inside.now)
     c.as_str-name.ensures.value))
     c.in_err-asked.ensures in
-    passes_along c.from_residual.result
+    Passes-same c.from_residual.result
     (c.loop-key.invariant ∙ ap (λ es. flat_map asks (entries (members_view es))) c.in-Some.ensures.steps)
-    (passed_on _ _ c.from_residual.result c.from_residual.ensures.1
-    (first_stays (asks (string_bytes c.in-Some.key.now, view c.in-Some.inside.now)) rest _ first))
+    (Passes-passed _ _ c.from_residual.result c.from_residual.ensures.1
+    (FailsFirst-append _ (asks (string_bytes c.in-Some.key.now, view c.in-Some.inside.now)) rest first))

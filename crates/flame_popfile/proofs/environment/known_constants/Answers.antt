@@ -1,7 +1,7 @@
 use Rattle.std.proofs.Common.{subst}
 use Rattle.serde_json.specs.View.{view}
 use Rattle.flame_xmml.specs.ValuePlaces.{path_of}
-use Rattle.flame_popfile.specs.PopulationReads.{Passes}
+use Rattle.flame_spec.specs.FirstFaults.{Passes}
 use Rattle.flame_popfile.proofs.KeyTables.{environment_asked}
 use Rattle.flame_popfile.proofs.environment.known_constants.Goals as goal
 

@@ -1,10 +1,11 @@
 use Rattle.std.proofs.Common.{◌≡◌, ℕ, ◌+◌, ◌<◌, ◌++◌, ◌∙◌, length, take, get_or, sym, ap, ap₂, subst, rules, length-append}
 use Rattle.std.specs.Prelude.{nat_lt}
 use Rattle.flame_spec.specs.Columns.{width}
+use Rattle.flame_spec.proofs.VariableWidths.{width_more}
 use Rattle.flame_popfile.specs.CommaTexts.{comma_where, name_text}
 use Rattle.flame_popfile.specs.FieldTexts.{IsField}
 use Rattle.flame_popfile.specs.declared.fields.Field.{Field}
-use Rattle.flame_popfile.proofs.FieldLists.{width_more, fields_more}
+use Rattle.flame_popfile.proofs.FieldLists.{fields_more}
 use Rattle.flame_popfile.proofs.fields.fields.Goals as goal
 
 pub loop-variable-preserved : goal.loop-variable-preserved
@@ -21,7 +22,7 @@ loop-variable-preserved c =
       column =
           sum
           ∙ ap₂ (λ m n. m + n) kept.column c.width.ensures
-          ∙ sym (width_more variables at variable c.loop-variable-test.true (sym c.variable-item.is));
+          ∙ sym (width_more variables at variable c.loop-variable-test.true (sym (sym c.variable-item.is)));
       each =
           subst (λ l. (i : ℕ) (other : Field) → i < length l → IsField variables i (get_or l i other))
           (sym c.in_ok-push.ensures.items)

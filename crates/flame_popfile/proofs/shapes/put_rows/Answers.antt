@@ -1,10 +1,12 @@
 use Rattle.std.proofs.Common.{◌≡◌, ◌+◌, ◌-◌, ◌<◌, ◌||◌, ◌++◌, ◌∙◌, length, map, drop, true, sym, ap, ap₂, arith}
 use Rattle.std.specs.Prelude.{nat_lt}
 use Rattle.std.proofs.lemmas.Bool.{lt-ltb}
+use Rattle.std.proofs.Math.Bool.{or-false}
+use mathlib.Core.Bool.{or-true}
 use Rattle.flame_popfile.specs.CommaTexts.{comma_where, behind}
 use Rattle.flame_popfile.specs.TailTexts.{held}
 use Rattle.flame_popfile.specs.ShapeTexts.{shape_text}
-use Rattle.flame_popfile.proofs.TailLists.{or_false, or_true, row_before}
+use Rattle.flame_popfile.proofs.TailLists.{row_before}
 use Rattle.flame_popfile.proofs.shapes.put_rows.Goals as goal
 
 pub loop-left-preserved : goal.loop-left-preserved
@@ -19,7 +21,7 @@ loop-left-preserved c =
     let some : left - 1 < length rows = omega (arith, c.loop-left-test.true, kept.within) in
     let next : left - 1 + 1 ≡ left = omega (arith, c.loop-left-test.true) in
     let begun : more || nat_lt 0 left ≡ true =
-    ap (λ b. more || b) (lt-ltb 0 left c.loop-left-test.true) ∙ or_true more in
+    ap (λ b. more || b) (lt-ltb 0 left c.loop-left-test.true) ∙ or-true more in
     record {
       within = omega (arith, some);
       written =
@@ -42,4 +44,4 @@ returns c =
     let none : c.loop-left.left ≡ 0 = omega (arith, c.loop-left-test.false) in
     c.loop-left.invariant.written
     ∙ ap (λ n. behind (more || nat_lt 0 n) (map text (drop n rows)) ++ after) none
-    ∙ ap (λ b. behind b (map text rows) ++ after) (or_false more)
+    ∙ ap (λ b. behind b (map text rows) ++ after) (or-false more)

@@ -1,13 +1,14 @@
 -- The faults of a part come before those of the parts behind it.
-use Rattle.std.proofs.Common.{◌≡◌, ◌++◌, [], ◌∙◌, List, sym, ap, ap₂, subst, w32, SFits, rules}
+use Rattle.std.proofs.Common.{[], ◌∙◌, sym, ap, ap₂, subst, w32, SFits, rules}
 use Rattle.std.proofs.lemmas.Int.{to_z-of_z}
 use Rattle.serde_json.specs.View.{view}
+use Rattle.flame_rows.proofs.Lists.{append-nils}
 use Rattle.flame_spec.specs.FirstFaults.{FailsFirst}
+use Rattle.flame_spec.proofs.FaultLists.{FailsFirst-append, FailsFirst-behind, Reads-passed}
 use Rattle.flame_popfile.specs.declared.formats.Format.{Format}
 use Rattle.flame_popfile.specs.PopulationFaults.{world_faults}
 use Rattle.flame_popfile.specs.PopulationStarts.{world_of}
 use Rattle.flame_xmml.specs.ValuePlaces.{path_of}
-use Rattle.flame_popfile.proofs.Firsts.{first_stays, first_after, read_on, none_both}
 use Rattle.flame_popfile.proofs.StartParts.{start_from}
 use Rattle.flame_popfile.proofs.states.start_in.Goals as goal
 
@@ -18,12 +19,12 @@ within_limit-requires c =
 
 pub returns-in_err-format : goal.returns-in_err-format
 returns-in_err-format c =
-    read_on _ _ _ c.from_residual.result c.from_residual.ensures.1 (first_stays _ _ _ c.in_err-format.ensures)
+    Reads-passed _ _ _ c.from_residual.result c.from_residual.ensures.1 (FailsFirst-append _ _ _ c.in_err-format.ensures)
 
 pub returns-in_err-itno : goal.returns-in_err-itno
 returns-in_err-itno c =
-    read_on _ _ _ c.from_residual-in_err-itno.result c.from_residual-in_err-itno.ensures.1
-    (first_after _ _ _ c.in_ok-format.ensures.0 (first_stays _ _ _ c.in_err-itno.ensures))
+    Reads-passed _ _ _ c.from_residual-in_err-itno.result c.from_residual-in_err-itno.ensures.1
+    (FailsFirst-behind _ _ _ c.in_ok-format.ensures.0 (FailsFirst-append _ _ _ c.in_err-itno.ensures))
 
 pub returns-in_err-world : goal.returns-in_err-world
 returns-in_err-world c =
@@ -33,9 +34,8 @@ returns-in_err-world c =
     (λ (format : Format). FailsFirst (world_faults format c.args.model.now (path_of c.args.place.now) (view c.args.states.now))
     c.in_err-world.field-0.0)
     same c.in_err-world.ensures in
-    read_on _ _ _ c.from_residual-in_err-world.result c.from_residual-in_err-world.ensures.1
-    (first_after _ _ _ c.in_ok-format.ensures.0
-    (first_after _ _ _ c.in_ok-itno.ensures.0 (first_stays _ _ _ here)))
+    Reads-passed _ _ _ c.from_residual-in_err-world.result c.from_residual-in_err-world.ensures.1
+    (FailsFirst-behind _ _ _ c.in_ok-format.ensures.0 (FailsFirst-behind _ _ _ c.in_ok-itno.ensures.0 (FailsFirst-append _ _ _ here)))
 
 pub returns-in_err-within_limit : goal.returns-in_err-within_limit
 returns-in_err-within_limit c =
@@ -43,9 +43,8 @@ returns-in_err-within_limit c =
     ap (λ (format : Format). world_faults format c.args.model.now (path_of c.args.place.now) (view c.args.states.now))
     (sym c.in_ok-format.ensures.1)
     ∙ c.in_ok-world.ensures.0 in
-    read_on _ _ _ c.from_residual-in_err-within_limit.result c.from_residual-in_err-within_limit.ensures.1
-    (first_after _ _ _ c.in_ok-format.ensures.0
-    (first_after _ _ _ c.in_ok-itno.ensures.0 (first_after _ _ _ none c.in_err-within_limit.ensures)))
+    Reads-passed _ _ _ c.from_residual-in_err-within_limit.result c.from_residual-in_err-within_limit.ensures.1
+    (FailsFirst-behind _ _ _ c.in_ok-format.ensures.0 (FailsFirst-behind _ _ _ c.in_ok-itno.ensures.0 (FailsFirst-behind _ _ _ none c.in_err-within_limit.ensures)))
 
 pub returns : goal.returns
 returns c =
@@ -57,7 +56,7 @@ returns c =
     let world =
     c.in_ok-world.ensures.1
     ∙ ap (λ (format : Format). world_of format c.args.model.now (view c.args.states.now)) c.in_ok-format.ensures.1 in (
-      none_both _ _ c.in_ok-format.ensures.0
-          (none_both _ _ c.in_ok-itno.ensures.0 (none_both _ _ none c.in_ok-within_limit.ensures)),
+      append-nils _ _ c.in_ok-format.ensures.0
+          (append-nils _ _ c.in_ok-itno.ensures.0 (append-nils _ _ none c.in_ok-within_limit.ensures)),
       ap₂ start_from (to_z-of_z w32 c.in_ok-itno.itno fits ∙ c.in_ok-itno.ensures.1) world,
     )

@@ -1,22 +1,22 @@
 -- The faults of the environment come before those of the agents.
-use Rattle.std.proofs.Common.{◌≡◌, ◌++◌, ◌∙◌, ℕ, List, codes, sym, ap, ap₂, subst}
+use Rattle.std.proofs.Common.{◌∙◌, ℕ, List, codes, sym, ap, ap₂, subst}
 use Rattle.serde_json.specs.View.{view}
+use Rattle.flame_rows.proofs.Lists.{append-nils}
 use Rattle.flame_spec.specs.declared.models.AgentType.{AgentType}
 use Rattle.flame_spec.specs.FirstFaults.{FailsFirst}
+use Rattle.flame_spec.proofs.FaultLists.{FailsFirst-append, FailsFirst-behind, Reads-passed}
 use Rattle.flame_xmml.specs.ValueParts.{part}
 use Rattle.flame_popfile.specs.PopulationAgents.{constants_of, agents_of}
 use Rattle.flame_popfile.specs.PopulationFaults.{environment_faults, agents_faults}
 use Rattle.flame_popfile.specs.PopulationParts.{optional, list_faults, members_of}
 use Rattle.flame_xmml.specs.ValuePlaces.{path_of}
-use Rattle.flame_popfile.proofs.Firsts.{first_stays, first_after, read_on, none_both}
 use Rattle.flame_popfile.proofs.StartParts.{world_from}
 use Rattle.flame_popfile.proofs.states.world_at.Goals as goal
 
 pub returns-in_err-constants : goal.returns-in_err-constants
 returns-in_err-constants c =
-    read_on _ _ _ c.from_residual.result c.from_residual.ensures.1
-    (first_stays _ _ _
-    (subst
+    Reads-passed _ _ _ c.from_residual.result c.from_residual.ensures.1
+    (FailsFirst-append _ _ _ (subst
     (λ (names : List (List ℕ)). FailsFirst
     (optional (environment_faults c.args.format names) (codes "environment") (path_of c.args.place.now)
     (view c.args.states.now))
@@ -30,9 +30,8 @@ returns-in_err-agents c =
     (view c.args.states.now))
     (sym c.items-names.ensures)
     ∙ c.in_ok-constants.ensures.0 in
-    read_on _ _ _ c.from_residual-in_err-agents.result c.from_residual-in_err-agents.ensures.1
-    (first_after _ _ _ none
-    (subst
+    Reads-passed _ _ _ c.from_residual-in_err-agents.result c.from_residual-in_err-agents.ensures.1
+    (FailsFirst-behind _ _ _ none (subst
     (λ (types : List AgentType). FailsFirst
     (optional (list_faults (agents_faults c.args.format types)) (codes "agents") (path_of c.args.place.now)
     (view c.args.states.now))
@@ -44,7 +43,7 @@ returns c =
     let states = view c.args.states.now in
     let names = c.items-names.ensures in
     let types = c.in_ok-kinds.ensures ∙ c.items-types.ensures in (
-      none_both _ _
+      append-nils _ _
           (ap (λ (names : List (List ℕ)). optional (environment_faults c.args.format names) (codes "environment") (path_of c.args.place.now)
           states)
           (sym names)

@@ -1,7 +1,8 @@
 use Rattle.std.proofs.Common.{◌≡◌, ◌+◌, false, ap, sym, ◌∙◌, drop, arith, get_or}
+use Rattle.std.proofs.lemmas.List.{drop_more}
 use Rattle.flame_pieces.specs.Waiting.{Waiting, thing_at}
 use Rattle.flame_progress.specs.ManyWait.{waited_for_by}
-use Rattle.flame_progress.proofs.Waiters.{next_first, still_open}
+use Rattle.flame_progress.proofs.Waiters.{still_open}
 use Rattle.flame_progress.proofs.telling.tell_waiters.Goals as goal
 
 pub add-requires-clause-open : goal.add-requires-clause-open
@@ -23,7 +24,7 @@ loop-waiter-preserved c =
     record {
       rest =
           ap (waited_for_by thing (drop (k + 1) waiters)) added
-          ∙ sym (ap (λ l. waited_for_by thing l c.loop-waiter.waits) (next_first waiters k c.loop-waiter-test.true))
+          ∙ sym (ap (λ l. waited_for_by thing l c.loop-waiter.waits) (drop_more waiters k 0 c.loop-waiter-test.true))
           ∙ old.rest;
       count = ap (λ (w : Waiting). w.count) added ∙ old.count;
       undone = λ j.

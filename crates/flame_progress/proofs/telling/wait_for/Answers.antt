@@ -1,7 +1,8 @@
 use Rattle.std.proofs.Common.{◌≡◌, ◌+◌, false, ap, sym, ◌∙◌, drop, arith, get_or}
+use Rattle.std.proofs.lemmas.List.{drop_more}
 use Rattle.flame_pieces.specs.Waiting.{Waiting, thing_at}
 use Rattle.flame_progress.specs.ManyWait.{waiting_for}
-use Rattle.flame_progress.proofs.Waiters.{next_first, still_open}
+use Rattle.flame_progress.proofs.Waiters.{still_open}
 use Rattle.flame_progress.proofs.telling.wait_for.Goals as goal
 
 pub add-requires-clause-open : goal.add-requires-clause-open
@@ -24,7 +25,7 @@ loop-thing-preserved c =
     record {
       rest =
           ap (waiting_for c.args.waiter (drop (k + 1) things)) added
-          ∙ sym (ap (λ l. waiting_for c.args.waiter l c.loop-thing.waits) (next_first things k c.loop-thing-test.true))
+          ∙ sym (ap (λ l. waiting_for c.args.waiter l c.loop-thing.waits) (drop_more things k 0 c.loop-thing-test.true))
           ∙ old.rest;
       count = ap (λ (w : Waiting). w.count) added ∙ old.count;
       undone = λ j.

@@ -7,6 +7,7 @@ use Rattle.std.specs.Iterator.Adapters.{zip_first, zip_second}
 use Rattle.std.specs.Slice.Iter.{iter_rest}
 use Rattle.std.proofs.lemmas.List.{length-map, map-append}
 use Rattle.std.proofs.lemmas.Option.{slice_get_read}
+use Rattle.std.proofs.lemmas.Slice.Zip.{AllZip-long}
 use Rattle.flame_rows.specs.Bags.{ascending}
 use Rattle.flame_spec.specs.declared.models.AgentType.{AgentType}
 use Rattle.flame_spec.specs.Choice.{functions_out}
@@ -17,7 +18,6 @@ use Rattle.flame_world.specs.Fields.{begun, changed}
 use Rattle.flame_field.specs.KeptPools.{pool_bags, pools_of}
 use Rattle.flame_round.proofs.Beginnings.{next-type, nones, some-left, stands-alone}
 use Rattle.flame_field.specs.declared.pools.Pool.{Pool}
-use Rattle.flame_route.proofs.Places.{zip-length}
 use Rattle.flame_round.proofs.Dealt.{each-pushed, all-dealt, all-none, AllDealt, AnyDealt}
 use Rattle.flame_round.proofs.opening.pools_begun.Goals as goal
 
@@ -47,7 +47,7 @@ loop-bag-init c =
           ∙ ap (λ ps. map start_place (drop (length ps) types)) (sym empty);
       many =
           ap length bags
-          ∙ sym (zip-length _ types c.args.agents c.requires)
+          ∙ sym ((sym (AllZip-long _ types c.args.agents c.requires)))
           ∙ ap (λ ps. length (drop (length ps) types)) (sym empty);
       begins =
           (λ i. map (λ ((t, b) : AgentType × List (List ℤ)). begun t b) (zip types (sym bags i)))

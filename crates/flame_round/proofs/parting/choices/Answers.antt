@@ -2,10 +2,10 @@ use Rattle.std.proofs.Common.{◌≡◌, ◌<◌, length, sym, subst, w32, rules
 use Rattle.std.specs.List.{All}
 use Rattle.std.proofs.lemmas.Int.{to_z-of_z}
 use Rattle.std.proofs.lemmas.Result.{IfOk-weaker}
+use Rattle.std.proofs.lemmas.Slice.Zip.{AllZip-long}
 use Rattle.flame_spec.specs.Choice.{functions_out, leaves}
 use Rattle.flame_spec.specs.Functions.{functions}
 use Rattle.flame_round.proofs.Gets.{numbers-in}
-use Rattle.flame_route.proofs.Places.{zip-length}
 use Rattle.flame_round.proofs.Chosen.{choices-left}
 use Rattle.flame_round.proofs.parting.choices.Goals as goal
 
@@ -15,7 +15,7 @@ choose_rows-requires-clause-known c =
     let place = c.requires.place in
     let out = c.out_of-functions.ensures place c.requires.there in
     let conditions = c.conditions-conditions.result.now in
-    let count : length (functions model) ≡ length conditions = zip-length _ (functions model) conditions c.conditions-conditions.ensures in
+    let count : length (functions model) ≡ length conditions = (sym (AllZip-long _ (functions model) conditions c.conditions-conditions.ensures)) in
     let all : All (λ number. number < length conditions) (functions_out model place.agent place.function.current) =
     subst (λ n. All (λ number. number < n) (functions_out model place.agent place.function.current)) count
     (numbers-in (leaves place.agent place.function.current) (functions model)) in

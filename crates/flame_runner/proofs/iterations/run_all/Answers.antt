@@ -1,5 +1,6 @@
 use Rattle.std.proofs.Common.{◌≡◌, ◌∙◌, ◌<◌, ◌+◌, ap, drop, length, sym, subst, Ok}
 use Rattle.std.specs.Prelude.{slice_index_or}
+use Rattle.std.proofs.lemmas.List.{drop_more}
 use Rattle.flame_spec.specs.Before.{before, function_count}
 use Rattle.flame_spec.specs.ModelOrder.{model_order}
 use Rattle.flame_world.specs.Iterations.{and_on, step, steps}
@@ -8,7 +9,6 @@ use Rattle.flame_field.specs.KeptFields.{field_of}
 use Rattle.flame_round.specs.Choices.{choice_at}
 use Rattle.flame_round.specs.KeptRounds.{round_of}
 use Rattle.flame_runner.specs.KeptSteps.{result_of, IsOnDealt}
-use Rattle.flame_round.proofs.Gets.{drop-next}
 use Rattle.flame_runner.proofs.iterations.run_all.Goals as goal
 
 pub step-requires-clause-there : goal.step-requires-clause-there
@@ -34,6 +34,6 @@ loop-function-preserved c =
       dealt = subst (IsOnDealt (choice_at round.source.model round.iteration)) c.in-On.is c.in_ok-next.ensures.dealt;
       rest =
           sym (ap (λ r. and_on r (steps round (drop (place + 1) items))) stepped)
-          ∙ ap (λ list. steps round list field) (sym (drop-next items place 0 c.loop-function-test.true))
+          ∙ ap (λ list. steps round list field) (sym (drop_more items place 0 c.loop-function-test.true))
           ∙ old.rest;
     }

@@ -3,6 +3,7 @@ use Rattle.std.specs.Prelude.{ℤ, slice_index_or}
 use Rattle.std.specs.List.{All}
 use Rattle.std.proofs.lemmas.List.{length-map}
 use Rattle.std.proofs.lemmas.Result.{IfOk-weaker}
+use Rattle.std.proofs.lemmas.Slice.Zip.{AllZip-long}
 use Rattle.flame_rows.specs.Order.{row_order}
 use Rattle.flame_spec.specs.Columns.{width}
 use Rattle.flame_spec.specs.declared.outcomes.Outcome.{Outcome}
@@ -24,7 +25,6 @@ use Rattle.flame_round.specs.Choices.{choice_at}
 use Rattle.flame_round.specs.KeptRounds.{round_of}
 use Rattle.flame_round.proofs.LeftRows.{sent-within}
 use Rattle.flame_round.proofs.NamedNumbers.{numbers-within}
-use Rattle.flame_route.proofs.Places.{zip-length}
 use Rattle.flame_round.proofs.Stepped.{frozen-named, frozen-wide, has-route, takers-wide}
 use Rattle.flame_runner.proofs.Settlings.{came, settled, stepped}
 use Rattle.flame_runner.proofs.steps.step.Goals as goal
@@ -40,7 +40,7 @@ share-requires c =
     let goes = c.route_of-route.ensures in
     let all = numbers-within model goes.place.function.inputs c.route_of-route.result.now.inputs goes.routed.inputs in
     let count : length model.messages ≡ length c.args.field.boards.items =
-    zip-length _ model.messages (map board_bag c.args.field.boards.items) c.requires.fits.boards
+    (sym (AllZip-long _ model.messages (map board_bag c.args.field.boards.items) c.requires.fits.boards))
     ∙ length-map c.args.field.boards.items board_bag in
     subst (λ n. All (λ number. number < n) c.items.result.now) count
     (subst (λ list. All (λ number. number < length model.messages) list) (sym c.items.ensures) all)
@@ -94,7 +94,7 @@ settle-requires-clause-messages c =
     subst (λ (agents : List (List ℤ)). AreLeft round.iteration c.args.function run agents c.in_ok-leaving.leaving)
     c.as_slice.ensures.value (c.in_ok-leaving.ensures all named) in
     let count : length source.model.messages ≡ length c.share.new.boards.items =
-    zip-length _ source.model.messages all c.requires.fits.boards
+    (sym (AllZip-long _ source.model.messages all c.requires.fits.boards))
     ∙ ap length (sym c.in_ok-boards.ensures.bags)
     ∙ length-map c.share.new.boards.items board_bag in
     subst (λ (sent : List Sent). All (λ (s : Sent). s.message < length c.share.new.boards.items) sent) (sym left.sent)

@@ -1,5 +1,6 @@
 use Rattle.std.proofs.Common.{ap, arith, length}
-use Rattle.flame_share.proofs.Loops.{pair-next, pair-over, pairs-end}
+use Rattle.flame_rows.proofs.Parting.{over}
+use Rattle.flame_share.proofs.Loops.{pair-next, pair-over}
 use Rattle.flame_share.proofs.parts.parts_by.Goals as goal
 
 pub loop-rows-preserved : goal.loop-rows-preserved
@@ -14,4 +15,4 @@ loop-rows-preserved c =
 pub returns : goal.returns
 returns c =
     pair-over _ _ _ _ _ c.loop-rows.invariant.parts
-    (pairs-end _ _ _ c.loop-rows.invariant.counted c.in-None.ensures.steps)
+    (over _ _ _ c.loop-rows.invariant.counted c.in-None.ensures.steps)

@@ -5,7 +5,8 @@ use Rattle.std.proofs.lemmas.Fmt.{decimal_digit}
 use Rattle.flame_spec.specs.declared.faults.NameFault.{NameFault}
 use Rattle.flame_spec.specs.declared.faults.NameKind.TheVariants.{Clash, UnknownUnit, LongUnit}
 use Rattle.flame_spec.specs.Refusals.{name_fault}
-use Rattle.flame_spec_laws.proofs.NameKnowledge.{leaf-And, leaf-Compare, leaf-Time}
+use Rattle.flame_spec.proofs.ConditionForms.{leaf_faults-And}
+use Rattle.flame_spec_laws.proofs.NameKnowledge.{leaf-Compare, leaf-Time}
 use Rattle.flame_spec_laws.proofs.used_laws.used_names_cases.Goals as goal
 
 abbrev clash_at : List ℕ → List NameFault
@@ -42,7 +43,7 @@ six_is : decimal 6 ≡ 54 ∷ []
 six_is = decimal_digit 6 (omega arith)
 
 pub returns-clause-arrays : goal.returns-clause-arrays
-returns-clause-arrays c = simp (leaf-And, leaf-Compare, leaf-Time, zero_is) refl
+returns-clause-arrays c = simp (leaf_faults-And, leaf-Compare, leaf-Time, zero_is) refl
 
 pub returns-clause-wide : goal.returns-clause-wide
 returns-clause-wide c = simp (zero_is, one_is, four_is, six_is) refl

@@ -1,6 +1,6 @@
 -- The cases compute, but for what conditions say.
 use Rattle.std.proofs.Common.{refl}
-use Rattle.flame_spec_laws.proofs.Truths.{truth-Compare, truth-Time}
+use Rattle.flame_spec.proofs.ConditionForms.{truth-Compare, truth-Time}
 use Rattle.flame_spec_laws.proofs.view_laws.view_cases.Goals as goal
 
 pub returns-clause-filtered : goal.returns-clause-filtered

@@ -3,7 +3,7 @@ use Rattle.std.proofs.Common.{[], sym, ap, ◌∙◌}
 use Rattle.std.specs.Prelude.{replicate}
 use Rattle.std.proofs.lemmas.List.{length-map}
 use Rattle.json.proofs.Grammar.{closed_array}
-use Rattle.flame_tokens.specs.AgentTrees.{rows_of}
+use Rattle.flame_rows.specs.RowVectors.{rows_of}
 use Rattle.flame_tokens.proofs.DealtRows.{none_begun, more_begun, all_read}
 use Rattle.flame_tokens.proofs.agents.agents.Goals as goal
 

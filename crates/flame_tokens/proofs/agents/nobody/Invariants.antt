@@ -1,6 +1,6 @@
 use Rattle.std.proofs.Common.{◌≡◌, []}
 use Rattle.std.specs.Prelude.{replicate}
-use Rattle.flame_tokens.specs.AgentTrees.{rows_of}
+use Rattle.flame_rows.specs.RowVectors.{rows_of}
 use Rattle.flame_tokens.proofs.agents.nobody.Given as goal
 
 abbrev pub invariant-loop-turn : goal.invariant-loop-turn

@@ -1,5 +1,5 @@
 -- The list ends behind the last type.
-use Rattle.flame_tokens.specs.AgentTrees.{rows_of}
+use Rattle.flame_rows.specs.RowVectors.{rows_of}
 use Rattle.flame_tokens.proofs.BagLists.{bags_read}
 use Rattle.flame_tokens.proofs.bags.bags.Goals as goal
 

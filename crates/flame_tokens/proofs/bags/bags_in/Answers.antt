@@ -4,7 +4,7 @@ use Rattle.std.specs.Prelude.{ℤ}
 use Rattle.std.specs.List.{AllZip}
 use Rattle.json.specs.Token.{Token}
 use Rattle.flame_tokens.specs.NumberTrees.{begun}
-use Rattle.flame_tokens.specs.AgentTrees.{rows_of}
+use Rattle.flame_rows.specs.RowVectors.{rows_of}
 use Rattle.flame_tokens.specs.BagTrees.{bag_trees, AreWide}
 use Rattle.flame_tokens.proofs.BagLists.{bags_more, wide_more}
 use Rattle.flame_tokens.proofs.bags.bags_in.Goals as goal

@@ -2,7 +2,7 @@
 use Rattle.std.proofs.Common.{◌≡◌, ◌++◌, take}
 use Rattle.std.specs.List.{AllZip}
 use Rattle.flame_tokens.specs.NumberTrees.{begun}
-use Rattle.flame_tokens.specs.AgentTrees.{rows_of}
+use Rattle.flame_rows.specs.RowVectors.{rows_of}
 use Rattle.flame_tokens.specs.BagTrees.{bag_trees, AreWide}
 use Rattle.flame_tokens.proofs.bags.bags_in.Given as goal
 

@@ -4,7 +4,7 @@ use Rattle.std.specs.Prelude.{ℤ, Vec}
 use Rattle.std.specs.Global.{Global}
 use Rattle.std.specs.Vec.Iter.{into_iter_items, into_iter_len}
 use Rattle.flame_rows.specs.Bags.{ascending}
-use Rattle.flame_tokens.specs.AgentTrees.{bags_of}
+use Rattle.flame_rows.specs.RowVectors.{bags_of}
 use Rattle.flame_tokens.proofs.parts.bags_of.Given as goal
 
 abbrev pub invariant-loop-rows : goal.invariant-loop-rows

@@ -4,9 +4,9 @@ use Rattle.std.specs.Prelude.{option_map}
 use Rattle.std.proofs.lemmas.Int.{to_z-of_z}
 use Rattle.std.proofs.lemmas.Str.{is_utf8-from_IsUtf8}
 use Rattle.json.specs.Lex.{tokens}
-use Rattle.flame_tokens.specs.AgentTrees.{rows_of}
+use Rattle.flame_rows.specs.RowVectors.{rows_of}
+use Rattle.flame_rows.proofs.BagLaws.{bags_of-rows}
 use Rattle.flame_tokens.specs.PopulationTrees.{IsWhole, values_or}
-use Rattle.flame_tokens.proofs.DealtRows.{bags_of-rows}
 use Rattle.flame_tokens.proofs.populations.read.Goals as goal
 
 pub returns : goal.returns

@@ -1,7 +1,7 @@
 -- The table has the types of the model.
 use Rattle.std.proofs.Common.{List, false, subst}
 use Rattle.flame_spec.specs.declared.models.AgentType.{AgentType}
-use Rattle.flame_tokens.specs.AgentTrees.{rows_of}
+use Rattle.flame_rows.specs.RowVectors.{rows_of}
 use Rattle.flame_tokens.specs.PopulationTrees.{HasAgents}
 use Rattle.flame_tokens.proofs.DealtRows.{listed_read}
 use Rattle.flame_tokens.proofs.states.listed.Goals as goal

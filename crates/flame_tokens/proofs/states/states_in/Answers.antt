@@ -4,7 +4,7 @@ use Rattle.std.specs.Prelude.{option_map}
 use Rattle.json.specs.Token.{Token, begin_object, key}
 use Rattle.json.specs.Tree.{json_tokens}
 use Rattle.flame_tokens.specs.MemberTrees.{keyed}
-use Rattle.flame_tokens.specs.AgentTrees.{rows_of}
+use Rattle.flame_rows.specs.RowVectors.{rows_of}
 use Rattle.flame_tokens.specs.PopulationTrees.{version_trees, is_two, itno_trees, environment_trees, boards_trees, HasAgents}
 use Rattle.flame_tokens.proofs.MoreConstants.{states_closed}
 use Rattle.flame_tokens.proofs.states.states_in.Goals as goal

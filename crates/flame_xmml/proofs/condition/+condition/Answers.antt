@@ -7,9 +7,9 @@ use Rattle.flame_spec.specs.Paths.{at_key}
 use Rattle.flame_xmml.specs.ValuePlaces.{path_of}
 use Rattle.flame_xmml.specs.ConditionShapes.{condition_faults, condition_of, time_faults, time_of}
 use Rattle.flame_xmml.specs.ValueData.{data_of}
-use Rattle.flame_xmml.proofs.Firsts.{first_stays, reads_along, refused}
 use Rattle.flame_xmml.specs.ValueParts.{is_object, required}
-use Rattle.flame_xmml.specs.ReadValues.{IsFirst}
+use Rattle.flame_spec.specs.FirstFaults.{FailsFirst}
+use Rattle.flame_spec.proofs.FaultLists.{Reads-same, Reads-passed, FailsFirst-append}
 use Rattle.flame_xmml.proofs.Paths.{path_of-Key, inside}
 use Rattle.flame_xmml.proofs.Layers.{found-whole, part-depth, negated, timed, operated}
 use Rattle.flame_xmml.proofs.condition.+condition.Goals as goal
@@ -23,8 +23,8 @@ condition-inner_at-requires t c =
 pub condition-returns-in_err-inner : goal.condition-returns-in_err-inner
 condition-returns-in_err-inner t c =
     let here = negated c.args.in_filter (path_of c.args.place.now) _ _ c.in-Some.ensures (cc) in
-    refused _ _ _ c.from_residual.result c.from_residual.ensures.1
-    (subst (λ faults. IsFirst faults c.in_err-inner.field-0.0) (sym here.0) c.in_err-inner.ensures)
+    Reads-passed _ _ _ c.from_residual.result c.from_residual.ensures.1
+    (subst (λ faults. FailsFirst faults c.in_err-inner.field-0.0) (sym here.0) c.in_err-inner.ensures)
 
 pub condition-returns-in_ok-inner : goal.condition-returns-in_ok-inner
 condition-returns-in_ok-inner t c =
@@ -35,7 +35,7 @@ pub condition-returns-then-has-2 : goal.condition-returns-then-has-2
 condition-returns-then-has-2 t c =
     let here = timed c.args.in_filter (path_of c.args.place.now) _ _ c.in-Some.ensures (cc) (cc) in
     let there = sym c.part.ensures.value in
-    reads_along c.time.result
+    Reads-same c.time.result
     (here.0 ∙ ap (λ value. time_faults c.args.in_filter (at_key (path_of c.args.place.now) (codes "time")) value) there)
     (here.1 ∙ ap time_of there)
     (rw path_of-Key at c.time.ensures)
@@ -43,14 +43,12 @@ condition-returns-then-has-2 t c =
 pub condition-returns-else-has-2 : goal.condition-returns-else-has-2
 condition-returns-else-has-2 t c =
     let here = operated c.args.in_filter (path_of c.args.place.now) _ _ c.in-Some.ensures (cc) (cc) in
-    reads_along c.operation.result here.0 here.1 c.operation.ensures
+    Reads-same c.operation.result here.0 here.1 c.operation.ensures
 
 pub sides-returns-in_err-left : goal.sides-returns-in_err-left
 sides-returns-in_err-left t c =
-    refused _ _ _ c.from_residual.result c.from_residual.ensures.1
-    (first_stays _
-    (required (condition_faults c.args.in_filter) (codes "rhs") (path_of c.args.place.now) (view c.args.value.now))
-    _ c.in_err-left.ensures)
+    Reads-passed _ _ _ c.from_residual.result c.from_residual.ensures.1
+    (FailsFirst-append _ _ (required (condition_faults c.args.in_filter) (codes "rhs") (path_of c.args.place.now) (view c.args.value.now)) c.in_err-left.ensures)
 
 pub inner_at-condition-requires : goal.inner_at-condition-requires
 inner_at-condition-requires t c =
@@ -61,8 +59,8 @@ inner_at-condition-requires t c =
 pub inner_at-returns-in_err-inner : goal.inner_at-returns-in_err-inner
 inner_at-returns-in_err-inner t c =
     let moved = inside c.args.in_filter c.args.place c.args.key _ (view c.args.value.now) c.part.ensures.value in
-    refused _ _ _ c.from_residual.result c.from_residual.ensures.1
-    (subst (λ faults. IsFirst faults c.in_err-inner.field-0.0) moved c.in_err-inner.ensures)
+    Reads-passed _ _ _ c.from_residual.result c.from_residual.ensures.1
+    (subst (λ faults. FailsFirst faults c.in_err-inner.field-0.0) moved c.in_err-inner.ensures)
 
 pub inner_at-returns : goal.inner_at-returns
 inner_at-returns t c =

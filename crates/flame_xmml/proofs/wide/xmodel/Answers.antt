@@ -1,33 +1,35 @@
 -- The faults of a key come before those of the keys after it.
 use Rattle.std.proofs.Common.{ap, ◌∙◌}
 use Rattle.serde_json.specs.View.{view}
+use Rattle.flame_rows.proofs.Lists.{append-nils}
+use Rattle.flame_spec.proofs.FaultLists.{Reads-passed, FailsFirst-append, FailsFirst-behind}
 use Rattle.flame_xmml.specs.ShapeFaults.{xmodel_keys, wide}
 use Rattle.flame_xmml.specs.WideValues.{enabled_files}
 use Rattle.flame_xmml.specs.ValuePlaces.{path_of}
-use Rattle.flame_xmml.proofs.Firsts.{first_stays, first_after, first_in_object, object_faults-is, none_both, refused}
+use Rattle.flame_xmml.proofs.Firsts.{first_in_object, object_faults-is}
 use Rattle.flame_xmml.proofs.wide.xmodel.Goals as goal
 
 pub returns-in_err-messages : goal.returns-in_err-messages
 returns-in_err-messages c =
-    let here = first_after _ _ _ c.in_ok-environment.ensures.0 c.in_err-messages.ensures in
-    refused _ _ _ c.from_residual-in_err-messages.result c.from_residual-in_err-messages.ensures.1
+    let here = FailsFirst-behind _ _ _ c.in_ok-environment.ensures.0 c.in_err-messages.ensures in
+    Reads-passed _ _ _ c.from_residual-in_err-messages.result c.from_residual-in_err-messages.ensures.1
     (first_in_object (xmodel_keys wide) (path_of c.args.place.now) (view c.args.value.now) _ c.in_ok-object.ensures.object
-    (first_stays _ _ _ (first_stays _ _ _ here)))
+    (FailsFirst-append _ _ _ (FailsFirst-append _ _ _ here)))
 
 pub returns-in_err-agents : goal.returns-in_err-agents
 returns-in_err-agents c =
-    let before = none_both _ _ c.in_ok-environment.ensures.0 c.in_ok-messages.ensures.0 in
-    let here = first_after _ _ _ before c.in_err-agents.ensures in
-    refused _ _ _ c.from_residual-in_err-agents.result c.from_residual-in_err-agents.ensures.1
+    let before = append-nils _ _ c.in_ok-environment.ensures.0 c.in_ok-messages.ensures.0 in
+    let here = FailsFirst-behind _ _ _ before c.in_err-agents.ensures in
+    Reads-passed _ _ _ c.from_residual-in_err-agents.result c.from_residual-in_err-agents.ensures.1
     (first_in_object (xmodel_keys wide) (path_of c.args.place.now) (view c.args.value.now) _ c.in_ok-object.ensures.object
-    (first_stays _ _ _ here))
+    (FailsFirst-append _ _ _ here))
 
 pub returns-in_err-named : goal.returns-in_err-named
 returns-in_err-named c =
-    let lists = none_both _ _ c.in_ok-environment.ensures.0 c.in_ok-messages.ensures.0 in
-    let before = none_both _ _ lists c.in_ok-agents.ensures.0 in
-    let here = first_after _ _ _ before c.in_err-named.ensures in
-    refused _ _ _ c.from_residual-in_err-named.result c.from_residual-in_err-named.ensures.1
+    let lists = append-nils _ _ c.in_ok-environment.ensures.0 c.in_ok-messages.ensures.0 in
+    let before = append-nils _ _ lists c.in_ok-agents.ensures.0 in
+    let here = FailsFirst-behind _ _ _ before c.in_err-named.ensures in
+    Reads-passed _ _ _ c.from_residual-in_err-named.result c.from_residual-in_err-named.ensures.1
     (first_in_object (xmodel_keys wide) (path_of c.args.place.now) (view c.args.value.now) _ c.in_ok-object.ensures.object
     here)
 
@@ -35,8 +37,8 @@ pub returns : goal.returns
 returns c =
     let value = view c.args.value.now in
     let read = c.in_ok-environment.ensures in
-    let lists = none_both _ _ read.0 c.in_ok-messages.ensures.0 in
-    let none = none_both _ _ (none_both _ _ lists c.in_ok-agents.ensures.0) c.in_ok-named.ensures.0 in
+    let lists = append-nils _ _ read.0 c.in_ok-messages.ensures.0 in
+    let none = append-nils _ _ (append-nils _ _ lists c.in_ok-agents.ensures.0) c.in_ok-named.ensures.0 in
     let environment = ap (λ both. both.0) read.1 in
     let types = ap (λ both. both.1) read.1 in
     let nested = c.in_ok-nested.ensures ∙ ap enabled_files (c.items.ensures ∙ c.in_ok-named.ensures.1) in (

@@ -1,10 +1,10 @@
 use Rattle.std.proofs.Common.{◌≡◌, ◌∙◌, [], rules, length, sym, ap, arith}
 use Rattle.std.specs.Vec.Iter.{into_iter_items}
+use Rattle.std.proofs.lemmas.List.{nil_from_length}
 use Rattle.flame_rows.specs.Bags.{merge}
 use Rattle.flame_rows.proofs.BagLaws.{IsAscending-ascending, IsAscending-merge, equal_by_weighings, merge_adds_weights, weigh-ascending}
 use Rattle.flame_field.specs.KeptGatherings.{bag_of}
 use Rattle.flame_field.specs.KeptPools.{pool_bag}
-use Rattle.flame_field.proofs.Gathered.{none_left}
 use Rattle.flame_field.proofs.Dealing.{weighs, weigh-pool, weigh-added}
 use Rattle.flame_field.proofs.pools.Pool.join.Goals as goal
 
@@ -38,7 +38,7 @@ returns c =
     let old = c.args.all.now in
     let pool = c.args.self in
     let left = into_iter_items c.loop-chosen.chosen-iterator in
-    let none : left ≡ [] = none_left left (sym kept.counted ∙ c.in-None.ensures.steps.0) in
+    let none : left ≡ [] = nil_from_length left (sym kept.counted ∙ c.in-None.ensures.steps.0) in
     equal_by_weighings (bag_of all) (merge (bag_of old) (pool_bag pool)) (IsAscending-ascending all.rows.items)
     (IsAscending-merge (bag_of old) (pool_bag pool))
     (λ w.

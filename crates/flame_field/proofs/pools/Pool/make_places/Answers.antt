@@ -1,9 +1,10 @@
 use Rattle.std.proofs.Common.{◌∙◌, List, [], ◌∷◌, ◌++◌, map, length, sym, ap, subst, arith}
+use Rattle.std.proofs.lemmas.List.{length_push}
 use Rattle.flame_field.specs.declared.gatherings.Gathering.{Gathering}
 use Rattle.flame_field.specs.declared.pools.Pool.{Pool}
 use Rattle.flame_field.specs.KeptGatherings.{bag_of}
 use Rattle.flame_field.specs.KeptPools.{AreApart}
-use Rattle.flame_field.proofs.Dealing.{weighs, same_pool, weigh-none, weighs-push, apart-of, apart-to, apart-push, length-push}
+use Rattle.flame_field.proofs.Dealing.{weighs, same_pool, weigh-none, weighs-push, apart-of, apart-to, apart-push}
 use Rattle.flame_field.proofs.pools.Pool.make_places.Goals as goal
 
 pub returns-in_err-push-clause-dealt : goal.returns-in_err-push-clause-dealt
@@ -22,7 +23,7 @@ loop-place-preserved c =
           (λ w. omega (arith, ap (weighs w) items, weighs-push w chosen one, weigh-none w one c.empty.ensures))
           ∙ kept.bag;
       fresh = kept.fresh;
-      count = omega (arith, kept.count, ap length items, length-push chosen one);
+      count = omega (arith, kept.count, ap length items, length_push chosen one);
       dealt = λ choose dealt.
           subst (λ (l : List Gathering). AreApart choose (map bag_of l)) (sym items)
           (apart-to choose (chosen ++ one ∷ []) (apart-push choose chosen one (apart-of choose chosen (kept.dealt choose dealt)) c.empty.ensures));

@@ -1,8 +1,8 @@
-use Rattle.std.proofs.Common.{◌≡◌, ℕ, Some, List, false, ap, sym, subst, ◌∙◌}
+use Rattle.std.proofs.Common.{◌≡◌, ℕ, Some, List, false, ap, sym, subst, ◌∙◌, length, refl}
 use Rattle.std.specs.Prelude.{slice_get}
-use Rattle.std.proofs.lemmas.Option.{same_Some}
+use Rattle.std.proofs.lemmas.Option.{same_Some, slice_get_read}
 use Rattle.flame_spec.specs.Below.{is_in}
-use Rattle.flame_lanes.proofs.Listed.{got-there, none-beyond, none-listed}
+use Rattle.flame_lanes.proofs.Listed.{none-beyond, none-listed}
 use Rattle.flame_lanes.proofs.messages.Messages.find.Goals as goal
 
 pub returns-in_err-place-clause-none : goal.returns-in_err-place-clause-none
@@ -19,7 +19,7 @@ returns-in_err-get-clause-none c = λ none.
     let place : ℕ = c.in_ok-place.field-0.now in
     let own : slice_get c.self.inside.places.items c.args.message ≡ Some place =
     ap (λ (l : List ℕ). slice_get l c.args.message) (sym c.deref.ensures.value)
-    ∙ got-there c.deref.result.now c.args.message place found.3.0 found.1 in
+    ∙ slice_get_read c.deref.result.now (length c.deref.result.now) c.args.message place refl found.3.0 found.1 in
     subst (λ (l : List ℕ). is_in c.args.message l ≡ false) c.self.view_is
     (none-listed listed c.self.inside.places.items c.args.message c.self.invariant
     (λ other at there.
@@ -32,7 +32,7 @@ returns-then-branch-message-clause-some c =
     let found = c.in_ok-get.ensures.lookup in
     let place : ℕ = c.in_ok-place.field-0.now in
     ap (λ (l : List ℕ). slice_get l place) (sym c.self.view_is ∙ sym c.deref-2.ensures.value)
-    ∙ got-there c.deref-2.result.now place c.in_ok-get.field-0.now found.3.0 found.1
+    ∙ slice_get_read c.deref-2.result.now (length c.deref-2.result.now) place c.in_ok-get.field-0.now refl found.3.0 found.1
     ∙ ap Some c.if-branch-message.true
 
 pub returns-else-branch-message-clause-none : goal.returns-else-branch-message-clause-none
@@ -43,10 +43,10 @@ returns-else-branch-message-clause-none c = λ none.
     let place : ℕ = c.in_ok-place.field-0.now in
     let own : slice_get c.self.inside.places.items c.args.message ≡ Some place =
     ap (λ (l : List ℕ). slice_get l c.args.message) (sym c.deref.ensures.value)
-    ∙ got-there c.deref.result.now c.args.message place found.3.0 found.1 in
+    ∙ slice_get_read c.deref.result.now (length c.deref.result.now) c.args.message place refl found.3.0 found.1 in
     let here : slice_get listed place ≡ Some c.in_ok-get.field-0.now =
     ap (λ (l : List ℕ). slice_get l place) (sym c.deref-2.ensures.value)
-    ∙ got-there c.deref-2.result.now place c.in_ok-get.field-0.now after.3.0 after.1 in
+    ∙ slice_get_read c.deref-2.result.now (length c.deref-2.result.now) place c.in_ok-get.field-0.now refl after.3.0 after.1 in
     subst (λ (l : List ℕ). is_in c.args.message l ≡ false) c.self.view_is
     (none-listed listed c.self.inside.places.items c.args.message c.self.invariant
     (λ other at there.
@@ -61,7 +61,7 @@ returns-then-branch-message-clause-only c = λ other at.
     let place : ℕ = c.in_ok-place.field-0.now in
     let own : slice_get c.self.inside.places.items c.args.message ≡ Some place =
     ap (λ (l : List ℕ). slice_get l c.args.message) (sym c.deref.ensures.value)
-    ∙ got-there c.deref.result.now c.args.message place found.3.0 found.1 in
+    ∙ slice_get_read c.deref.result.now (length c.deref.result.now) c.args.message place refl found.3.0 found.1 in
     let there : slice_get c.self.inside.listed.items other ≡ Some c.args.message =
     ap (λ (l : List ℕ). slice_get l other) c.self.view_is ∙ at in
     same_Some other place (sym (c.self.invariant other c.args.message there) ∙ own)

@@ -3,12 +3,13 @@ use Rattle.std.proofs.Common.{◌≡◌, ◌+◌, ◌<◌, length, map, sym, ap,
 use Rattle.std.proofs.lemmas.List.{length-map, map-set}
 use Rattle.std.specs.Option.{option_or}
 use Rattle.std.specs.Prelude.{slice_get, slice_set}
+use Rattle.std.proofs.lemmas.Option.{same_Some}
+use Rattle.flame_rows.proofs.Lists.{slice_get-map_at}
 use Rattle.flame_events.specs.CoreStates.{Work as Meant, Open, works_of}
 use Rattle.flame_pieces.specs.declared.statuses.Status.{Status}
 use Rattle.flame_pieces.specs.KeptWorks.{work_of, with_lists}
 use Rattle.flame_pieces.specs.KeptStatuses.{status_of}
 use Rattle.flame_pieces.proofs.Rooms.{items_of}
-use Rattle.flame_pieces.proofs.Pieces.{got_there, same_some}
 use Rattle.flame_pieces.proofs.statuses.Status.add.Goals as goal
 
 pub add-requires-clause-left : goal.add-requires-clause-left
@@ -20,7 +21,7 @@ add-requires-clause-left c =
     let within : piece < length works = omega (arith, there, length-map works work_of) in
     c.requires.left (work_of c.index_mut.result.now)
     (ap (λ (s : Status). slice_get (works_of (status_of s)) piece) c.in-Open.is
-    ∙ got_there work_of works piece c.index_mut.result.now within c.index_mut.ensures.value)
+    ∙ slice_get-map_at work_of works piece c.index_mut.result.now within c.index_mut.ensures.value)
 
 pub returns-clause-status : goal.returns-clause-status
 returns-clause-status c = λ work at.
@@ -30,8 +31,8 @@ returns-clause-status c = λ work at.
     subst (λ (s : Status). piece < length (works_of (status_of s))) c.in-Open.is c.requires.there in
     let within : piece < length works = omega (arith, there, length-map works work_of) in
     let same : work_of c.index_mut.result.now ≡ work =
-    same_some (work_of c.index_mut.result.now) work
-    (sym (got_there work_of works piece c.index_mut.result.now within c.index_mut.ensures.value)
+    same_Some (work_of c.index_mut.result.now) work
+    (sym (slice_get-map_at work_of works piece c.index_mut.result.now within c.index_mut.ensures.value)
     ∙ ap (λ (s : Status). slice_get (works_of (status_of s)) piece) (sym c.in-Open.is)
     ∙ at) in
     let more : Meant → Meant = λ w. record {

@@ -1,12 +1,13 @@
 -- Room is made in one piece, and the others stay.
 use Rattle.std.proofs.Common.{◌<◌, length, map, sym, ap, ◌∙◌, subst, arith}
 use Rattle.std.proofs.lemmas.List.{length-map}
+use Rattle.std.proofs.lemmas.Result.{on_ok_weaker}
 use Rattle.flame_events.specs.CoreStates.{Open, works_of}
 use Rattle.flame_pieces.specs.declared.statuses.Status.{Status}
 use Rattle.flame_pieces.specs.KeptWorks.{work_of, WorkHasRoom}
 use Rattle.flame_pieces.specs.KeptStatuses.{status_of}
 use Rattle.flame_pieces.proofs.Rooms.{map_kept}
-use Rattle.flame_pieces.proofs.Pieces.{got_back, on_ok}
+use Rattle.flame_pieces.proofs.Pieces.{got_back}
 use Rattle.flame_pieces.proofs.statuses.Status.make_room.Goals as goal
 
 pub returns-clause-same : goal.returns-clause-same
@@ -22,6 +23,6 @@ returns-clause-same c =
 
 pub returns-clause-room : goal.returns-clause-room
 returns-clause-room c =
-    on_ok c.make_room.result
+    on_ok_weaker c.make_room.result
     (λ room work at. subst (WorkHasRoom c.args.parts.now) (got_back c.in-Open.works.items c.args.piece c.make_room.new.self work at) room)
     c.make_room.ensures.room

@@ -5,8 +5,9 @@ use Rattle.std.proofs.lemmas.List.FromFn.{fill_by_all}
 use Rattle.flame_rows.specs.Order.{row_order}
 use Rattle.flame_rows.specs.Parted.{whose}
 use Rattle.flame_rows.proofs.Subsequences.{next_comes, came, stayed_away}
-use Rattle.flame_rows.proofs.Parting.{whose-passed, whose-failed, whose-over, over, parts_up, parts_put, parts_up_still, parts_left, none_below, all_below}
+use Rattle.flame_rows.proofs.Parting.{whose-passed, whose-failed, whose-over, over, parts_up, parts_put, parts_up_still, parts_left, all_below}
 use Rattle.flame_rows.proofs.bags.Bag.parted_by.Goals as goal
+use Rattle.flame_rows.proofs.Truths.{nat_le-true}
 
 pub put_into-requires-clause-order : goal.put_into-requires-clause-order
 put_into-requires-clause-order c =
@@ -45,7 +46,7 @@ loop-row-preserved c =
       parts_up = parts_up_still parts _ _ _ steps.0.0 c.args.count kept.parts_up;
       others_up = came row_order _ _ _ _ _ kept.others_up steps.0.0 c.in_ok-put.ensures;
       parts = parts_left parts _ _ _ steps.0.0 c.args.count _ _ _ _ steps.1 none kept.parts;
-      others = whose-passed _ _ _ _ _ _ _ _ _ _ kept.others steps.0.0 steps.1 (none_below _ _ none) c.in_ok-put.ensures;
+      others = whose-passed _ _ _ _ _ _ _ _ _ _ kept.others steps.0.0 steps.1 (nat_le-true _ _ none) c.in_ok-put.ensures;
     }
 
 pub returns-clause-parts : goal.returns-clause-parts

@@ -1,8 +1,8 @@
 -- The type of this number is the one that was looked at.
-use Rattle.std.proofs.Common.{◌≡◌, ◌<◌, List, length, get_or, subst, rules}
+use Rattle.std.proofs.Common.{◌≡◌, ◌<◌, List, length, get_or, subst, rules, refl}
+use Rattle.std.proofs.lemmas.Option.{slice_get_read}
 use Rattle.flame_spec.specs.declared.models.AgentType.{AgentType}
 use Rattle.flame_tokens.specs.AgentTrees.{IsNamed}
-use Rattle.flame_tokens.proofs.NamedTypes.{got}
 use Rattle.flame_tokens.proofs.types.Types.at.Goals as goal
 
 pub returns-then-eq : goal.returns-then-eq
@@ -15,4 +15,4 @@ returns-then-eq c =
     let same : kind.name ≡ name = search rules in
     subst (λ (all : List AgentType). IsNamed all number name (get_or types number kind)) c.self.view_is
     (subst (λ (type : AgentType). IsNamed types number name type) c.index-self-number.is
-    (record { stands = got types number kind within c.index-self-number.is; named = same }))
+    (record { stands = slice_get_read types (length types) number kind refl within c.index-self-number.is; named = same }))

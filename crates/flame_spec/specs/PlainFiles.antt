@@ -9,30 +9,30 @@ use Rattle.flame_spec.specs.declared.wide.WideVariable.{WideVariable}
 use Rattle.flame_spec.specs.declared.wide.WideMessage.{WideMessage}
 use Rattle.flame_spec.specs.declared.wide.WideAgent.{WideAgent}
 
--- a variable as one of int [own]
-abbrev pub widened_variable : Variable → WideVariable
-widened_variable variable = record { name = variable.name; kind = codes "int"; length = variable.length }
+-- the variable of kind `int` [own]
+abbrev pub int_variable : Variable → WideVariable
+int_variable variable = record { name = variable.name; kind = codes "int"; length = variable.length }
 
--- a message type [own]
-abbrev pub widened_message : MessageType → WideMessage
-widened_message message = record { name = message.name; variables = map widened_variable message.variables }
+-- the message of such variables [own]
+abbrev pub int_message : MessageType → WideMessage
+int_message message = record { name = message.name; variables = map int_variable message.variables }
 
--- an agent type [own]
-abbrev pub widened_agent : AgentType → WideAgent
-widened_agent agent = record {
+-- the agent type of such variables [own]
+abbrev pub int_agent : AgentType → WideAgent
+int_agent agent = record {
   name = agent.name;
-  memory = map widened_variable agent.memory;
+  memory = map int_variable agent.memory;
   functions = agent.functions;
 }
 
--- a model as a model file [own]
-abbrev pub widened : Model → Wide
-widened model = record {
+-- the file that says what the model is [own]
+abbrev pub as_file : Model → Wide
+as_file model = record {
   constants = model.constants;
   files = model.files;
   units = model.units;
   types = [];
-  messages = map widened_message model.messages;
-  agents = map widened_agent model.agents;
+  messages = map int_message model.messages;
+  agents = map int_agent model.agents;
   nested = [];
 }
