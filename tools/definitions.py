@@ -20,7 +20,7 @@ def plain_rt(text):
 def imports(text):
     """What a file imports: of each short name the module and the name there, of each alias the module; and the other text."""
     names, aliases = {}, {}
-    use = re.compile(r"^[ \t]*(?:ghost )?use ([\w+.]+?)(?:\.\{([^}]*)\}| as (\w+));?[ \t]*$", re.M)
+    use = re.compile(r"^[ \t]*(?:ghost |pub )?use ([\w+.]+?)(?:\.\{([^}]*)\}| as (\w+));?[ \t]*$", re.M)
     for path, inside, alias in use.findall(text):
         if alias:
             aliases[alias] = path
