@@ -33,8 +33,8 @@ use Rattle.flame_events.proofs.CoreWidths.{status_below}
 
 -- ---- twice
 
-pub sorted_twice : (pool one other : Rows) → merge (merge pool (ascending one)) (ascending other) ≡ merge pool (ascending (one ++ other))
-sorted_twice pool one other =
+pub merge-merge_ascending : (pool one other : Rows) → merge (merge pool (ascending one)) (ascending other) ≡ merge pool (ascending (one ++ other))
+merge-merge_ascending pool one other =
     equal_by_weighings (merge (merge pool (ascending one)) (ascending other)) (merge pool (ascending (one ++ other)))
     (IsAscending-merge (merge pool (ascending one)) (ascending other)) (IsAscending-merge pool (ascending (one ++ other)))
     (λ w. omega (
@@ -48,10 +48,10 @@ sorted_twice pool one other =
       weigh-append w one other,
     ))
 
-pub changed_twice : {X : Type 0} (place : ℕ) (one other both : X → X) → ((x : X) → other (one x) ≡ both x) → (xs : List X) → changed place other (changed place one xs) ≡ changed place both xs
-changed_twice place one other both same [] = refl
-changed_twice zero one other both same (x ∷ xs) = ap (λ y. y ∷ xs) (same x)
-changed_twice (suc place) one other both same (x ∷ xs) = ap (λ ys. x ∷ ys) (changed_twice place one other both same xs)
+pub changed-changed : {X : Type 0} (place : ℕ) (one other both : X → X) → ((x : X) → other (one x) ≡ both x) → (xs : List X) → changed place other (changed place one xs) ≡ changed place both xs
+changed-changed place one other both same [] = refl
+changed-changed zero one other both same (x ∷ xs) = ap (λ y. y ∷ xs) (same x)
+changed-changed (suc place) one other both same (x ∷ xs) = ap (λ ys. x ∷ ys) (changed-changed place one other both same xs)
 
 joined_twice : (i : ℕ) (one other both : ℕ → Rows) → ((k : ℕ) → one k ++ other k ≡ both k) → (bags : List Rows) → joined_from i other (joined_from i one bags) ≡ joined_from i both bags
 joined_twice i one other both same [] = refl
@@ -127,10 +127,10 @@ module _ (round : Round) (f k : ℕ) (place : Place) (run : Row → Outcome) whe
       let s = state_place place.type place.function.next in
       let lived = λ (l : Rows). filter_map (λ memory. kept (run memory)) l in
       let pools =
-      changed_twice place.agent (changed s (λ pool. merge pool (survivors run (memory ∷ [])))) (changed s (λ pool. merge pool (survivors run rows)))
+      changed-changed place.agent (changed s (λ pool. merge pool (survivors run (memory ∷ [])))) (changed s (λ pool. merge pool (survivors run rows)))
       (changed s (λ pool. merge pool (survivors run (memory ∷ rows))))
-      (λ own. changed_twice s (λ pool. merge pool (survivors run (memory ∷ []))) (λ pool. merge pool (survivors run rows)) (λ pool. merge pool (survivors run (memory ∷ rows)))
-      (λ pool. sorted_twice pool (lived (memory ∷ [])) (lived rows) ∙ ap (λ l. merge pool (ascending l)) (sym (filter_map-append (λ memory. kept (run memory)) (memory ∷ []) rows)))
+      (λ own. changed-changed s (λ pool. merge pool (survivors run (memory ∷ []))) (λ pool. merge pool (survivors run rows)) (λ pool. merge pool (survivors run (memory ∷ rows)))
+      (λ pool. merge-merge_ascending pool (lived (memory ∷ [])) (lived rows) ∙ ap (λ l. merge pool (ascending l)) (sym (filter_map-append (λ memory. kept (run memory)) (memory ∷ []) rows)))
       own)
       field.pools in
       let born =

@@ -60,17 +60,17 @@ pools_up model agents = go model.agents agents
     go (type ∷ types) [] = tt
     go (type ∷ types) (bag ∷ bags) = (begun_up type bag, go types bags)
 
-pub nothing_from : (b : Bool) (w : Weight) → weigh w (cond b [] []) ≡ 0
+nothing_from : (b : Bool) (w : Weight) → weigh w (cond b [] []) ≡ 0
 nothing_from true w = refl
 nothing_from false w = refl
 
-pub always : (o : Option ℕ) → rests (λ f. true) o ≡ true
+always : (o : Option ℕ) → rests (λ f. true) o ≡ true
 always None = refl
 always (Some f) = refl
 
-pub begins : (round : Round) (agents : List Rows) (t : Ideal) → length agents ≡ length round.source.model.agents
+pub Holds-opening : (round : Round) (agents : List Rows) (t : Ideal) → length agents ≡ length round.source.model.agents
     → Holds round (λ p. pool_at round.source.model (opening round.source.model agents).pools p) t (opening round.source.model agents) (λ f. true) (λ g. []) (λ m g. [])
-begins round agents t many =
+Holds-opening round agents t many =
     let model = round.source.model in
     let n = function_count model in
     let field = opening model agents in
@@ -96,9 +96,9 @@ begins round agents t many =
       };
     }
 
-pub sound_opening : (round : Round) (agents : List Rows) (t : Ideal) → length agents ≡ length round.source.model.agents
+pub Sound-opening : (round : Round) (agents : List Rows) (t : Ideal) → length agents ≡ length round.source.model.agents
     → Sound round (λ p. pool_at round.source.model (opening round.source.model agents).pools p) t (opening_core round.source.model agents)
-sound_opening round agents t many =
+Sound-opening round agents t many =
     let model = round.source.model in
     let core = opening_core model agents in
     let from = λ (p : Spot). pool_at model (opening model agents).pools p in
@@ -109,7 +109,7 @@ sound_opening round agents t many =
     (λ g. ran_rows (t.agents g) (status g)) (λ m g. handed_rows (outputs_of model g) m (t.agents g) (status g))
     × ((f : ℕ) → Fits round t f (status f))
     × ((f : ℕ) → is_waiting (status f) ≡ false → ⊥))
-    waits (begins round agents t many, (λ f. tt), (λ f e. true≢false e)) in
+    waits (Holds-opening round agents t many, (λ f. tt), (λ f e. true≢false e)) in
     record {
       long = (length-map (functions model) (λ place. Waiting));
       marks = (length-map model.messages (λ message. false));
@@ -129,8 +129,8 @@ every_order_is_the_iteration differ source world number fuel pieces events accep
     let field = opening model world.agents in
     let t = ideal round field in
     let core = replay round pieces (opening_core model world.agents) events in
-    let serial = serial_end round field (accepted_sends differ round field accepted) (begins round world.agents t many) accepted.ordered in
-    let sound = sound_replay round (λ p. pool_at model field.pools p) t pieces (opening_core model world.agents) events serial.1 some (sound_opening round world.agents t many) legal in (
+    let serial = serial_end round field (accepted_sends differ round field accepted) (Holds-opening round world.agents t many) accepted.ordered in
+    let sound = sound_replay round (λ p. pool_at model field.pools p) t pieces (opening_core model world.agents) events serial.1 some (Sound-opening round world.agents t many) legal in (
       (λ complete.
           ap (turn_of round.constants)
           (one_end round (λ p. pool_at model field.pools p) t (first_should round t (model_order model))

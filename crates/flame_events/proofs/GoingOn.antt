@@ -94,15 +94,15 @@ first_wanted model core done (f ∷ fs) ordered shut open_yet =
 
 -- ---- tests of lists
 
-pub all_when : (test : ℕ → Bool) (numbers : List ℕ) → ((n : ℕ) → is_in n numbers ≡ true → test n ≡ true) → list_all test numbers ≡ true
-all_when test [] each = refl
-all_when test (n ∷ numbers) each =
-    and_from (test n) (list_all test numbers) (each n (is_in-self n numbers)) (all_when test numbers (λ k within. each k (is_in-later k n numbers within)))
+pub list_all-is_in : (test : ℕ → Bool) (numbers : List ℕ) → ((n : ℕ) → is_in n numbers ≡ true → test n ≡ true) → list_all test numbers ≡ true
+list_all-is_in test [] each = refl
+list_all-is_in test (n ∷ numbers) each =
+    and_from (test n) (list_all test numbers) (each n (is_in-self n numbers)) (list_all-is_in test numbers (λ k within. each k (is_in-later k n numbers within)))
 
 -- all numbers below that pass a test are shut, where each is
 all_shut_below : (core : Core) (test : ℕ → Bool) (n : ℕ) → ((g : ℕ) → g < n → test g ≡ true → is_shut (status_of core g) ≡ true) → are_shut core (all_below test n) ≡ true
 all_shut_below core test n each =
-    all_when (λ g. is_shut (status_of core g)) (all_below test n)
+    list_all-is_in (λ g. is_shut (status_of core g)) (all_below test n)
     (λ g within.
     let both = and_parts (nat_lt g n) (test g) (sym (is_in-all_below test n g) ∙ within) in
     each g (ltb-true g n both.0) both.1)

@@ -12,7 +12,7 @@ use Rattle.flame_world.specs.Iterations.{Round, unless_faulted, turn_of, round_o
 use Rattle.flame_events.specs.CoreEnds.{is_complete, wanted, ending}
 use Rattle.flame_events.specs.CoreStates.{Waiting, is_shut, fault_of, Core, status_of, opening_core}
 use Rattle.flame_events.proofs.EveryOrders.{every_order_is_the_iteration}
-use Rattle.flame_events.proofs.GoingOn.{all_when}
+use Rattle.flame_events.proofs.GoingOn.{list_all-is_in}
 use Rattle.flame_layers.specs.declared.stops.Stop.{Stop}
 use Rattle.flame_layers.specs.LayerLaws.{IterationsBegin, LayersEnd}
 use Rattle.flame_layers.proofs.FaultedStops.{Faults, faults_in, stop_at, stop_in, stop_fault, stop_rank}
@@ -63,7 +63,7 @@ layers_end differ source world number fuel layers stop field accepted has_bags a
     let model = source.model in
     let core = come.core in
     let complete : is_complete model core ≡ true =
-    all_when (λ g. is_shut (status_of core g)) (wanted model core)
+    list_all-is_in (λ g. is_shut (status_of core g)) (wanted model core)
     (λ g wants. come.earlier g (all g (wanted_below model core g wants)) (ap (is_in g) (still_is_wanted model core stop come.rank_is) ∙ wants)) in
     let every = every_order_is_the_iteration differ source world number fuel 1 come.events accepted has_bags (omega arith) come.leads.legal in
     let end : ending round core ≡ iteration source world number fuel =

@@ -15,7 +15,7 @@ use Rattle.flame_events.specs.CoreStates.{is_waiting, is_shut, status_of, is_fro
 use Rattle.flame_events.specs.LegalEvents.{predecessors, inputs_at, inputs_of, outputs_of, writers, are_shut, is_legal}
 use Rattle.flame_events.proofs.Weights.{Rows}
 use Rattle.flame_events.proofs.Spots.{input_named, writes_before}
-use Rattle.flame_events.proofs.GoingOn.{all_when}
+use Rattle.flame_events.proofs.GoingOn.{list_all-is_in}
 use Rattle.flame_layers.specs.declared.stops.Stop.{Stop}
 use Rattle.flame_layers.specs.LayerStates.{HasComeTo}
 use Rattle.flame_layers.proofs.WantedFunctions.{below_in, wanted_closed, still_is_wanted, layers_rise, wanted_in, IsHere, is_here}
@@ -35,11 +35,11 @@ module _ (round : Round) (agents : List Rows) (here : ℕ) (stop : Option Stop) 
   fed_here =
       let model = round.source.model in
       let place = slice_get-some (functions model) f own.below in
-      all_when (is_frozen come.core) (inputs_of model f)
+      list_all-is_in (is_frozen come.core) (inputs_of model f)
       (λ m reads.
       let input = input_named model place.0 m (sym (ap (λ o. is_in m (inputs_at o model)) place.1) ∙ reads) in
       come.frozen m (slice_get_within model.messages m input.named.message input.named.there)
-      (all_when (λ g. is_shut (status_of come.core g)) (writers model m)
+      (list_all-is_in (λ g. is_shut (status_of come.core g)) (writers model m)
       (λ g writes.
       let writer = below_in (λ g. is_in m (outputs_of model g)) (function_count model) g writes in
       shut_before g writer.0 (writes_before model g f m writer.0 own.below writer.1 reads))))
@@ -48,6 +48,6 @@ module _ (round : Round) (agents : List Rows) (here : ℕ) (stop : Option Stop) 
   may_open_here =
       let model = round.source.model in
       let shut : are_shut come.core (predecessors model f) ≡ true =
-      all_when (λ g. is_shut (status_of come.core g)) (predecessors model f)
+      list_all-is_in (λ g. is_shut (status_of come.core g)) (predecessors model f)
       (λ g earlier. let both = below_in (λ g. before model g f) (function_count model) g earlier in shut_before g both.0 both.1) in
       and_from _ _ (and_from _ _ (and_from _ _ (lt-ltb f (function_count model) own.below) (ap is_waiting (come.later f own.below (omega (arith, own.layer_is))))) shut) fed_here

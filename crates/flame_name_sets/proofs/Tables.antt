@@ -16,17 +16,17 @@ pub look-map : {X : Type 0} (name : List ℕ) (entries : List (Bor (List ℕ) ×
 look-map name [] = refl
 look-map name (entry ∷ entries) = ap (cond (bytes_eq name entry.0.now) (Some entry.1)) (look-map name entries)
 
-pub some_step : {X : Type 0} (b c : Bool) (x : X) (o : Option X)
+pub is_some-cond : {X : Type 0} (b c : Bool) (x : X) (o : Option X)
     → is_some o ≡ c → is_some (cond b (Some x) o) ≡ (b || c)
-some_step true c x o h = refl
-some_step false c x o h = h
+is_some-cond true c x o h = refl
+is_some-cond false c x o h = h
 
 -- a name is found where it is among those of the entries
 pub is_some-look : {X : Type 0} (name : List ℕ) (table : List (List ℕ × X))
     → is_some (look name table) ≡ is_among name (names_of table)
 is_some-look name [] = refl
 is_some-look name (entry ∷ table) =
-    some_step
+    is_some-cond
     (bytes_eq name entry.0)
     (is_among name (names_of table))
     entry.1

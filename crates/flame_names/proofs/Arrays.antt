@@ -8,7 +8,7 @@ use Rattle.flame_rows.proofs.Bytes.{bytes_eq-sym}
 use Rattle.flame_spec.specs.declared.models.Variable.{Variable}
 use Rattle.flame_spec.specs.Columns.{columned_from, variable_named, width_of, is_array}
 use Rattle.flame_spec.specs.KnownNames.{is_among, variable_names}
-use Rattle.flame_name_sets.proofs.Tables.{some_step}
+use Rattle.flame_name_sets.proofs.Tables.{is_some-cond}
 use Rattle.flame_names.specs.VariableTables.{variables_in_table}
 
 array_step : (b c : Bool) (variable : Variable) (from : ℕ) (rest : Option (ℕ × Variable)) (more : Option (Option ℕ))
@@ -49,7 +49,7 @@ pub there-is : (name : List ℕ) (entries : List (Bor (List ℕ) × Option ℕ))
 there-is name [] = refl
 there-is name (entry ∷ entries) =
     sym
-    (some_step
+    (is_some-cond
     (bytes_eq name entry.0.now)
     (is_among name (variable_names (variables_in_table entries)))
     entry.1

@@ -6,7 +6,6 @@ pub mod Arrays
 pub mod Rests
 pub mod Floors
 pub mod Units
-pub mod Sides
 pub mod Readings
 pub mod Chains
 pub mod Sharing

@@ -22,7 +22,7 @@ use Rattle.flame_events.specs.HandedPieces.{with_part, with_parts}
 use Rattle.flame_events.proofs.Weights.{Row, Rows}
 use Rattle.flame_events.proofs.Holding.{Ideal, lived-append, sent-append, born-append}
 use Rattle.flame_events.proofs.Works.{place_in, in_place, past_end, length-with_sent, part_in-with_sent, more_of}
-use Rattle.flame_events.proofs.Absorbing.{changed_twice, sorted_twice}
+use Rattle.flame_events.proofs.Absorbing.{changed-changed, merge-merge_ascending}
 use Rattle.flame_orders.proofs.SortedFields.{Up, IsSorted}
 
 -- ---- what agents leave
@@ -45,10 +45,10 @@ module _ (place : Place) (run : Row → Outcome) where
       let add = λ (rows : Rows) (pool : Rows). merge pool (survivors run rows) in
       let lived = λ (rows : Rows). filter_map (λ memory. kept (run memory)) rows in
       let pool : (pool : Rows) → add other (add one pool) ≡ add (one ++ other) pool =
-      λ pool. sorted_twice pool (lived one) (lived other) ∙ ap (λ l. merge pool (ascending l)) (sym (lived-append ideal_of 0 one other)) in
+      λ pool. merge-merge_ascending pool (lived one) (lived other) ∙ ap (λ l. merge pool (ascending l)) (sym (lived-append ideal_of 0 one other)) in
       let pools =
-      changed_twice place.agent (changed s (add one)) (changed s (add other)) (changed s (add (one ++ other)))
-      (λ own. changed_twice s (add one) (add other) (add (one ++ other)) pool own) field.pools in
+      changed-changed place.agent (changed s (add one)) (changed s (add other)) (changed s (add (one ++ other)))
+      (λ own. changed-changed s (add one) (add other) (add (one ++ other)) pool own) field.pools in
       let born =
       (sym (joined_from-twice 0 (births_of (born_from run one)) (births_of (born_from run other)) (births_of (born_from run (one ++ other))) (λ n. born-append ideal_of 0 n one other) field.born)) in
       λ i. record { pools = pools i; born = born i; boards = field.boards }

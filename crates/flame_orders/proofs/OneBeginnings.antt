@@ -23,7 +23,7 @@ use Rattle.flame_events.proofs.Works.{its_agents, Fits, all_of_list}
 use Rattle.flame_events.proofs.Sound.{Sound, still_in, ran_in, handed_in, shut_handed, opens_with}
 use Rattle.flame_events.proofs.Legality.{sound_replay}
 use Rattle.flame_events.proofs.Messages.{accepted_sends}
-use Rattle.flame_events.proofs.EveryOrders.{begins, sound_opening}
+use Rattle.flame_events.proofs.EveryOrders.{Holds-opening, Sound-opening}
 use Rattle.flame_orders.specs.OneBeginning.{HaveOneBeginning, FrozenBoardsAgree, OutcomesAgree, PiecesAgree, OpenFunctionsAgree, DoneFunctionsAgree}
 use Rattle.flame_orders.proofs.CutWorks.{IsCutUp, AreCutUp, replay_cut, opening_cut, cut_of_all}
 
@@ -41,8 +41,8 @@ one_ideal differ round pieces other_pieces core other both =
     let field = opening model both.agents in
     let start : Spot → Rows = λ p. pool_at model field.pools p in
     let t : Ideal = ideal round field in
-    let serial = serial_end round field (accepted_sends differ round field both.accepted) (begins round both.agents t both.has_bags) both.accepted.ordered in
-    let first = sound_opening round both.agents t both.has_bags in
+    let serial = serial_end round field (accepted_sends differ round field both.accepted) (Holds-opening round both.agents t both.has_bags) both.accepted.ordered in
+    let first = Sound-opening round both.agents t both.has_bags in
     record {
       start = start;
       table = t;

@@ -107,7 +107,7 @@ ones_clear all i (type ∷ types) (bag ∷ bags) found apart are =
     (λ row is path. one_clear all path i type row found.0 apart.0 is) bag are.0.1)
     (ones_clear all (i + 1) types bags found.1 apart.1 are.1)
 
-pub among_more :
+among_more :
     (name : List ℕ) (names : List (List ℕ)) (other : List ℕ)
     → is_among name names ≡ false → bytes_eq name other ≡ false → is_among name (names ++ other ∷ []) ≡ false
 among_more name [] other h e = ap (λ b. b || false) e
@@ -119,16 +119,16 @@ among_more name (first ∷ names) other h e =
 abbrev pub IsNewAfter : List Data → AgentType → Type 0
 IsNewAfter before type = is_among type.name (taken_names Two before) ≡ false
 
-pub new_after :
+pub IsNewAfter-push :
     (before : List Data) (name : List ℕ) (bag : List (List ℤ)) (types : List AgentType)
     → IsNoneOf name (map (λ (type : AgentType). type.name) types)
     → Each (IsNewAfter before) types
     → Each (IsNewAfter (before ++ bag_value name bag ∷ [])) types
-new_after before name bag [] apart new = tt
-new_after before name bag (type ∷ types) apart new = (
+IsNewAfter-push before name bag [] apart new = tt
+IsNewAfter-push before name bag (type ∷ types) apart new = (
   ap (is_among type.name) (filter_map-append name_in before (bag_value name bag ∷ []))
       ∙ among_more type.name (taken_names Two before) name new.0 (names_apart type.name name (λ e. apart.0 (sym e))),
-  new_after before name bag types apart.1 new.1,
+  IsNewAfter-push before name bag types apart.1 new.1,
 )
 
 twos_clear :
@@ -158,12 +158,12 @@ twos_clear all path values before n i (type ∷ types) (bag ∷ bags) split long
     (twos_clear all path values (before ++ value ∷ []) (n + 1) (i + 1) types bags
     (split ∙ sym (append_assoc before (value ∷ []) rest))
     (length-append before (value ∷ []) ∙ ap (λ k. k + 1) long)
-    (new_after before type.name bag types apart.0 new.1)
+    (IsNewAfter-push before type.name bag types apart.0 new.1)
     apart.1 found.1 are.1)
 
-pub none_before : (types : List AgentType) → Each (IsNewAfter []) types
-none_before [] = tt
-none_before (type ∷ types) = (refl, none_before types)
+pub IsNewAfter-nil : (types : List AgentType) → Each (IsNewAfter []) types
+IsNewAfter-nil [] = tt
+IsNewAfter-nil (type ∷ types) = (refl, IsNewAfter-nil types)
 
 -- the members for all agents have no fault
 pub agents_clear :
@@ -182,4 +182,4 @@ agents_clear One types bags path apart found memories are =
 agents_clear Two types bags path apart found memories are =
     let values = agent_values Two types bags in
     ap (agents_faults Two types path) (items_back values)
-    ∙ twos_clear types path values [] 0 0 types bags refl refl (none_before types) apart found are
+    ∙ twos_clear types path values [] 0 0 types bags refl refl (IsNewAfter-nil types) apart found are

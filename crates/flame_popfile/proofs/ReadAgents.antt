@@ -41,15 +41,15 @@ memory_in type row apart is =
     (subst AllDiffer (sym (names_of-variables type.memory row)) apart))
     is.0 is.1)
 
-pub rows_back : (wide : ℕ) (bag : List (List ℤ)) → Each (IsRowOf wide) bag → map (numbers_of wide) (map row_value bag) ≡ bag
-rows_back wide [] rows = refl
-rows_back wide (row ∷ bag) rows = ap₂ (λ r rs. r ∷ rs) (row_back wide row rows.0.1) (rows_back wide bag rows.1)
+pub numbers_of-row_value : (wide : ℕ) (bag : List (List ℤ)) → Each (IsRowOf wide) bag → map (numbers_of wide) (map row_value bag) ≡ bag
+numbers_of-row_value wide [] rows = refl
+numbers_of-row_value wide (row ∷ bag) rows = ap₂ (λ r rs. r ∷ rs) (row_back wide row rows.0.1) (numbers_of-row_value wide bag rows.1)
 
 rows_in :
     (name : List ℕ) (variables : List Variable) (bag : List (List ℤ))
     → Each (IsRowOf (width variables)) bag → agents_in Two variables (bag_value name bag) ≡ bag
 rows_in name variables bag rows =
-    ap (map (numbers_of (width variables))) (items_back (map row_value bag)) ∙ rows_back (width variables) bag rows
+    ap (map (numbers_of (width variables))) (items_back (map row_value bag)) ∙ numbers_of-row_value (width variables) bag rows
 
 -- what a member gives to the type of this number
 abbrev given : Format → List AgentType → ℕ → List Variable → Data → List (List ℤ)

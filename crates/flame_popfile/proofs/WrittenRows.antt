@@ -16,15 +16,15 @@ use Rattle.flame_popfile.proofs.WrittenNames.{IsPlain}
 use Rattle.flame_popfile.proofs.WrittenForms.{Writes, WritesMember, writes_integer, writes_list, writes_object}
 use Rattle.flame_meaning.proofs.Eachs.{each_drop}
 
-pub int_small : (z : ℤ) → IsInt z → mag z < 2 ^ 63
-int_small (pos n) h =
+pub mag-IsInt : (z : ℤ) → IsInt z → mag z < 2 ^ 63
+mag-IsInt (pos n) h =
     omega (arith, leb-true n 2147483647 (and_parts (int_le least (pos n)) (int_le (pos n) greatest) h).1)
-int_small (negsuc n) h =
+mag-IsInt (negsuc n) h =
     omega (arith, leb-true n 2147483647 (and_parts (int_le least (negsuc n)) (int_le (negsuc n) greatest) h).0)
 
 -- a number of int
 pub writes_int : (deep : ℕ) (z : ℤ) → IsInt z → Writes deep (signed_decimal z) (int_value z)
-writes_int deep z h = writes_integer deep z (int_small z h)
+writes_int deep z h = writes_integer deep z (mag-IsInt z h)
 
 -- what holds of each holds of what is made of it in two ways
 pub each_zip :

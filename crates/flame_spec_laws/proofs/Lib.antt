@@ -8,7 +8,6 @@ pub mod NameKnowledge
 pub mod UsedKnown
 pub mod Distinct
 pub mod Measures
-pub mod Truths
 pub mod NoFaults
 pub mod CheckedBodies
 pub mod LookedUp

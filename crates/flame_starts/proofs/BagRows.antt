@@ -27,8 +27,8 @@ use Rattle.flame_popfile.proofs.NameSearches.{AreNumbered}
 use Rattle.flame_popfile.proofs.PopulationValues.{list_of, row_value, bag_value}
 use Rattle.flame_popfile.proofs.ReadRows.{IsClear, items_back, each_clear, row_clear}
 use Rattle.flame_popfile.proofs.Dealing.{bags_dealt}
-use Rattle.flame_popfile.proofs.ReadAgents.{rows_back}
-use Rattle.flame_popfile.proofs.ClearMembers.{IsNewAfter, new_after, none_before}
+use Rattle.flame_popfile.proofs.ReadAgents.{numbers_of-row_value}
+use Rattle.flame_popfile.proofs.ClearMembers.{IsNewAfter, IsNewAfter-push, IsNewAfter-nil}
 use Rattle.flame_tokens.specs.MemberTrees.{IsWide}
 use Rattle.flame_tokens.specs.BagTrees.{AreWide}
 use Rattle.flame_starts.proofs.TreeValues.{bag_values}
@@ -104,7 +104,7 @@ each_bag_clear all path values before n i (type ∷ types) (rows ∷ dealt) spli
     (each_bag_clear all path values (before ++ value ∷ []) (n + 1) (i + 1) types dealt
     (split ∙ sym (append_assoc before (value ∷ []) rest))
     (length-append before (value ∷ []) ∙ ap (λ k. k + 1) long)
-    (new_after before type.name rows types apart.0 new.1)
+    (IsNewAfter-push before type.name rows types apart.0 new.1)
     apart.1 found.1 are.1)
 
 -- the list of them has no fault
@@ -117,7 +117,7 @@ pub bags_clear :
 bags_clear types path dealt apart found are =
     let values = bag_values types dealt in
     ap (agents_faults Two types path) (items_back values)
-    ∙ each_bag_clear types path values [] 0 0 types dealt refl refl (none_before types) apart found
+    ∙ each_bag_clear types path values [] 0 0 types dealt refl refl (IsNewAfter-nil types) apart found
     (rows_wide types dealt are)
 
 -- ---- the agents
@@ -141,7 +141,7 @@ gives_own all number type rows found are =
     found
     ∙ ap (λ b. if b then agents_in Two type.memory value else []) (eq-eqb number number refl)
     ∙ ap (map (numbers_of wide)) (items_back (map row_value rows))
-    ∙ rows_back wide rows are
+    ∙ numbers_of-row_value wide rows are
 
 -- and nothing to others
 gives_no_other :

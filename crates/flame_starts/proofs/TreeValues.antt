@@ -33,7 +33,7 @@ use Rattle.flame_popfile.specs.declared.formats.Format.{Format}
 use Rattle.flame_popfile.specs.declared.formats.Format.TheVariants.{One, Two}
 use Rattle.flame_popfile.proofs.PopulationValues.{object_of, list_of, int_value, row_value, variable_value, variable_pairs, memory_value, constant_pairs, named_value, agent_value, bag_value, environment_value}
 use Rattle.flame_popfile.proofs.PutMembers.{put_all}
-use Rattle.flame_popfile.proofs.WrittenRows.{each_zip, each_take, int_small}
+use Rattle.flame_popfile.proofs.WrittenRows.{each_zip, each_take, mag-IsInt}
 
 -- the tree, nested no deeper than this, is read as the value
 pub record Reads (deep : ℕ) (tree : Json) (value : Data) : Type 0 where
@@ -110,7 +110,7 @@ number_read (pos n) h = number_of-decimal n (omega arith)
 number_read (negsuc n) h = number_of-negative n (omega arith)
 
 pub reads_int : (deep : ℕ) (z : ℤ) → IsInt z → Reads deep (number_tree z) (int_value z)
-reads_int deep z h = record { same = ap (option_map number) (number_read z (int_small z h)); shallow = omega arith }
+reads_int deep z h = record { same = ap (option_map number) (number_read z (mag-IsInt z h)); shallow = omega arith }
 
 pub reads_row : (deep : ℕ) (row : List ℤ) → AreInts row → Reads (suc deep) (row_tree row) (row_value row)
 reads_row deep row ints =
@@ -235,7 +235,7 @@ mutual
     value = int_value is.number;
     same =
         ap (λ s. option_map number (number_of s)) is.same
-        ∙ ap (option_map number) (number_read is.number (int_small is.number is.int));
+        ∙ ap (option_map number) (number_read is.number (mag-IsInt is.number is.int));
   }
   plain_read (json.string text) is = record { value = string text; same = refl }
   plain_read (json.array trees) are =

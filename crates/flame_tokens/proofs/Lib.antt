@@ -2,7 +2,6 @@ pub mod TokenLists
 pub mod PassedLists
 pub mod MoreDigits
 pub mod MoreValues
-pub mod NamedTypes
 pub mod DealtRows
 pub mod BagLists
 pub mod MoreConstants

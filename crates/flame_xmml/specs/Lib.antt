@@ -1,5 +1,6 @@
 -- The promise: the model is the one that the value stands for, where the value has no shape fault, and a refusal names
 -- the first one. Each definition's comment ends with its source in brackets, as in flame_spec.
+
 -- What stands in values, what each want wants, the faults of all parts, and what they stand for.
 pub mod ValueParts
 pub mod Wants

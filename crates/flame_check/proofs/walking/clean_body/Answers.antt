@@ -23,4 +23,9 @@ returns-in_err-definition-clause-first c =
     (sym c.is_helper.ensures ∙ c.if-is_helper.true)
     ∙ ap (λ (s : BodyPlace). definition_faults (context_at s) d) (sym c.for_helper-words.ensures) in
     rw (p.1, p.2)
-    (FailsFirst-same _ (definition_faults (context_at c.for_helper-words.result) d) (bodies_faults model hs d) (sym same) c.in_err-definition.ensures.first)
+    (FailsFirst-same
+      _
+      (definition_faults (context_at c.for_helper-words.result) d)
+      (bodies_faults model hs d)
+      (sym same)
+      c.in_err-definition.ensures.first)

@@ -21,4 +21,10 @@ returns-in_err-target-clause-first c =
     ++ subscript_faults context sight a.line w (option_map indexed a.subscript) in
     let value = stored_faults context sight (stored a.value) in
     rw (p.1, p.2)
-    (FailsFirst-front _ (assignment_faults context sight (assigned a)) (here c.as_str.result.now) value (ap (λ w. here w ++ value) (sym c.as_str.ensures)) c.in_err-target.ensures.first)
+    (FailsFirst-front
+      _
+      (assignment_faults context sight (assigned a))
+      (here c.as_str.result.now)
+      value
+      (ap (λ w. here w ++ value) (sym c.as_str.ensures))
+      c.in_err-target.ensures.first)

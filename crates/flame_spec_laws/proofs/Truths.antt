@@ -1,1 +1,0 @@
--- When comparisons and time conditions hold.
