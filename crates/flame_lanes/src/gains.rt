@@ -5,7 +5,6 @@ ghost use Rattle.std.specs.List.{All};
 ghost use Rattle.flame_spec.specs.declared.outcomes.Outcome.{Outcome};
 ghost use Rattle.flame_world.specs.Fields.{Field as Standing};
 ghost use Rattle.flame_world.specs.Iterations.{Round as Throughout, outcome_in};
-ghost use Rattle.flame_leaving.specs.WholeLaws.{least_of};
 ghost use Rattle.flame_lanes.specs.declared.tasks.Task.{Task};
 ghost use Rattle.flame_lanes.specs.LayerGains.{AreOfFunctions, IsGain, IsRestOf};
 ghost use Rattle.flame_lanes.specs.LaneTasks.{agents_at};
@@ -13,6 +12,7 @@ ghost use Rattle.flame_lanes.specs.TaskMeanings.{left_of};
 
 use crate::jobs::Left;
 use flame_leaving::laws::parts_make_the_whole;
+use flame_leaving::lesser_fault;
 use flame_rows::{NoMemory, Row};
 use flame_spec::Born;
 use flame_world::{Rest, SimFault};
@@ -27,23 +27,6 @@ pub struct Gain {
     pub born: Vec<Born>,
     /// The fault of the least of them in content order that faulted.
     pub fault: Option<SimFault>,
-}
-
-/// Of two faults, where they are, that of the agent that goes before the other in content order.
-fn lesser(one: Option<SimFault>, two: Option<SimFault>) -> Option<SimFault>
-    ensures { result ≡ least_of one two }
-{
-    match (one, two) {
-        (None, two) => two,
-        (Some(one), None) => Some(one),
-        (Some(one), Some(two)) => {
-            if one.memory.compare(&two.memory).is_gt() {
-                Some(two)
-            } else {
-                Some(one)
-            }
-        }
-    }
 }
 
 /// Adds rows behind others. Where there are none yet their list is taken as it stands.
@@ -83,7 +66,7 @@ impl Gain {
         let mut born = rest.born.into_items();
         add_rows(&mut self.survivors, survivors)?;
         self.born.append(&mut born)?;
-        self.fault = lesser(self.fault.take(), rest.fault);
+        self.fault = lesser_fault(self.fault.take(), rest.fault);
         Ok(())
     }
 }

@@ -1,6 +1,6 @@
 //! Agents choose what they take, many of them by several workers.
 
-ghost use Rattle.std.specs.Prelude.{◌≡◌, ◌<◌, ◌≤◌, ◌^◌, [], Ok, IfOk, OnOk, length, map};
+ghost use Rattle.std.specs.Prelude.{◌≡◌, ◌<◌, ◌≤◌, ◌^◌, [], IfOk, OnOk, length, map};
 ghost use Rattle.std.specs.List.{All, flat_map};
 ghost use Rattle.flame_pool.specs.Choosing.{first_place};
 ghost use Rattle.flame_field.specs.KeptPools.{pool_bag, pools_of, AreDealt, HaveChosen, IsDealt};
@@ -13,7 +13,7 @@ use flame_field::{Pool, exchange, pool_of};
 use flame_pool::choose_rows;
 use flame_round::{Round, choose, out_of};
 use flame_route::Route;
-use flame_rows::{NoMemory, Row, Seq, number};
+use flame_rows::{NoMemory, Row, Seq, all_of, number};
 use std::alloc::Global;
 use std::thread;
 use std::thread::Threads;
@@ -51,20 +51,6 @@ fn choose_runs<R: Threads + Sync>(
                 choices ≡ map (first_place conditions.entry.now functions.entry.now iteration) run.now) }
         { choose_rows(alloc, run, conditions, functions, iteration) },
     )?;
-    Ok(runs)
-}
-
-/// What all workers gave back, where none lacked memory.
-fn all_of(
-    alloc: Global,
-    results: Vec<Result<Seq<u32>, NoMemory>>,
-) -> Result<Vec<Seq<u32>>, NoMemory>
-    ensures { IfOk result (λ runs. map Ok runs.items ≡ results.items) }
-{
-    let mut runs = Vec::new(alloc);
-    for result in results {
-        runs.push(result?)?;
-    }
     Ok(runs)
 }
 

@@ -1,6 +1,6 @@
 //! Workers: each runs its tasks, and hands in what their agents send.
 
-ghost use Rattle.std.specs.Prelude.{◌≡◌, ◌<◌, ◌∷◌, [], ℕ, ℤ, List, Ok, IfOk, IsTrue, OnOk, length, map, slice_index_or};
+ghost use Rattle.std.specs.Prelude.{◌≡◌, ◌<◌, ◌∷◌, [], ℕ, ℤ, List, IfOk, IsTrue, OnOk, length, map, slice_index_or};
 ghost use Rattle.std.specs.List.{All};
 ghost use Rattle.flame_spec.specs.Below.{is_in};
 ghost use Rattle.flame_world.specs.Fields.{Field as Standing};
@@ -15,7 +15,7 @@ use flame_board::{Board, Lane};
 use flame_lanes::{Done, Job, Left, Messages, Task};
 use flame_outside::Gate;
 use flame_round::Round;
-use flame_rows::{Bag, NoMemory, Seq};
+use flame_rows::{Bag, NoMemory, Seq, all_of};
 use flame_share::run_piece;
 use flame_world::{Part, Piece, Rest};
 use std::alloc::Global;
@@ -166,17 +166,6 @@ fn work<G: Gate, R: Threads + Wait + Sync>(
         lefts: Seq::of(lefts),
         lanes: Seq::of(lanes),
     })
-}
-
-/// What all workers gave back, where none lacked memory.
-fn all_of(alloc: Global, results: Vec<Result<Done, NoMemory>>) -> Result<Vec<Done>, NoMemory>
-    ensures { IfOk result (λ dones. map Ok dones.items ≡ results.items) }
-{
-    let mut dones = Vec::new(alloc);
-    for result in results {
-        dones.push(result?)?;
-    }
-    Ok(dones)
 }
 
 /// What the workers give back that do these jobs, each one of them; the caller is one of the workers. Where no thread can be

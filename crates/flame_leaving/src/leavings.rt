@@ -42,6 +42,23 @@ fn fault_of(iteration: i32, function: u32, memory: &Row, fault: Fault) -> Result
     })
 }
 
+/// Of two faults, where they are, that of the agent that goes before the other in content order.
+pub fn lesser_fault(one: Option<SimFault>, two: Option<SimFault>) -> Option<SimFault>
+    ensures { result ≡ least_of one two }
+{
+    match (one, two) {
+        (None, two) => two,
+        (Some(one), None) => Some(one),
+        (Some(one), Some(two)) => {
+            if one.memory.compare(&two.memory).is_gt() {
+                Some(two)
+            } else {
+                Some(one)
+            }
+        }
+    }
+}
+
 impl Leaving {
     /// What no agent leaves.
     pub fn nothing(alloc: Global) -> Leaving

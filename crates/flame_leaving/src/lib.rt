@@ -4,4 +4,4 @@
 pub mod laws;
 mod leavings;
 
-pub use leavings::Leaving;
+pub use leavings::{Leaving, lesser_fault};

@@ -1,6 +1,6 @@
 //! Bags are put together by several workers.
 
-ghost use Rattle.std.specs.Prelude.{◌≡◌, ◌<◌, Ok, ℕ, ℤ, List, IfOk, length, map, slice_index_or};
+ghost use Rattle.std.specs.Prelude.{◌≡◌, ◌<◌, ℕ, ℤ, List, IfOk, length, slice_index_or};
 ghost use Rattle.std.specs.List.{flat_map};
 ghost use Rattle.flame_rows.specs.Bags.{ascending, merge_all, weigh};
 ghost use Rattle.flame_merging.specs.RowLists.{rows_in, weigh_parts};
@@ -8,7 +8,7 @@ ghost use Rattle.flame_merging.specs.RowLists.{rows_in, weigh_parts};
 use crate::cutting::parts_of;
 use crate::lists::{in_order, lists_of};
 use crate::shapes::{are_worth_it, bounds_of};
-use flame_rows::{Bag, NoMemory, Row};
+use flame_rows::{Bag, NoMemory, Row, all_of};
 use std::alloc::Global;
 use std::thread;
 use std::thread::Threads;
@@ -32,17 +32,6 @@ fn sort_each<R: Threads + Sync>(
             ensures { IfOk result (λ bag. bag ≡ ascending (rows_in part.items)) }
         { in_order(alloc, part) },
     )?;
-    Ok(bags)
-}
-
-/// What all workers gave back, where none lacked memory.
-fn all_of(alloc: Global, results: Vec<Result<Bag, NoMemory>>) -> Result<Vec<Bag>, NoMemory>
-    ensures { IfOk result (λ bags. map Ok bags.items ≡ results.items) }
-{
-    let mut bags = Vec::new(alloc);
-    for result in results {
-        bags.push(result?)?;
-    }
     Ok(bags)
 }
 

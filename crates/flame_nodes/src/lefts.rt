@@ -10,6 +10,7 @@ ghost use Rattle.flame_nodes.specs.NodeLeavings.{AreLeftBy, IsOfRun, sent_in};
 ghost use Rattle.flame_nodes.specs.NodePieces.{agents_in};
 
 use flame_leaving::laws::parts_make_the_whole;
+use flame_leaving::lesser_fault;
 use flame_rows::{NoMemory, Row};
 use flame_spec::{Born, Sent};
 use flame_world::{Part, Rest, Share, SimFault};
@@ -26,23 +27,6 @@ pub(crate) struct Left {
     pub born: Vec<Born>,
     /// The fault of the least of them in content order that faulted.
     pub fault: Option<SimFault>,
-}
-
-/// Of two faults, where they are, that of the agent that goes before the other in content order.
-fn lesser(one: Option<SimFault>, two: Option<SimFault>) -> Option<SimFault>
-    ensures { result ≡ least_of one two }
-{
-    match (one, two) {
-        (None, two) => two,
-        (Some(one), None) => Some(one),
-        (Some(one), Some(two)) => {
-            if one.memory.compare(&two.memory).is_gt() {
-                Some(two)
-            } else {
-                Some(one)
-            }
-        }
-    }
 }
 
 /// Adds the messages of a part.
@@ -96,7 +80,7 @@ impl Left {
         self.survivors.append(&mut survivors)?;
         self.born.append(&mut born)?;
         add_parts(&mut self.sent, parts)?;
-        self.fault = lesser(self.fault.take(), rest.fault);
+        self.fault = lesser_fault(self.fault.take(), rest.fault);
         Ok(())
     }
 }

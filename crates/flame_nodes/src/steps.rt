@@ -1,22 +1,19 @@
 //! One function of an iteration, run by nodes.
 
-ghost use Rattle.std.specs.Prelude.{◌≡◌, ◌<◌, ◌≤◌, ℕ, ℤ, List, Some, IfOk, OnOk, length, map, slice_get};
+ghost use Rattle.std.specs.Prelude.{◌≡◌, ◌<◌, ◌≤◌, ℕ, ℤ, List, IfOk, OnOk, length, map};
 ghost use Rattle.std.specs.List.{All};
 ghost use Rattle.flame_rows.specs.Bags.{ascending};
 ghost use Rattle.flame_spec.specs.Before.{function_count};
-ghost use Rattle.flame_spec.specs.Functions.{Place, functions};
-ghost use Rattle.flame_spec.specs.States.{state_place};
 ghost use Rattle.flame_index.specs.FrozenBoards.{shared_messages};
 ghost use Rattle.flame_meaning.specs.Outcomes.{outcome, place_of};
-ghost use Rattle.flame_world.specs.Fields.{Field as Standing, changed_pool};
 ghost use Rattle.flame_world.specs.InputBoards.{boards_named};
-ghost use Rattle.flame_world.specs.Iterations.{staying, step as meant, taking, unless_faulted};
+ghost use Rattle.flame_world.specs.Iterations.{step as meant, unless_faulted};
 ghost use Rattle.flame_world.specs.WorldFits.{FitsField};
 ghost use Rattle.flame_events.specs.LegalEvents.{outputs_of};
 ghost use Rattle.flame_field.specs.KeptFields.{field_of};
-ghost use Rattle.flame_field.specs.KeptPools.{AreDealt, pools_of};
+ghost use Rattle.flame_field.specs.KeptPools.{AreDealt};
 ghost use Rattle.flame_round.specs.Choices.{choice_at};
-ghost use Rattle.flame_round.specs.KeptRounds.{FitsRun, GoesBy, HasRoute, round_of};
+ghost use Rattle.flame_round.specs.KeptRounds.{FitsRun, round_of};
 ghost use Rattle.flame_nodes.specs.NodeLeavings.{AreLeftBy};
 ghost use Rattle.flame_nodes.specs.NodePieces.{agents_in};
 ghost use Rattle.flame_nodes.specs.NodeWork.{CanRun};
@@ -27,12 +24,11 @@ use crate::lefts::{Left, left_by};
 use crate::pieces::pieces_of;
 use crate::terms::Terms;
 use crate::working::run_pieces;
-use flame_field::{Field, Pool, share};
+use flame_field::{Field, share};
 use flame_index::Frozen;
 use flame_leaving::laws::parts_make_the_whole;
 use flame_outside::Gate;
-use flame_round::{Round, choose, leave, route_of};
-use flame_route::Route;
+use flame_round::{Round, leave_chosen, route_of};
 use flame_rows::{NoMemory, Row, Seq, Text};
 use flame_spec_laws::names_differ;
 use flame_world::{Piece, SimFault};
@@ -47,32 +43,6 @@ pub(crate) struct Crew<'c, G: Gate> {
     pub gate: &'c G,
     pub nodes: u32,
     pub by: &'c Option<Text>,
-}
-
-/// The takers of a function leave the state where they rest, once all that rest there have chosen. They stand in any order.
-fn leave_chosen(
-    alloc: Global,
-    round: &Round<'_>,
-    function: u32,
-    route: &Route,
-    pools: &mut Vec<Vec<Pool>>,
-) -> Result<Vec<Row>, NoMemory>
-    requires route { GoesBy round.now.program.now.model function route.now }
-    requires pools { HasRoute (pools_of pools.old) route.now }
-    requires dealt { AreDealt (choice_at round.now.program.now.model round.now.iteration) pools.old }
-    ensures takers { IfOk result (λ takers. (place : Place) (field : Standing)
-        → slice_get (functions round.now.program.now.model) function ≡ Some place
-        → field.pools ≡ pools_of pools.old
-        → ascending takers.items ≡ taking (round_of round.now) function place field) }
-    ensures others { OnOk result ((place : Place)
-        → slice_get (functions round.now.program.now.model) function ≡ Some place
-        → pools_of pools.new ≡ changed_pool place.agent (state_place place.type place.function.current)
-        (staying (round_of round.now) function place) (pools_of pools.old)) }
-    ensures dealt { AreDealt (choice_at round.now.program.now.model round.now.iteration) pools.new }
-{
-    choose(alloc, round, function, route, pools)?;
-    let takers = leave(alloc, route, pools);
-    Ok(takers)
 }
 
 /// What the agents of these pieces of a function leave, which nodes run.

@@ -1,11 +1,11 @@
 //! Rows that several workers write: each writes a run of them to a text of its own.
 
-ghost use Rattle.std.specs.Prelude.{◌≡◌, ◌<◌, ◌++◌, false, map, IfOk, IfSome, OnOk, Ok};
+ghost use Rattle.std.specs.Prelude.{◌≡◌, ◌<◌, ◌++◌, false, map, IfOk, IfSome, OnOk};
 ghost use Rattle.flame_popfile.specs.CommaTexts.{behind, form_text, AreTexts};
 
 use crate::forms::{Form, push_rows};
 use crate::pieces::push_comma;
-use flame_rows::{NoMemory, Row};
+use flame_rows::{NoMemory, Row, all_of};
 use std::alloc::Global;
 use std::thread;
 use std::thread::Threads;
@@ -43,17 +43,6 @@ fn texts_of<R: Threads + Sync>(
             ensures { IfOk result (λ text. text.items ≡ behind false (map (form_text form.entry) run.now)) }
         { rows_text(alloc, form, run) },
     )?;
-    Ok(texts)
-}
-
-/// All texts, where no worker lacked memory.
-fn all_of(alloc: Global, results: Vec<Result<Vec<u8>, NoMemory>>) -> Result<Vec<Vec<u8>>, NoMemory>
-    ensures { IfOk result (λ texts. map Ok texts.items ≡ results.items) }
-{
-    let mut texts = Vec::new(alloc);
-    for result in results {
-        texts.push(result?)?;
-    }
     Ok(texts)
 }
 

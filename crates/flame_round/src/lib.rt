@@ -12,7 +12,7 @@ mod wants;
 
 pub use closing::closed;
 pub use opening::opened;
-pub use parting::{choose, count_takers, leave};
+pub use parting::{choose, count_takers, leave, leave_chosen};
 pub use rounds::Round;
 pub use routes::{out_of, route_of};
 pub use takers::run_over;

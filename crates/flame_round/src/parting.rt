@@ -8,7 +8,7 @@ ghost use Rattle.flame_world.specs.Fields.{Field, changed_pool};
 ghost use Rattle.flame_world.specs.Iterations.{Round as Standing, staying, taking};
 ghost use Rattle.flame_field.specs.KeptPools.{pool_bag, pool_bags, pools_of, AreDealt, HaveChosen, IsDealt};
 ghost use Rattle.flame_round.specs.Choices.{choice_at, takers_kept};
-ghost use Rattle.flame_round.specs.KeptRounds.{GoesBy, HasRoute};
+ghost use Rattle.flame_round.specs.KeptRounds.{GoesBy, HasRoute, round_of};
 
 use crate::rounds::Round;
 use crate::routes::out_of;
@@ -116,4 +116,30 @@ pub fn leave(alloc: Global, route: &Route, pools: &mut Vec<Vec<Pool>>) -> Vec<Ro
     let takers = pool.take(route.choice);
     exchange(pools, route.agent, route.from, pool);
     takers
+}
+
+/// The takers of a function leave the state where they rest, once all that rest there have chosen. They stand in any order.
+pub fn leave_chosen(
+    alloc: Global,
+    round: &Round<'_>,
+    function: u32,
+    route: &Route,
+    pools: &mut Vec<Vec<Pool>>,
+) -> Result<Vec<Row>, NoMemory>
+    requires route { GoesBy round.now.program.now.model function route.now }
+    requires pools { HasRoute (pools_of pools.old) route.now }
+    requires dealt { AreDealt (choice_at round.now.program.now.model round.now.iteration) pools.old }
+    ensures takers { IfOk result (λ takers. (place : Place) (field : Field)
+        → slice_get (functions round.now.program.now.model) function ≡ Some place
+        → field.pools ≡ pools_of pools.old
+        → ascending takers.items ≡ taking (round_of round.now) function place field) }
+    ensures others { OnOk result ((place : Place)
+        → slice_get (functions round.now.program.now.model) function ≡ Some place
+        → pools_of pools.new ≡ changed_pool place.agent (state_place place.type place.function.current)
+        (staying (round_of round.now) function place) (pools_of pools.old)) }
+    ensures dealt { AreDealt (choice_at round.now.program.now.model round.now.iteration) pools.new }
+{
+    choose(alloc, round, function, route, pools)?;
+    let takers = leave(alloc, route, pools);
+    Ok(takers)
 }

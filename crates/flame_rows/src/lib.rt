@@ -1,5 +1,5 @@
-//! Lists, texts, rows of numbers, bags of rows and values on the heap, which contracts see as what they hold; and why a
-//! call gives no answer.
+//! Lists, texts, rows of numbers, bags of rows and values on the heap, which contracts see as what they hold; why a call
+//! gives no answer, and what several calls give together.
 #![tactic(auto)]
 
 mod bags;
@@ -10,6 +10,7 @@ mod fails;
 pub mod laws;
 mod numbers;
 mod parts;
+mod results;
 mod rows;
 mod runs;
 mod sameness;
@@ -22,6 +23,7 @@ pub use boxes::Boxed;
 pub use copies::Copied;
 pub use fails::{Fail, NoMemory};
 pub use numbers::number;
+pub use results::all_of;
 pub use rows::{Row, SHORT_ROW};
 pub use runs::Runs;
 pub use sameness::Same;

@@ -1,31 +1,28 @@
 //! One function of an iteration.
 
-ghost use Rattle.std.specs.Prelude.{◌≡◌, ◌<◌, ℕ, ℤ, List, [], Some, IfOk, OnOk, length, map, slice_get, slice_index_or};
+ghost use Rattle.std.specs.Prelude.{◌≡◌, ◌<◌, ℕ, ℤ, List, [], Some, IfOk, length, map, slice_index_or};
 ghost use Rattle.std.specs.List.{All};
 ghost use Rattle.flame_rows.specs.Bags.{ascending, merge};
 ghost use Rattle.flame_spec.specs.Before.{function_count};
-ghost use Rattle.flame_spec.specs.Choice.{functions_out};
-ghost use Rattle.flame_spec.specs.Functions.{Place, functions};
 ghost use Rattle.flame_meaning.specs.Outcomes.{outcome, place_of};
-ghost use Rattle.flame_spec.specs.States.{state_place};
 ghost use Rattle.flame_index.specs.FrozenBoards.{shared_messages};
-ghost use Rattle.flame_world.specs.Fields.{Field as Standing, changed_pool, joined};
+ghost use Rattle.flame_world.specs.Fields.{changed_pool, joined};
 ghost use Rattle.flame_world.specs.AgentRuns.{births_of, messages_of};
 ghost use Rattle.flame_world.specs.InputBoards.{boards_named};
-ghost use Rattle.flame_world.specs.Iterations.{step as meant, taking, staying, unless_faulted};
+ghost use Rattle.flame_world.specs.Iterations.{step as meant, unless_faulted};
 ghost use Rattle.flame_world.specs.WorldFits.{FitsField};
 ghost use Rattle.flame_leaving.specs.Leavings.{AreLeft};
 ghost use Rattle.flame_field.specs.KeptPools.{pools_of, AreDealt};
 ghost use Rattle.flame_field.specs.KeptFields.{field_of};
 ghost use Rattle.flame_round.specs.Choices.{choice_at};
-ghost use Rattle.flame_round.specs.KeptRounds.{GoesBy, HasRoute, FitsRun, round_of};
+ghost use Rattle.flame_round.specs.KeptRounds.{FitsRun, round_of};
 ghost use Rattle.flame_runner.specs.KeptSteps.{result_of, IsOnDealt};
 
-use flame_field::{Field, Pool, share};
+use flame_field::{Field, share};
 use flame_index::Frozen;
 use flame_leaving::Leaving;
 use flame_leaving::laws::parts_make_the_whole;
-use flame_round::{Round, choose, leave, route_of, run_over};
+use flame_round::{Round, leave_chosen, route_of, run_over};
 use flame_route::Route;
 use flame_rows::{NoMemory, Row, Seq};
 use flame_world::SimFault;
@@ -39,32 +36,6 @@ pub(crate) enum Stepped {
     On(Field),
     /// An agent faulted.
     Faulted(SimFault),
-}
-
-/// The takers of a function leave the state where they rest, once all that rest there have chosen. They stand in any order.
-fn leave_chosen(
-    alloc: Global,
-    round: &Round<'_>,
-    function: u32,
-    route: &Route,
-    pools: &mut Vec<Vec<Pool>>,
-) -> Result<Vec<Row>, NoMemory>
-    requires route { GoesBy round.now.program.now.model function route.now }
-    requires pools { HasRoute (pools_of pools.old) route.now }
-    requires dealt { AreDealt (choice_at round.now.program.now.model round.now.iteration) pools.old }
-    ensures takers { IfOk result (λ takers. (place : Place) (field : Standing)
-        → slice_get (functions round.now.program.now.model) function ≡ Some place
-        → field.pools ≡ pools_of pools.old
-        → ascending takers.items ≡ taking (round_of round.now) function place field) }
-    ensures others { OnOk result ((place : Place)
-        → slice_get (functions round.now.program.now.model) function ≡ Some place
-        → pools_of pools.new ≡ changed_pool place.agent (state_place place.type place.function.current)
-        (staying (round_of round.now) function place) (pools_of pools.old)) }
-    ensures dealt { AreDealt (choice_at round.now.program.now.model round.now.iteration) pools.new }
-{
-    choose(alloc, round, function, route, pools)?;
-    let takers = leave(alloc, route, pools);
-    Ok(takers)
 }
 
 /// What these agents leave that run the function, with these boards of its inputs.

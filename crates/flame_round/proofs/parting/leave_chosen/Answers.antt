@@ -5,7 +5,7 @@ use Rattle.flame_world.specs.Fields.{changed_pool}
 use Rattle.flame_world.specs.Iterations.{staying}
 use Rattle.flame_round.specs.Choices.{choice_at}
 use Rattle.flame_round.specs.KeptRounds.{HasRoute, round_of}
-use Rattle.flame_runner.proofs.steps.leave_chosen.Goals as goal
+use Rattle.flame_round.proofs.parting.leave_chosen.Goals as goal
 
 pub leave-takers-requires-clause-pools : goal.leave-takers-requires-clause-pools
 leave-takers-requires-clause-pools c =
