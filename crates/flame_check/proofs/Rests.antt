@@ -47,11 +47,11 @@ pub rest_fails :
     → FailsFirst whole fail
 rest_fails see faults xs i x whole fail h is rest first =
     FailsFirst-same
-      fail
-      (faults (see x) ++ flat_map faults (map see (drop (i + 1) xs)))
-      whole
-      (sym (rest ∙ rest_is see faults xs i x h is))
-      (FailsFirst-append fail (faults (see x)) (flat_map faults (map see (drop (i + 1) xs))) first)
+    fail
+    (faults (see x) ++ flat_map faults (map see (drop (i + 1) xs)))
+    whole
+    (sym (rest ∙ rest_is see faults xs i x h is))
+    (FailsFirst-append fail (faults (see x)) (flat_map faults (map see (drop (i + 1) xs))) first)
 
 -- ---- the same of items as they are
 
@@ -77,11 +77,11 @@ pub item_fails :
     → FailsFirst whole fail
 item_fails faults xs i d whole fail h rest first =
     FailsFirst-same
-      fail
-      (faults (get_or xs i d) ++ flat_map faults (drop (i + 1) xs))
-      whole
-      (sym (rest ∙ at_drop_more (flat_map faults) xs i d h))
-      (FailsFirst-append fail (faults (get_or xs i d)) (flat_map faults (drop (i + 1) xs)) first)
+    fail
+    (faults (get_or xs i d) ++ flat_map faults (drop (i + 1) xs))
+    whole
+    (sym (rest ∙ at_drop_more (flat_map faults) xs i d h))
+    (FailsFirst-append fail (faults (get_or xs i d)) (flat_map faults (drop (i + 1) xs)) first)
 
 -- ---- names of earlier C functions
 

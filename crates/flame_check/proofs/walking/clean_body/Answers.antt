@@ -24,8 +24,8 @@ returns-in_err-definition-clause-first c =
     ∙ ap (λ (s : BodyPlace). definition_faults (context_at s) d) (sym c.for_helper-words.ensures) in
     rw (p.1, p.2)
     (FailsFirst-same
-      _
-      (definition_faults (context_at c.for_helper-words.result) d)
-      (bodies_faults model hs d)
-      (sym same)
-      c.in_err-definition.ensures.first)
+    _
+    (definition_faults (context_at c.for_helper-words.result) d)
+    (bodies_faults model hs d)
+    (sym same)
+    c.in_err-definition.ensures.first)

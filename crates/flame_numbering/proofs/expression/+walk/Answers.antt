@@ -21,14 +21,14 @@ expression-returns-in_err-cells-in-At-clause-first t c =
     let inner = expression_faults context sight (expression s.index) in
     rw (p.1, p.2)
     (FailsFirst-front
-      _
-      (expression_faults context sight (expression c.args.e.now))
-      (unknown_faults context sight c.in-At.line word ++ indexed_faults context c.in-At.line word)
-      inner
-      (ap (λ e. expression_faults context sight (expression e)) c.in-At.is
-        ∙ ap (expression_faults context sight) (expression-At c.in-At.line c.in-At.word s)
-        ∙ ap (λ w. expression_faults context sight (at c.in-At.line w s.line (expression s.index))) (sym c.as_str-in-At.ensures))
-      c.in_err-cells-in-At.ensures.first)
+    _
+    (expression_faults context sight (expression c.args.e.now))
+    (unknown_faults context sight c.in-At.line word ++ indexed_faults context c.in-At.line word)
+    inner
+    (ap (λ e. expression_faults context sight (expression e)) c.in-At.is
+    ∙ ap (expression_faults context sight) (expression-At c.in-At.line c.in-At.word s)
+    ∙ ap (λ w. expression_faults context sight (at c.in-At.line w s.line (expression s.index))) (sym c.as_str-in-At.ensures))
+    c.in_err-cells-in-At.ensures.first)
 
 pub expression-returns-in_err-first-in-Chain-clause-first :
     goal.expression-returns-in_err-first-in-Chain-clause-first
@@ -40,14 +40,14 @@ expression-returns-in_err-first-in-Chain-clause-first t c =
     let behind = links_faults context sight (links c.in-Chain.more) in
     rw (p.1, p.2)
     (FailsFirst-front
-      _
-      (expression_faults context sight (expression c.args.e.now))
-      (expression_faults context sight (expression c.deref-in-Chain.result.now))
-      behind
-      (ap (λ e. expression_faults context sight (expression e)) c.in-Chain.is
-        ∙ ap (expression_faults context sight) (expression-Chain c.in-Chain.e c.in-Chain.more)
-        ∙ ap (λ e. expression_faults context sight (expression e) ++ behind) (sym c.deref-in-Chain.ensures))
-      c.in_err-first-in-Chain.ensures.first)
+    _
+    (expression_faults context sight (expression c.args.e.now))
+    (expression_faults context sight (expression c.deref-in-Chain.result.now))
+    behind
+    (ap (λ e. expression_faults context sight (expression e)) c.in-Chain.is
+    ∙ ap (expression_faults context sight) (expression-Chain c.in-Chain.e c.in-Chain.more)
+    ∙ ap (λ e. expression_faults context sight (expression e) ++ behind) (sym c.deref-in-Chain.ensures))
+    c.in_err-first-in-Chain.ensures.first)
 
 pub expression-returns-in_err-more-in-Chain-clause-first :
     goal.expression-returns-in_err-more-in-Chain-clause-first

@@ -17,10 +17,10 @@ returns-in_err-parameters-clause-first c =
     let rest = statements_faults context (after_parameters at_entry d.parameters) d.body in
     rw (p.1, p.2)
     (FailsFirst-front
-      _
-      (definition_faults context d)
-      (parameters_faults context c.args.spot.now given)
-      rest
-      (ap (λ ps. parameters_faults context at_entry ps ++ rest) (sym c.items.ensures)
-        ∙ ap (λ x. parameters_faults context x given ++ rest) (sym c.requires))
-      c.in_err-parameters.ensures.first)
+    _
+    (definition_faults context d)
+    (parameters_faults context c.args.spot.now given)
+    rest
+    (ap (λ ps. parameters_faults context at_entry ps ++ rest) (sym c.items.ensures)
+    ∙ ap (λ x. parameters_faults context x given ++ rest) (sym c.requires))
+    c.in_err-parameters.ensures.first)

@@ -10,7 +10,7 @@ returns-in_err-visible-clause-first c =
     let context = context_at c.args.words.now in
     rw (p.1, p.2)
     (FailsFirst-append
-      _
-      (unknown_faults context c.args.spot.now c.args.line c.args.word.now)
-      (bare_faults context c.args.line c.args.word.now)
-      c.in_err-visible.ensures.first)
+    _
+    (unknown_faults context c.args.spot.now c.args.line c.args.word.now)
+    (bare_faults context c.args.line c.args.word.now)
+    c.in_err-visible.ensures.first)

@@ -44,14 +44,14 @@ statement-returns-in_err-tests-in-If-clause-first t c =
     let rest = statements_faults context (in_scope sight) (statements c.in-If.otherwise) in
     rw (p.1, p.2)
     (FailsFirst-front
-      _
-      (statement_faults context sight (statement c.args.s.now))
-      (arms_faults context sight (arms c.items-in-If.result.now))
-      rest
-      (ap (λ s. statement_faults context sight (statement s)) c.in-If.is
-        ∙ ap (statement_faults context sight) (statement-If c.in-If.tests c.in-If.otherwise)
-        ∙ ap (λ l. arms_faults context sight (arms l) ++ rest) (sym c.items-in-If.ensures))
-      c.in_err-tests-in-If.ensures.first)
+    _
+    (statement_faults context sight (statement c.args.s.now))
+    (arms_faults context sight (arms c.items-in-If.result.now))
+    rest
+    (ap (λ s. statement_faults context sight (statement s)) c.in-If.is
+    ∙ ap (statement_faults context sight) (statement-If c.in-If.tests c.in-If.otherwise)
+    ∙ ap (λ l. arms_faults context sight (arms l) ++ rest) (sym c.items-in-If.ensures))
+    c.in_err-tests-in-If.ensures.first)
 
 pub statement-returns-in_ok-tests-in-If-clause-first : goal.statement-returns-in_ok-tests-in-If-clause-first
 statement-returns-in_ok-tests-in-If-clause-first t c =
@@ -83,14 +83,14 @@ statement-returns-in_err-head-in-For-clause-first t c =
     let rest = statements_faults context last (statements c.in-For.body) in
     rw (p.1, p.2)
     (FailsFirst-front
-      _
-      (statement_faults context sight (statement c.args.s.now))
-      (head_faults context (in_scope sight) (head_seen c.get.result.now))
-      rest
-      (ap (λ s. statement_faults context sight (statement s)) c.in-For.is
-        ∙ ap (statement_faults context sight) (statement-For c.in-For.line c.in-For.head c.in-For.body)
-        ∙ ap (λ h. head_faults context (in_scope sight) (head_seen h) ++ rest) (sym c.get.ensures))
-      c.in_err-head-in-For.ensures.first)
+    _
+    (statement_faults context sight (statement c.args.s.now))
+    (head_faults context (in_scope sight) (head_seen c.get.result.now))
+    rest
+    (ap (λ s. statement_faults context sight (statement s)) c.in-For.is
+    ∙ ap (statement_faults context sight) (statement-For c.in-For.line c.in-For.head c.in-For.body)
+    ∙ ap (λ h. head_faults context (in_scope sight) (head_seen h) ++ rest) (sym c.get.ensures))
+    c.in_err-head-in-For.ensures.first)
 
 pub statement-returns-in_ok-head-in-For-clause-after : goal.statement-returns-in_ok-head-in-For-clause-after
 statement-returns-in_ok-head-in-For-clause-after t c =

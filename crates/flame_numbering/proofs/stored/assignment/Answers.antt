@@ -22,9 +22,9 @@ returns-in_err-target-clause-first c =
     let value = stored_faults context sight (stored a.value) in
     rw (p.1, p.2)
     (FailsFirst-front
-      _
-      (assignment_faults context sight (assigned a))
-      (here c.as_str.result.now)
-      value
-      (ap (λ w. here w ++ value) (sym c.as_str.ensures))
-      c.in_err-target.ensures.first)
+    _
+    (assignment_faults context sight (assigned a))
+    (here c.as_str.result.now)
+    value
+    (ap (λ w. here w ++ value) (sym c.as_str.ensures))
+    c.in_err-target.ensures.first)

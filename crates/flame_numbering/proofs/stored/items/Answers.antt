@@ -22,13 +22,13 @@ returns-in_err-slot-clause-first c =
     let rest = items_faults context (after_name sight one.name) (map declared (drop (i + 1) all)) in
     rw (p.1, p.2)
     (FailsFirst-front
-      _
-      (items_faults context c.args.spot.now (map declared all))
-      (item_faults context sight (declared one))
-      rest
-      (c.loop-item.invariant.clean
-        ∙ rest-next (λ l. items_faults context sight (map declared l)) all i one c.loop-item-test.true c.item-item.is)
-      c.in_err-slot.ensures.first)
+    _
+    (items_faults context c.args.spot.now (map declared all))
+    (item_faults context sight (declared one))
+    rest
+    (c.loop-item.invariant.clean
+    ∙ rest-next (λ l. items_faults context sight (map declared l)) all i one c.loop-item-test.true c.item-item.is)
+    c.in_err-slot.ensures.first)
 
 pub loop-item-preserved : goal.loop-item-preserved
 loop-item-preserved c =

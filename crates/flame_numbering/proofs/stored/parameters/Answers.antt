@@ -18,11 +18,11 @@ returns-in_err-fresh-clause-first c =
     let rest = parameters_faults context (after_name sight one.name) (drop (i + 1) all) in
     rw (p.1, p.2)
     (FailsFirst-front
-      _
-      (parameters_faults context c.args.spot.now all)
-      (declared_faults context sight one.line c.as_str-name.result.now)
-      rest
-      (c.loop-parameter.invariant.clean
-        ∙ rest-next (λ l. parameters_faults context sight l) all i one c.loop-parameter-test.true c.parameter-item.is
-        ∙ ap (λ w. declared_faults context sight one.line w ++ rest) (sym c.as_str-name.ensures))
-      c.in_err-fresh.ensures.first)
+    _
+    (parameters_faults context c.args.spot.now all)
+    (declared_faults context sight one.line c.as_str-name.result.now)
+    rest
+    (c.loop-parameter.invariant.clean
+    ∙ rest-next (λ l. parameters_faults context sight l) all i one c.loop-parameter-test.true c.parameter-item.is
+    ∙ ap (λ w. declared_faults context sight one.line w ++ rest) (sym c.as_str-name.ensures))
+    c.in_err-fresh.ensures.first)
