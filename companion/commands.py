@@ -23,7 +23,8 @@ COMMANDS = (
 )
 
 STATUSES = """statuses: 0 it was done; 1 something is wrong with an input; 2 the words give no order.
-Names of files are taken from the folder in which it is started; - is standard input or output."""
+Names of files are taken from the folder in which it is started, those within a description of a
+population or of a sweep from the folder of that description; - is standard input or output."""
 
 
 class Parser(argparse.ArgumentParser):

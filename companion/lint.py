@@ -141,11 +141,12 @@ def check_states(warnings, model):
         ends = sorted(entered - left)
         for function in agent.functions:
             if len(ends) > 1 and function.following in ends:
-                near = nearest(function.following, (left | entered) - {function.following})
+                others = [end for end in ends if end != function.following]
+                near = nearest(function.following, (left | entered) - {function.following, function.current})
                 warnings.at(
                     function.file,
                     f"{function.path}/nextState",
-                    f"{agent.name}: no function leaves state {function.following}; so it is with {', '.join(ends)}{near}",
+                    f"{agent.name}: no function leaves state {function.following}, and none leaves {', '.join(others)} either{near}",
                 )
 
 

@@ -57,7 +57,7 @@ class Lint(FolderTest):
         self.fox["functions"].append({"name": "hunt", "currentState": "strat", "nextState": "end"})
         self.hunt["nextState"] = "ende"
         texts = self.texts()
-        self.assertIn("Fox: no function leaves state ende; so it is with end, ende: did you mean end?", texts)
+        self.assertIn("Fox: no function leaves state ende, and none leaves end either: did you mean end?", texts)
         self.fox["functions"] = [self.hunt, {"name": "a", "currentState": "x", "nextState": "y"}, {"name": "b", "currentState": "y", "nextState": "x"}]
         self.assertIn("Fox: no agent comes to state x, which a leaves", self.texts())
 
