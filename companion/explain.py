@@ -388,8 +388,17 @@ SECTIONS = {
 }
 
 
-def rows_of(section, kind):
-    """What the page says of a kind: pairs of where it comes and what to do."""
+# What the example of a row ends with that speaks of one place alone: at another place it is left out.
+PLACES = ("BadByte at byte 0", "/states/version: Shape", "write fault: output")
+
+
+def is_elsewhere(cells, line):
+    """Whether a row speaks of one place alone, and the line of another one."""
+    return any(cell.strip("`").endswith(place) and not line.endswith(place) for cell in cells for place in PLACES)
+
+
+def rows_of(section, kind, told):
+    """What the page says of a kind where this line was told: pairs of where it comes and what to do."""
     page = os.path.join(os.path.dirname(os.path.dirname(os.path.realpath(__file__))), "docs", "REFUSALS.md")
     try:
         text = read_text(page)
@@ -401,7 +410,8 @@ def rows_of(section, kind):
             is_own = line[3:].startswith(SECTIONS[section])
         elif is_own and line.startswith("| "):
             cells = cells_of(line)
-            if cells and kind in (cells[0], cells[1].strip("`").split(":")[0] if section == "outside" else None):
+            kinds = (cells[0], cells[1].strip("`").split(":")[0] if section == "outside" else None)
+            if kind in kinds and not is_elsewhere(cells, told):
                 found.append((cells[2] if section == "outside" else cells[1], cells[-1]))
     return list(dict.fromkeys(found))
 
@@ -431,7 +441,7 @@ def print_shown(shown, line):
         print("    " + " " * before + "^" * max(1, min(length, len(shown_text) - before)))
     for text in shown.said:
         print(f"\n{text}")
-    for comes, what in rows_of(shown.section, shown.kind):
+    for comes, what in rows_of(shown.section, shown.kind, line):
         print(f"\n{shown.kind}: {comes}.\n{what}")
 
 

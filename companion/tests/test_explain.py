@@ -58,6 +58,13 @@ class Shown(FolderTest):
         self.assertEqual(self.marked(self.explained("lex: fox.c: BadByte at byte 14")), [("fox.c:2:3", "t")])
         self.assertEqual(self.marked(self.explained("check: fox.c: line 3: UnknownName: ENERGY")), [("fox.c:3:3", "ENERGY")])
 
+    def test_rows_of_one_place(self):
+        self.write("fox.c", "int hunt() { return 1 ? 2 : 3; }\n")
+        self.assertNotIn("byte order", self.explained("lex: fox.c: BadByte at byte 22"))
+        self.assertIn("byte order", self.explained("lex: fox.c: BadByte at byte 0"))
+        self.assertNotIn("printed lines", self.explained("write fault: out/o1.json"))
+        self.assertIn("printed lines", self.explained("write fault: output"))
+
     def test_populations(self):
         self.write("p.json", '{"states": {"agents": [\n {"name": "Fox", "memory": {"den": "much"}}]}}')
         output = self.explained("population: p.json: /states/agents/0/memory/den: Shape")
