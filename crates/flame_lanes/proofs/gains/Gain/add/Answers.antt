@@ -11,4 +11,4 @@ returns c = λ iteration function run agents more before further.
     gain-more law.survivors law.births law.fault iteration function run agents more old _ rest before further
     (c.in_ok-add_rows.ensures ∙ ap (λ l. old.survivors.items ++ l) c.into_rows-survivors.ensures.rows)
     (c.in_ok-append.ensures.items ∙ ap (λ l. old.born.items ++ l) c.into_items-born.ensures)
-    (c.lesser.ensures ∙ ap (λ o. least_of o rest.fault) c.take.ensures.value)
+    (c.lesser_fault.ensures ∙ ap (λ o. least_of o rest.fault) c.take.ensures.value)
