@@ -1,6 +1,6 @@
 //! Agents that choose, and those that leave to take a function.
 
-ghost use Rattle.std.specs.Prelude.{◌≡◌, ℕ, ℤ, List, [], Some, IfOk, OnOk, length, map, slice_get};
+ghost use Rattle.std.specs.Prelude.{◌≡◌, ℕ, ℤ, List, [], Some, IfOk, OnErr, OnOk, length, map, slice_get};
 ghost use Rattle.flame_rows.specs.Bags.{ascending};
 ghost use Rattle.flame_spec.specs.Functions.{Place, functions};
 ghost use Rattle.flame_spec.specs.States.{state_place};
@@ -119,6 +119,7 @@ pub fn leave(alloc: Global, route: &Route, pools: &mut Vec<Vec<Pool>>) -> Vec<Ro
 }
 
 /// The takers of a function leave the state where they rest, once all that rest there have chosen. They stand in any order.
+/// After `NoMemory`, which comes also where 32 bits cannot number the functions out of the state, all rest as they did.
 pub fn leave_chosen(
     alloc: Global,
     round: &Round<'_>,
@@ -137,7 +138,10 @@ pub fn leave_chosen(
         → slice_get (functions round.now.program.now.model) function ≡ Some place
         → pools_of pools.new ≡ changed_pool place.agent (state_place place.type place.function.current)
         (staying (round_of round.now) function place) (pools_of pools.old)) }
+    ensures unchanged { OnErr result (pools_of pools.new ≡ pools_of pools.old) }
     ensures dealt { AreDealt (choice_at round.now.program.now.model round.now.iteration) pools.new }
+    ensures chosen { OnOk result (HaveChosen pools.new route.now.agent route.now.from) }
+    ensures stay_chosen { (agent state : ℕ) → HaveChosen pools.old agent state → HaveChosen pools.new agent state }
 {
     choose(alloc, round, function, route, pools)?;
     let takers = leave(alloc, route, pools);

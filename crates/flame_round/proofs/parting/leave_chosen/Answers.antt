@@ -3,6 +3,7 @@ use Rattle.std.specs.Prelude.{ℤ}
 use Rattle.flame_spec.specs.States.{state_place}
 use Rattle.flame_world.specs.Fields.{changed_pool}
 use Rattle.flame_world.specs.Iterations.{staying}
+use Rattle.flame_field.proofs.Written.{on_err}
 use Rattle.flame_round.specs.Choices.{choice_at}
 use Rattle.flame_round.specs.KeptRounds.{HasRoute, round_of}
 use Rattle.flame_round.proofs.parting.leave_chosen.Goals as goal
@@ -30,3 +31,17 @@ returns-clause-dealt c =
 
 pub returns-in_err-choose-clause-dealt : goal.returns-in_err-choose-clause-dealt
 returns-in_err-choose-clause-dealt c = c.in_err-choose.ensures.dealt c.requires.dealt
+
+pub returns-in_err-choose-clause-unchanged : goal.returns-in_err-choose-clause-unchanged
+returns-in_err-choose-clause-unchanged c = on_err c.from_residual.result c.in_err-choose.ensures.same
+
+pub returns-clause-chosen : goal.returns-clause-chosen
+returns-clause-chosen c =
+    c.leave-takers.ensures.stay_chosen c.args.route.now.agent c.args.route.now.from c.in_ok-choose.ensures.chosen
+
+pub returns-clause-stay_chosen : goal.returns-clause-stay_chosen
+returns-clause-stay_chosen c agent state chosen =
+    c.leave-takers.ensures.stay_chosen agent state (c.in_ok-choose.ensures.stay_chosen agent state chosen)
+
+pub returns-in_err-choose-clause-stay_chosen : goal.returns-in_err-choose-clause-stay_chosen
+returns-in_err-choose-clause-stay_chosen c = c.in_err-choose.ensures.stay_chosen
